@@ -1,0 +1,16 @@
+//! Texts, byte lists, lists and identifiers that every layer speaks of.
+//!
+//! Contracts see a [`Text`] and a [`Bytes`] as a list of bytes, and a [`Sequence`] as the list of its items.
+#![tactic(auto)]
+
+mod bytes;
+mod identifiers;
+mod memory;
+mod sequence;
+mod text;
+
+pub use bytes::Bytes;
+pub use identifiers::{AddedItem, FormFault, Id, Kind, SpliceFault, UtcDate};
+pub use memory::NoMemory;
+pub use sequence::{Blobs, Numbers, Rows, Sequence, Texts};
+pub use text::Text;
