@@ -1,0 +1,5 @@
+pub mod Sizes
+pub mod Values
+pub mod Readings
+pub mod Lists
+pub mod Puts

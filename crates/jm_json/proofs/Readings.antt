@@ -1,0 +1,27 @@
+-- What is read is the reading of the bytes.
+use Rattle.std.proofs.Common.{◌≡◌, ℕ, List, Bool, true, false, cond, Some, None, IsUtf8, refl, sym, ap, ◌∙◌}
+use Rattle.std.specs.Str.{is_utf8}
+use Rattle.std.proofs.lemmas.Str.{IsUtf8-from_is_utf8, is_utf8-from_IsUtf8}
+use Rattle.serde_json.specs.Data.{Data}
+use Rattle.serde_json.specs.Read as json_text
+use Rattle.jm_json.specs.Tree.{Tree}
+use Rattle.jm_json.specs.Data.{data_of}
+use Rattle.jm_json.specs.Whole.{first_bad}
+use Rattle.jm_json.specs.Reading.{not_json, not_whole, whole, by_number, by_value, reading_of, tree_from}
+use Rattle.jm_json.proofs.Values.{from_data}
+
+refused_at : (b : Bool) (bs : List ℕ) → is_utf8 bs ≡ b → (IsUtf8 bs → json_text.read bs ≡ None) → cond b (by_value (json_text.read bs)) not_json ≡ not_json
+refused_at true bs e h = ap by_value (h (IsUtf8-from_is_utf8 bs e))
+refused_at false bs e h = refl
+
+pub refused : (bs : List ℕ) → (IsUtf8 bs → json_text.read bs ≡ None) → reading_of bs ≡ not_json
+refused bs h = refused_at (is_utf8 bs) bs refl h
+
+taken : (bs : List ℕ) (d : Data) → IsUtf8 bs → json_text.read bs ≡ Some d → reading_of bs ≡ by_number (first_bad d) d
+taken bs d u e = rw (is_utf8-from_IsUtf8 bs u, e) refl
+
+pub taken_whole : (bs : List ℕ) (d : Data) (t : Tree) → IsUtf8 bs → json_text.read bs ≡ Some d → first_bad d ≡ None → data_of t ≡ d → reading_of bs ≡ whole t
+taken_whole bs d t u e good same = taken bs d u e ∙ ap (λ o. by_number o d) good ∙ ap whole (ap tree_from (sym same) ∙ from_data t)
+
+pub taken_bad : (bs : List ℕ) (d : Data) (path : List ℕ) → IsUtf8 bs → json_text.read bs ≡ Some d → first_bad d ≡ Some path → reading_of bs ≡ not_whole path
+taken_bad bs d path u e bad = taken bs d u e ∙ ap (λ o. by_number o d) bad

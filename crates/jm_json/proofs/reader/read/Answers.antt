@@ -1,0 +1,19 @@
+use Rattle.std.proofs.Common.{rules}
+use Rattle.serde_json.specs.View.{view}
+use Rattle.serde_json.specs.Errors.{IsMemory}
+use Rattle.jm_json.specs.Json.{tree_of}
+use Rattle.jm_json.proofs.Readings.{refused, taken_whole, taken_bad}
+use Rattle.jm_json.proofs.reader.read.Goals as goal
+
+pub returns-in-Err : goal.returns-in-Err
+returns-in-Err c =
+    let other : ¬ (IsMemory c.in-Err.e) = search rules in
+    refused c.args.bytes.now (c.in-Err.ensures.err other)
+
+pub returns-in-Ok-tree_from : goal.returns-in-Ok-tree_from
+returns-in-Ok-tree_from c =
+    taken_whole c.args.bytes.now (view c.in-Ok.value) (tree_of c.in-Ok-tree_from.tree) c.in-Ok.ensures.ok.0 c.in-Ok.ensures.ok.1 c.in-Ok-tree_from.ensures.whole c.in-Ok-tree_from.ensures.ok
+
+pub returns-in-Err-NotWhole : goal.returns-in-Err-NotWhole
+returns-in-Err-NotWhole c =
+    taken_bad c.args.bytes.now (view c.in-Ok.value) c.in-Err-NotWhole.path c.in-Ok.ensures.ok.0 c.in-Ok.ensures.ok.1 (rw c.in-Err-NotWhole.field-0-is at c.in-Err-NotWhole.ensures.err)

@@ -1,0 +1,15 @@
+pub mod Tree
+pub mod Code
+pub mod Size
+pub mod Json
+pub mod Falls
+pub mod Data
+pub mod Order
+pub mod Place
+pub mod Whole
+pub mod Faults
+pub mod Reading
+pub mod Explained
+pub mod Call
+pub mod Invoked
+pub mod Find

@@ -1,0 +1,39 @@
+-- Which numbers a tree may hold, and where the first other one stands.
+use Rattle.std.specs.Prelude.{ℕ, ◌+◌, ◌^◌, negsuc, List, [], ◌∷◌, ◌++◌, flat_map, Bool, false, cond, ◌==◌, nat_lt, int_lt, Option, Some, None, option_map, decimal}
+use Rattle.std.specs.Option.{option_or}
+use Rattle.serde_json.specs.Data.{Num, unsigned, negative, float, Data, null, boolean, number, string, array, object, Items, no_items, item, Members, no_members, member}
+
+-- a whole number from -2^53+1 to 2^53-1
+abbrev pub is_whole : Num → Bool
+is_whole (unsigned n) = nat_lt n (2 ^ 53)
+is_whole (negative z) = int_lt (negsuc 9007199254740991) z
+is_whole (float x) = false
+
+-- a key in a JSON Pointer
+abbrev pub pointer_byte : ℕ → List ℕ
+pointer_byte x = cond (x == 126) (126 ∷ 48 ∷ []) (cond (x == 47) (126 ∷ 49 ∷ []) (x ∷ []))
+
+abbrev pub pointer_part : List ℕ → List ℕ
+pointer_part = flat_map pointer_byte
+
+-- a path, with a part before it
+abbrev pub under : List ℕ → List ℕ → List ℕ
+under part path = (47 ∷ part) ++ path
+
+-- the JSON Pointer of the first number that is not whole, in the order of the keys
+abbrev mutual
+  pub first_bad : Data → Option (List ℕ)
+  first_bad null = None
+  first_bad (boolean b) = None
+  first_bad (number n) = cond (is_whole n) None (Some [])
+  first_bad (string s) = None
+  first_bad (array ds) = first_bad_item 0 ds
+  first_bad (object ms) = first_bad_member ms
+
+  pub first_bad_item : ℕ → Items → Option (List ℕ)
+  first_bad_item i no_items = None
+  first_bad_item i (item d ds) = option_or (option_map (under (decimal i)) (first_bad d)) (first_bad_item (i + 1) ds)
+
+  pub first_bad_member : Members → Option (List ℕ)
+  first_bad_member no_members = None
+  first_bad_member (member k d ms) = option_or (option_map (under (pointer_part k)) (first_bad d)) (first_bad_member ms)

@@ -1,0 +1,121 @@
+// The calls of a request and the responses to them (RFC 8620, sections 3.2 to 3.4).
+ghost use Rattle.std.specs.Prelude.{◌≡◌, ◌==◌, [], ◌∷◌, ◌++◌, map, length, IfOk, OnOk, OnErr};
+ghost use Rattle.jm_json.specs.Invoked.{call_of};
+
+use crate::copies::copy;
+use crate::tree::Json;
+use jm_base::{NoMemory, Sequence, Text};
+use std::alloc::Global;
+use std::marker::Model;
+
+/// A call of a method, or a response to one: the method's name, the arguments, and the client's id of the call
+/// (RFC 8620, section 3.2). Contracts see it as a `Call`, by `call_of`.
+#[derive(Drop)]
+pub struct Invocation {
+    pub name: Text,
+    pub args: Json,
+    pub id: Text,
+}
+
+/// A list of calls or responses, seen by contracts as the list of their `Call`s.
+#[derive(Drop)]
+pub struct Invocations {
+    items: Vec<Invocation>,
+}
+
+/// A record that a request made: the creation id that the client gave it, and the text of its identifier
+/// (RFC 8620, sections 3.3 and 5.3).
+#[derive(Debug, Drop)]
+pub struct Created {
+    pub creation: Text,
+    pub id: Text,
+}
+
+/// What a request has made so far, in the order of making. Of a creation id that stands twice the last counts.
+pub type Made = Sequence<Created>;
+
+/// What a call was answered: its responses, and what it made.
+#[derive(Drop)]
+pub struct Replied {
+    pub responses: Invocations,
+    pub made: Made,
+}
+
+impl Model for Invocations {
+    ghost use Rattle.std.specs.Prelude.{List, map};
+    ghost use Rattle.std.specs.Coded.{coded_list};
+    ghost use Rattle.jm_json.specs.Call.{Call, call_code};
+
+    ghost Value = { List Call };
+
+    ghost coded = { coded_list call_code };
+
+    ghost use Rattle.jm_json.specs.Invoked.{call_of};
+
+    ghost view = { λ a. map call_of a.items.items };
+}
+
+impl Invocation {
+    /// The same call, in memory of its own.
+    pub fn copy(&self, alloc: Global) -> Result<Invocation, NoMemory>
+        ensures { IfOk result (λ c. call_of c ≡ call_of self.now) }
+    {
+        Ok(Invocation {
+            name: self.name.copy()?,
+            args: copy(alloc, &self.args)?,
+            id: self.id.copy()?,
+        })
+    }
+}
+
+impl Invocations {
+    /// The empty list. It takes no memory.
+    pub fn new(alloc: Global) -> Invocations
+        ensures { result ≡ [] }
+    {
+        Invocations {
+            items: Vec::new(alloc),
+        }
+    }
+
+    /// The list of a vector's items. It takes no memory.
+    pub fn from_vec(items: Vec<Invocation>) -> Invocations
+        ensures { result ≡ map call_of items.items }
+    {
+        Invocations { items }
+    }
+
+    /// The vector of the list's items. It takes no memory.
+    pub fn into_vec(self) -> Vec<Invocation>
+        ensures { map call_of result.items ≡ self }
+    {
+        let Invocations { items } = self;
+        items
+    }
+
+    /// Lends the calls.
+    pub fn as_slice(&self) -> &[Invocation]
+        ensures { map call_of result.now ≡ self.now }
+    {
+        self.items.as_slice()
+    }
+
+    /// Puts the calls of another list at the end.
+    pub fn append(&mut self, more: Invocations) -> Result<(), NoMemory>
+        ensures ok { OnOk result (self.new ≡ self.old ++ more) }
+        ensures err { OnErr result (self.new ≡ self.old) }
+    {
+        let mut items = more.into_vec();
+        self.items.append(&mut items)?;
+        Ok(())
+    }
+
+    /// Puts a call at the end.
+    pub fn push(&mut self, item: Invocation) -> Result<(), NoMemory>
+        ensures ok { OnOk result (self.new ≡ self.old ++ call_of item ∷ []) }
+        ensures err { OnErr result (self.new ≡ self.old) }
+    {
+        self.items.push(item)?;
+        Ok(())
+    }
+}

@@ -1,0 +1,17 @@
+//! JSON trees, read from bytes and written to bytes, and the calls and responses of a request.
+//!
+//! Contracts see a [`Json`] as its tree (`Rattle.jm_json.specs.Tree`), by `tree_of`. Numbers are whole, from -2^53+1 to
+//! 2^53-1 where they were read; an object has each key once, in byte order.
+#![tactic(auto)]
+
+mod copies;
+mod invocation;
+mod reader;
+mod tree;
+mod writer;
+
+pub use copies::copy;
+pub use invocation::{Created, Invocation, Invocations, Made, Replied};
+pub use reader::{ReadFault, read};
+pub use tree::{Items, Json, Member, Members};
+pub use writer::{write, write_after};

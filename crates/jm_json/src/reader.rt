@@ -1,0 +1,176 @@
+// Reading JSON bytes (RFC 8259) as a tree.
+ghost use Rattle.std.specs.Prelude.{◌≡◌, ◌∷◌, ◌++◌, Some, None, IfOk, IfErr, OnErr, MatchResult, MatchOption, IsUtf8, decimal, map, pos, negsuc, int_lt, false};
+ghost use Rattle.std.specs.Prelude.{List, ℕ, true};
+ghost use Rattle.serde_json.specs.Data.{Data, array, object};
+ghost use Rattle.jm_json.specs.Reading as reading;
+ghost use Rattle.jm_json.specs.Reading.{reading_of};
+ghost use Rattle.jm_json.specs.Explained.{Explains};
+ghost use Rattle.serde_json.specs.View.{view, number_view, items_view, members_view};
+ghost use Rattle.serde_json.specs.Find.{of_integer};
+ghost use Rattle.jm_json.specs.Tree.{trees_of, fields_of};
+ghost use Rattle.jm_json.specs.Json.{tree_of};
+ghost use Rattle.jm_json.specs.Data.{data_of, items_of, members_of};
+ghost use Rattle.jm_json.specs.Whole.{is_whole, first_bad, first_bad_item, first_bad_member, under, pointer_part};
+ghost use Rattle.jm_json.specs.Faults.{Refuses};
+
+use crate::tree::{Items, Json, Members};
+use jm_base::{NoMemory, Text};
+use serde_json::{Map, Number, Value};
+use std::alloc::{AllocError, Global};
+
+/// Why bytes are no tree: no JSON, a number that is not whole, whose JSON Pointer (RFC 6901) is shown, or no memory was
+/// left.
+#[derive(Debug, Drop)]
+pub enum ReadFault {
+    NotJson,
+    NotWhole(Text),
+    NoMemory,
+}
+
+#[derive(Drop)]
+enum Misfit {
+    NotWhole(Text),
+    NoMemory,
+}
+
+impl From<AllocError> for Misfit {
+    ghost use Rattle.std.specs.Prelude.{◌≡◌};
+    ghost use Rattle.jm_json.specs.declared.reader.Misfit.TheVariants.{NoMemory};
+
+    ghost from_gives = { λ _ e. e ≡ NoMemory };
+
+    fn from(_refused: AllocError) -> Misfit {
+        Misfit::NoMemory
+    }
+}
+
+impl From<NoMemory> for Misfit {
+    ghost use Rattle.std.specs.Prelude.{◌≡◌};
+    ghost use Rattle.jm_json.specs.declared.reader.Misfit.TheVariants.{NoMemory};
+
+    ghost from_gives = { λ _ e. e ≡ NoMemory };
+
+    fn from(_refused: NoMemory) -> Misfit {
+        Misfit::NoMemory
+    }
+}
+
+/// The tree that JSON bytes are, nested at most 127 deep, all of whose numbers are whole and from -2^53+1 to 2^53-1. Of a
+/// repeated key the last member counts. The pointer that is shown names the first other number in the order of the keys.
+pub fn read(alloc: Global, bytes: &[u8]) -> Result<Json, ReadFault>
+    ensures { MatchResult result (λ t. reading_of bytes.now ≡ reading.whole (tree_of t))
+        (λ e. Explains e (reading_of bytes.now)) }
+{
+    let value = match Value::from_slice(alloc, bytes) {
+        Ok(value) => value,
+        Err(e) => {
+            if e.is_memory() {
+                return Err(ReadFault::NoMemory);
+            }
+            return Err(ReadFault::NotJson);
+        }
+    };
+    match tree_from(alloc, &value) {
+        Ok(tree) => Ok(tree),
+        Err(Misfit::NotWhole(path)) => Err(ReadFault::NotWhole(path)),
+        Err(Misfit::NoMemory) => Err(ReadFault::NoMemory),
+    }
+}
+
+#[cycle(tree)]
+fn tree_from(alloc: Global, value: &Value) -> Result<Json, Misfit>
+    ensures ok { IfOk result (λ t. data_of (tree_of t) ≡ view value.now) }
+    ensures whole { IfOk result (λ t. first_bad (view value.now) ≡ None) }
+    ensures err { IfErr result (λ e. Refuses e (view value.now)) }
+{
+    match value {
+        Value::Null => Ok(Json::Null),
+        Value::Bool(b) => Ok(Json::Bool(*b)),
+        Value::Number(number) => match whole(number) {
+            Some(z) => Ok(Json::Int(z)),
+            None => Err(Misfit::NotWhole(Text::from_str(alloc, "")?)),
+        },
+        Value::String(text) => Ok(Json::Text(Text::from_str(alloc, text.as_str())?)),
+        Value::Array(values) => Ok(Json::List(items_from(alloc, values)?)),
+        Value::Object(values) => Ok(Json::Object(members_from(alloc, values)?)),
+    }
+}
+
+fn whole(number: &Number) -> Option<i64>
+    ensures { MatchOption result (is_whole (number_view number.now) ≡ false)
+        (λ z. (is_whole (number_view number.now) ≡ true) × (number_view number.now ≡ of_integer z)) }
+{
+    match number.as_i64() {
+        Some(z) => {
+            if -9007199254740992 < z && z < 9007199254740992 {
+                Some(z)
+            } else {
+                None
+            }
+        }
+        None => None,
+    }
+}
+
+#[cycle(tree)]
+fn items_from(alloc: Global, values: &Vec<Value>) -> Result<Items, Misfit>
+    ensures ok { IfOk result (λ ts. items_of (trees_of ts) ≡ items_view values.now.items) }
+    ensures whole { IfOk result (λ ts. first_bad_item 0 (items_view values.now.items) ≡ None) }
+    ensures err { IfErr result (λ e. Refuses e (array (items_view values.now.items))) }
+{
+    let mut items = Items::new(alloc);
+    for i in 0..values.len() {
+        match tree_from(alloc, &values[i]) {
+            Ok(tree) => items.push(tree)?,
+            Err(Misfit::NotWhole(path)) => {
+                return Err(Misfit::NotWhole(under_index(alloc, i, path)?));
+            }
+            Err(Misfit::NoMemory) => return Err(Misfit::NoMemory),
+        }
+    }
+    Ok(items)
+}
+
+#[cycle(tree)]
+fn members_from(alloc: Global, values: &Map<String, Value>) -> Result<Members, Misfit>
+    ensures ok { IfOk result (λ ms. members_of (fields_of ms) ≡ members_view values.now.entries) }
+    ensures whole { IfOk result (λ ms. first_bad_member (members_view values.now.entries) ≡ None) }
+    ensures err { IfErr result (λ e. Refuses e (object (members_view values.now.entries))) }
+{
+    let mut members = Members::new(alloc);
+    for (name, value) in values.iter() {
+        match tree_from(alloc, value) {
+            Ok(tree) => members.push(Text::from_str(alloc, name.as_str())?, tree)?,
+            Err(Misfit::NotWhole(path)) => {
+                return Err(Misfit::NotWhole(under_key(alloc, name.as_str(), path)?));
+            }
+            Err(Misfit::NoMemory) => return Err(Misfit::NoMemory),
+        }
+    }
+    Ok(members)
+}
+
+fn under_index(alloc: Global, index: usize, path: Text) -> Result<Text, NoMemory>
+    ensures { IfOk result (λ t. t ≡ under (decimal index) path) }
+{
+    let rest = path.as_str();
+    Ok(Text::from_string(format!(in alloc; "/{index}{rest}")?))
+}
+
+fn under_key(alloc: Global, key: &str, path: Text) -> Result<Text, NoMemory>
+    ensures { IfOk result (λ t. t ≡ under (pointer_part key.now) path) }
+{
+    let mut bytes = vec![in alloc; b'/']?;
+    for b in key.as_bytes() {
+        match *b {
+            b'~' => bytes.extend_from_slice(b"~0")?,
+            b'/' => bytes.extend_from_slice(b"~1")?,
+            b => bytes.push(b)?,
+        }
+    }
+    bytes.extend_from_slice(path.as_bytes())?;
+    match Text::from_utf8(bytes) {
+        Some(text) => Ok(text),
+        None => Err(NoMemory),
+    }
+}

@@ -1,0 +1,302 @@
+// JSON trees (RFC 8259), and looking into them.
+ghost use Rattle.std.specs.Prelude.{◌≡◌, [], ◌∷◌, ◌++◌, map, option_map, OnOk, OnErr, IfOk};
+ghost use Rattle.jm_json.specs.Json.{tree_of, member_of};
+ghost use Rattle.jm_json.specs.Order.{KeysRise, put};
+ghost use Rattle.jm_json.specs.Place.{IsPlace};
+ghost use Rattle.jm_json.specs.Find.{find, as_text, as_list, as_object};
+
+use jm_base::{NoMemory, Text};
+use std::alloc::Global;
+use std::cmp::Ordering;
+use std::marker::Model;
+
+/// A JSON tree whose numbers are whole. Contracts see it as a `Tree`, by `tree_of`.
+#[derive(Debug, Drop)]
+#[cycle(json)]
+pub enum Json {
+    Null,
+    Bool(bool),
+    Int(i64),
+    Text(Text),
+    List(Items),
+    Object(Members),
+}
+
+/// The items of a list, seen by contracts as the list of their trees.
+#[derive(Debug, Drop)]
+#[cycle(json)]
+pub struct Items {
+    items: Vec<Json>,
+}
+
+/// The members of an object, seen by contracts as the list of pairs of key and tree: each key once, in byte order.
+#[derive(Debug, Drop)]
+#[cycle(json)]
+pub struct Members {
+    members: Vec<Member>,
+}
+
+/// A member of an object.
+#[derive(Debug, Drop)]
+#[cycle(json)]
+pub struct Member {
+    pub name: Text,
+    pub value: Json,
+}
+
+// Where a key stands in an object, or where it would stand as a new one.
+#[derive(Clone, Copy)]
+enum Place {
+    Held(usize),
+    New(usize),
+}
+
+impl Model for Items {
+    ghost use Rattle.std.specs.Prelude.{List};
+    ghost use Rattle.std.specs.Coded.{coded_list};
+    ghost use Rattle.jm_json.specs.Tree.{Tree};
+    ghost use Rattle.jm_json.specs.Code.{tree_code};
+
+    ghost Value = { List Tree };
+
+    ghost coded = { coded_list tree_code };
+
+    ghost use Rattle.std.specs.Prelude.{map};
+    ghost use Rattle.jm_json.specs.Json.{tree_of};
+
+    ghost view = { λ a. map tree_of a.items.items };
+
+    ghost use Rattle.jm_json.specs.Tree.{trees_of};
+    ghost use Rattle.jm_json.specs.Size.{trees_size};
+
+    ghost size = { λ ts. trees_size (trees_of ts) };
+
+    ghost use Rattle.jm_json.specs.Falls.{items_deep};
+
+    ghost size_decreases = { λ a h. items_deep a.items.items };
+}
+
+impl Model for Members {
+    ghost use Rattle.std.specs.Prelude.{List, ℕ};
+    ghost use Rattle.std.specs.Coded.{coded_list, coded×, coded_ℕ};
+    ghost use Rattle.jm_json.specs.Tree.{Tree};
+    ghost use Rattle.jm_json.specs.Code.{tree_code};
+
+    ghost Value = { List (List ℕ × Tree) };
+
+    ghost coded = { coded_list (coded× (coded_list coded_ℕ) tree_code) };
+
+    ghost use Rattle.std.specs.Prelude.{map};
+    ghost use Rattle.jm_json.specs.Json.{member_of};
+
+    ghost view = { λ a. map member_of a.members.items };
+
+    ghost use Rattle.jm_json.specs.Order.{KeysRise};
+
+    ghost invariant = { λ a. KeysRise (map member_of a.members.items) };
+
+    ghost use Rattle.jm_json.specs.Tree.{fields_of};
+    ghost use Rattle.jm_json.specs.Size.{fields_size};
+
+    ghost size = { λ ms. fields_size (fields_of ms) };
+
+    ghost use Rattle.jm_json.specs.Falls.{members_deep};
+
+    ghost size_decreases = { λ a h. members_deep a.members.items };
+}
+
+impl Json {
+    /// The text, if the tree is one.
+    pub fn as_text(&self) -> Option<&Text>
+        ensures { option_map (λ t. t.now) result ≡ as_text (tree_of self.now) }
+    {
+        if let Json::Text(text) = self {
+            Some(text)
+        } else {
+            None
+        }
+    }
+
+    /// The items, if the tree is a list.
+    #[tactic(auto, using(crate::proofs::Lists::lists_back))]
+    pub fn as_list(&self) -> Option<&Items>
+        ensures { option_map (λ ts. ts.now) result ≡ as_list (tree_of self.now) }
+    {
+        if let Json::List(items) = self {
+            Some(items)
+        } else {
+            None
+        }
+    }
+
+    /// The members, if the tree is an object.
+    #[tactic(auto, using(crate::proofs::Lists::lists_back))]
+    pub fn as_object(&self) -> Option<&Members>
+        ensures { option_map (λ ms. ms.now) result ≡ as_object (tree_of self.now) }
+    {
+        if let Json::Object(members) = self {
+            Some(members)
+        } else {
+            None
+        }
+    }
+}
+
+impl Items {
+    /// No items. It takes no memory.
+    pub fn new(alloc: Global) -> Items
+        ensures { result ≡ [] }
+    {
+        Items {
+            items: Vec::new(alloc),
+        }
+    }
+
+    /// No items, with room for some.
+    pub fn with_room(alloc: Global, room: usize) -> Result<Items, NoMemory>
+        ensures { IfOk result (λ ts. ts ≡ []) }
+    {
+        Ok(Items {
+            items: Vec::with_capacity(alloc, room)?,
+        })
+    }
+
+    /// The items of a vector. It takes no memory.
+    pub fn from_vec(items: Vec<Json>) -> Items
+        ensures { result ≡ map tree_of items.items }
+    {
+        Items { items }
+    }
+
+    /// The vector of the items. It takes no memory.
+    pub fn into_vec(self) -> Vec<Json>
+        ensures { map tree_of result.items ≡ self }
+    {
+        let Items { items } = self;
+        items
+    }
+
+    /// Lends the items.
+    pub fn as_slice(&self) -> &[Json]
+        ensures { map tree_of result.now ≡ self.now }
+    {
+        self.items.as_slice()
+    }
+
+    /// Puts an item at the end.
+    pub fn push(&mut self, item: Json) -> Result<(), NoMemory>
+        ensures ok { OnOk result (self.new ≡ self.old ++ tree_of item ∷ []) }
+        ensures err { OnErr result (self.new ≡ self.old) }
+    {
+        self.items.push(item)?;
+        Ok(())
+    }
+}
+
+impl Members {
+    /// No members. It takes no memory.
+    pub fn new(alloc: Global) -> Members
+        ensures { result ≡ [] }
+    {
+        Members {
+            members: Vec::new(alloc),
+        }
+    }
+
+    /// No members, with room for some.
+    pub fn with_room(alloc: Global, room: usize) -> Result<Members, NoMemory>
+        ensures { IfOk result (λ ms. ms ≡ []) }
+    {
+        Ok(Members {
+            members: Vec::with_capacity(alloc, room)?,
+        })
+    }
+
+    /// The vector of the members. It takes no memory.
+    pub fn into_vec(self) -> Vec<Member>
+        ensures value { map member_of result.items ≡ self }
+        ensures order { KeysRise (map member_of result.items) }
+    {
+        let Members { members } = self;
+        members
+    }
+
+    /// Lends the members.
+    pub fn as_slice(&self) -> &[Member]
+        ensures value { map member_of result.now ≡ self.now }
+        ensures order { KeysRise (map member_of result.now) }
+    {
+        self.members.as_slice()
+    }
+
+    /// The value at a key.
+    pub fn get(&self, name: &str) -> Option<&Json>
+        ensures { option_map (λ j. tree_of j.now) result ≡ find name.now self.now }
+    {
+        for member in &self.members {
+            if member.name.as_str() == name {
+                return Some(&member.value);
+            }
+        }
+        None
+    }
+
+    /// Adds a member whose key is past the others.
+    pub fn push(&mut self, name: Text, value: Json) -> Result<(), NoMemory>
+        requires { KeysRise (self.old ++ (name, tree_of value) ∷ []) }
+        ensures ok { OnOk result (self.new ≡ self.old ++ (name, tree_of value) ∷ []) }
+        ensures err { OnErr result (self.new ≡ self.old) }
+    {
+        self.members.push(Member { name, value })?;
+        Ok(())
+    }
+
+    /// Sets the value at a key: in place of the one that is there, else as a new member at its place in the order.
+    pub fn put(&mut self, name: Text, value: Json) -> Result<(), NoMemory>
+        ensures ok { OnOk result (self.new ≡ put name (tree_of value) self.old) }
+        ensures err { OnErr result (self.new ≡ self.old) }
+    {
+        put_member(&mut self.members, name, value)
+    }
+
+    /// Sets the value at a key that is given as a slice.
+    pub fn set(&mut self, alloc: Global, name: &str, value: Json) -> Result<(), NoMemory>
+        ensures ok { OnOk result (self.new ≡ put name.now (tree_of value) self.old) }
+        ensures err { OnErr result (self.new ≡ self.old) }
+    {
+        self.put(Text::from_str(alloc, name)?, value)
+    }
+}
+
+fn put_member(members: &mut Vec<Member>, name: Text, value: Json) -> Result<(), NoMemory>
+    requires { KeysRise (map member_of members.old.items) }
+    ensures ok { OnOk result (map member_of members.new.items ≡ put name (tree_of value) (map member_of members.old.items)) }
+    ensures err { OnErr result (members.new.items ≡ members.old.items) }
+{
+    match place_of(members.as_slice(), name.as_bytes()) {
+        Place::Held(at) => {
+            members[at] = Member { name, value };
+            Ok(())
+        }
+        Place::New(at) => {
+            members.insert(at, Member { name, value })?;
+            Ok(())
+        }
+    }
+}
+
+// The place of a key. One that is past all others takes one comparison.
+fn place_of(members: &[Member], name: &[u8]) -> Place
+    requires { KeysRise (map member_of members.now) }
+    ensures { IsPlace result name.now (map member_of members.now) }
+{
+    let mut at = members.len();
+    'back: while at > 0 {
+        match name.cmp(members[at - 1].name.as_bytes()) {
+            Ordering::Less => at -= 1,
+            Ordering::Equal => return Place::Held(at - 1),
+            Ordering::Greater => return Place::New(at),
+        }
+    }
+    Place::New(0)
+}
