@@ -1,0 +1,6 @@
+pub mod Outcomes
+pub mod Lines
+pub mod Held
+pub mod Feeds
+pub mod Runs
+pub mod Ends

@@ -1,0 +1,10 @@
+use Rattle.jmap_main.proofs.Feeds.{held_ok, held_err}
+use Rattle.jmap_main.proofs.line.end_line.Goals as goal
+
+pub returns-in-Ok-clause-ok : goal.returns-in-Ok-clause-ok
+returns-in-Ok-clause-ok c =
+    held_ok c.answer_held.result c.args.replies.now c.answer_held.new.replies c.hold.new.line c.args.line.now c.args.last.now c.in-Ok.ensures.ok c.answer_held.ensures.ok
+
+pub returns-in-Ok-clause-err : goal.returns-in-Ok-clause-err
+returns-in-Ok-clause-err c =
+    held_err c.answer_held.result c.args.replies.now c.answer_held.new.replies c.hold.new.line c.args.line.now c.args.last.now c.in-Ok.ensures.ok c.answer_held.ensures.err

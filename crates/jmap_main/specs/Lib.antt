@@ -1,0 +1,6 @@
+pub mod Lines
+pub mod Batch
+pub mod Words
+pub mod Status
+pub mod Run
+pub mod Ended

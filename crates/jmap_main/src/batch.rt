@@ -1,0 +1,152 @@
+// The command `batch`: a reply line for each request line.
+ghost use Rattle.std.specs.Prelude.{◌≡◌, ◌≤◌, ◌<◌, ℕ, List, ◌++◌, length, take, Ok, OnOk, OnErr, IfErr};
+ghost use Rattle.std.specs.Io.KnownBytes.{Appends};
+ghost use Rattle.jmap_main.specs.Lines.{IsOneLine};
+ghost use Rattle.jmap_main.specs.Batch.{Done, IsFrontFor, reply_or_none};
+ghost use Rattle.jmap_main.specs.Run.{HasBegun};
+ghost use Rattle.jmap_main.specs.Ended.{Explains, StopsFor};
+
+use crate::ending::Ending;
+use crate::line::{cut_line, end_line, hold};
+use jm_base::{Bytes, NoMemory};
+use jm_edge::{Sink, Source, put_all};
+use std::alloc::Global;
+
+// The bytes that an input may have.
+const MOST_INPUT: u64 = 1073741824;
+
+// The bytes that are read at once.
+const ROOM: usize = 65536;
+
+/// Answers the lines of the input until its end.
+pub(crate) fn answer_input<S: Source, O: Sink>(alloc: Global, source: &mut S, out: &mut O) -> Ending
+    ensures cause { Explains result (record {
+      left = S.left source.old;
+      left_after = S.left source.new;
+      reads = S.faults source.old;
+      reads_after = S.faults source.new;
+      held = O.held out.old;
+      held_after = O.held out.new;
+      writes = O.faults out.old;
+      writes_after = O.faults out.new;
+    }) }
+    ensures begun { HasBegun (S.left source.old) (S.left source.new) (O.held out.old) (O.held out.new) }
+{
+    match vec![in alloc; 0u8; ROOM] {
+        Ok(mut room) => answer_reads(alloc, source, room.as_mut_slice(), out),
+        Err(_) => Ending::NoMemory,
+    }
+}
+
+fn answer_reads<S: Source, O: Sink>(
+    alloc: Global,
+    source: &mut S,
+    room: &mut [u8],
+    out: &mut O,
+) -> Ending
+    requires { 0 < length room.old }
+    ensures cause { Explains result (record {
+      left = S.left source.old;
+      left_after = S.left source.new;
+      reads = S.faults source.old;
+      reads_after = S.faults source.new;
+      held = O.held out.old;
+      held_after = O.held out.new;
+      writes = O.faults out.old;
+      writes_after = O.faults out.new;
+    }) }
+    ensures begun { HasBegun (S.left source.old) (S.left source.new) (O.held out.old) (O.held out.new) }
+{
+    let mut line = Bytes::new(alloc);
+    let mut replies = Bytes::new(alloc);
+    let mut total = 0u64;
+    'turns: for _turn in 0..MOST_INPUT + 2 {
+        let count = match source.read(room) {
+            Ok(count) => count,
+            Err(_) => return Ending::ReadFault,
+        };
+        if count == 0 {
+            match last_line(alloc, &mut line, &mut replies, out) {
+                Ok(()) => return Ending::Done,
+                Err(ending) => return ending,
+            }
+        }
+        total = total.saturating_add(count as u64);
+        if total > MOST_INPUT {
+            return Ending::TooLong;
+        }
+        match answer_piece(alloc, &mut line, &room[..count], &mut replies, out) {
+            Ok(()) => {}
+            Err(ending) => return ending,
+        }
+    }
+    Ending::TooLong
+}
+
+// Answers the lines that end in a piece, and puts their replies.
+fn answer_piece<O: Sink>(
+    alloc: Global,
+    line: &mut Bytes,
+    piece: &[u8],
+    replies: &mut Bytes,
+    out: &mut O,
+) -> Result<(), Ending>
+    requires { IsOneLine line.old }
+    ensures ok { OnOk result ((w : List ℕ) × Appends (O.held out.old) (O.held out.new) w × Done (line.old ++ piece.now) w line.new × IsOneLine line.new) }
+    ensures err { OnErr result ((w : List ℕ) × Appends (O.held out.old) (O.held out.new) w × IsFrontFor w (line.old ++ piece.now)) }
+    ensures later { O.faults out.old ≤ O.faults out.new }
+    ensures reason { IfErr result (λ e. StopsFor e (O.faults out.old) (O.faults out.new)) }
+{
+    replies.clear();
+    let fed = feed(alloc, line, piece, replies);
+    settle(fed, replies, out)
+}
+
+// Answers the line that the input's end ends.
+fn last_line<O: Sink>(
+    alloc: Global,
+    line: &mut Bytes,
+    replies: &mut Bytes,
+    out: &mut O,
+) -> Result<(), Ending>
+    ensures ok { OnOk result (Appends (O.held out.old) (O.held out.new) (reply_or_none line.old)) }
+    ensures err { OnErr result ((n : ℕ) × Appends (O.held out.old) (O.held out.new) (take n (reply_or_none line.old))) }
+    ensures later { O.faults out.old ≤ O.faults out.new }
+    ensures reason { IfErr result (λ e. StopsFor e (O.faults out.old) (O.faults out.new)) }
+{
+    replies.clear();
+    let ended = end_line(alloc, line, &[], replies);
+    settle(ended, replies, out)
+}
+
+// Puts the replies, also those before a refusal.
+fn settle<O: Sink>(fed: Result<(), NoMemory>, replies: &Bytes, out: &mut O) -> Result<(), Ending>
+    ensures ok { OnOk result ((fed ≡ Ok tt) × Appends (O.held out.old) (O.held out.new) replies.now) }
+    ensures err { OnErr result ((n : ℕ) × Appends (O.held out.old) (O.held out.new) (take n replies.now)) }
+    ensures later { O.faults out.old ≤ O.faults out.new }
+    ensures reason { IfErr result (λ e. StopsFor e (O.faults out.old) (O.faults out.new)) }
+{
+    match put_all(out, replies.as_slice()) {
+        Ok(()) => match fed {
+            Ok(()) => Ok(()),
+            Err(_) => Err(Ending::NoMemory),
+        },
+        Err(_) => Err(Ending::WriteFault),
+    }
+}
+
+// Takes a piece, and answers each line that ends in it.
+fn feed(alloc: Global, line: &mut Bytes, piece: &[u8], replies: &mut Bytes) -> Result<(), NoMemory>
+    requires { IsOneLine line.old }
+    ensures ok { OnOk result ((w : List ℕ) × (replies.new ≡ replies.old ++ w) × Done (line.old ++ piece.now) w line.new × IsOneLine line.new) }
+    ensures err { OnErr result ((w : List ℕ) × (replies.new ≡ replies.old ++ w) × IsFrontFor w (line.old ++ piece.now)) }
+{
+    let mut rest = piece;
+    'lines: while let Some(cut) = cut_line(rest) {
+        match end_line(alloc, line, cut.line, replies) {
+            Ok(()) => rest = cut.rest,
+            Err(refused) => return Err(refused),
+        }
+    }
+    hold(line, rest)
+}
