@@ -1,0 +1,12 @@
+//! The records of an account, the edits that change them, and the histories that the edits make.
+//!
+//! An account is three finite maps from numbers to records: mailboxes, emails and threads (RFC 8620 and RFC 8621). Every
+//! change is a list of [`Edit`]s, each of which puts or drops one record. A [`Commit`] is the list of one change with
+//! the blobs that it brings. What a history, a position, a content at a position and a state are stands in `specs/`.
+#![tactic(auto)]
+
+mod edits;
+mod records;
+
+pub use edits::{Commit, Edit, Edits, Stamp};
+pub use records::{Email, Mailbox, Summary, Thread};
