@@ -1,5 +1,5 @@
 -- What an edit names, what it makes of a content, and when it fits one.
-use Rattle.std.specs.Prelude.{◌≡◌, ℕ, ◌+◌, ◌-◌, ◌^◌, ◌<◌, ◌≤◌, Bool, true, false, if◌then◌else◌, List, [], ◌∷◌, length, Option, Some, None, is_some, ⊤}
+use Rattle.std.specs.Prelude.{◌≡◌, ℕ, ◌+◌, ◌^◌, ◌<◌, ◌≤◌, Bool, true, false, if◌then◌else◌, List, [], ◌∷◌, length, Option, Some, None, is_some, ⊤}
 use Rattle.mail_records.specs.Tables.{put, without}
 use Rattle.mail_records.specs.Contents.{Content, mailbox_number, email_number, thread_number, mailbox_at, email_at, thread_at, next_of}
 use Rattle.mail_records.specs.declared.records.Email.{Email}
@@ -85,4 +85,10 @@ IsSmall _ = ⊤
 
 -- there is a 64-bit number after the next one of the edit's kind
 abbrev pub HasNext : Content → Edit → Type 0
-HasNext c e = next_of c (kind_of e) < 2 ^ 64 - 1
+HasNext c e = next_of c (kind_of e) + 1 < 2 ^ 64
+
+-- there are 64-bit numbers after n new records of each kind
+pub record HasNumbers (n : ℕ) (c : Content) : Type 0 where
+  pub mailbox : c.next_mailbox + n < 2 ^ 64
+  pub email : c.next_email + n < 2 ^ 64
+  pub thread : c.next_thread + n < 2 ^ 64

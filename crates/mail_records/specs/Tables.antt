@@ -1,5 +1,5 @@
 -- A finite map from numbers to records, as the list of its records in number order. `number` gives a record's number.
-use Rattle.std.specs.Prelude.{ℕ, ◌<◌, ◌≤◌, not, nat_lt, ◌==◌, if◌then◌else◌, List, [], ◌∷◌, Option, Some, None, filter, ⊤}
+use Rattle.std.specs.Prelude.{ℕ, ◌<◌, ◌≤◌, not, nat_lt, ◌==◌, if◌then◌else◌, List, [], ◌∷◌, length, take, drop, Option, Some, None, filter, ⊤}
 use Rattle.std.specs.List.{AllByRecursion}
 
 -- the record of a number
@@ -23,6 +23,12 @@ without number n rs = filter (λ r. not (number r == n)) rs
 abbrev pub IsTable : {R : Type 0} → (R → ℕ) → List R → Type 0
 IsTable number [] = ⊤
 IsTable number (r ∷ rs) = AllByRecursion (λ x. number r < number x) rs × IsTable number rs
+
+-- i is the place of the first record whose number is not below n
+pub record IsPlace {R : Type 0} (number : R → ℕ) (n : ℕ) (rows : List R) (i : ℕ) : Type 0 where
+  pub within : i ≤ length rows
+  pub before : AllByRecursion (λ r. number r < n) (take i rows)
+  pub from : AllByRecursion (λ r. n ≤ number r) (drop i rows)
 
 -- the numbers in use are those from 1 and below the next one
 pub record IsNumbered {R : Type 0} (number : R → ℕ) (rows : List R) (next : ℕ) : Type 0 where

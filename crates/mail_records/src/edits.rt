@@ -1,7 +1,10 @@
 // Edits, and the commits that they come in.
 
-use crate::{Email, Mailbox, Thread};
-use jm_base::{Blobs, Sequence};
+ghost use Rattle.std.specs.Prelude.{◌≡◌, IfOk};
+
+use crate::{Email, Mailbox, Record, Thread};
+use jm_base::{Blobs, NoMemory, Sequence};
+use std::alloc::Global;
 
 /// One change of one record. `was` says whether a record of this number was there before.
 #[derive(Drop)]
@@ -37,6 +40,35 @@ pub enum Edit {
     },
 }
 
+impl Edit {
+    /// The same edit, in memory of its own.
+    pub fn copy(&self, alloc: Global) -> Result<Edit, NoMemory>
+        ensures { IfOk result (λ e. e ≡ self.now) }
+    {
+        match self {
+            Edit::PutMailbox { item, was, counts } => Ok(Edit::PutMailbox {
+                item: item.copy(alloc)?,
+                was: *was,
+                counts: *counts,
+            }),
+            Edit::DropMailbox { number } => Ok(Edit::DropMailbox { number: *number }),
+            Edit::PutEmail { item, was } => Ok(Edit::PutEmail {
+                item: item.copy(alloc)?,
+                was: *was,
+            }),
+            Edit::DropEmail { number, thread } => Ok(Edit::DropEmail {
+                number: *number,
+                thread: *thread,
+            }),
+            Edit::PutThread { item, was } => Ok(Edit::PutThread {
+                item: item.copy(alloc)?,
+                was: *was,
+            }),
+            Edit::DropThread { number } => Ok(Edit::DropThread { number: *number }),
+        }
+    }
+}
+
 /// A list of edits, in the order in which they are applied.
 pub type Edits = Sequence<Edit>;
 
@@ -54,4 +86,21 @@ pub struct Commit {
     pub blobs: Blobs,
     pub edits: Edits,
     pub stamp: Stamp,
+}
+
+fn copies(alloc: Global, edits: &[Edit]) -> Result<Vec<Edit>, NoMemory>
+    ensures { IfOk result (λ v. v.items ≡ edits.now) }
+{
+    let mut all = Vec::with_capacity(alloc, edits.len())?;
+    for edit in edits {
+        all.push(edit.copy(alloc)?)?;
+    }
+    Ok(all)
+}
+
+/// The same edits, in memory of their own.
+pub fn copy_edits(alloc: Global, edits: &[Edit]) -> Result<Edits, NoMemory>
+    ensures { IfOk result (λ e. e ≡ edits.now) }
+{
+    Ok(Edits::from_vec(copies(alloc, edits)?))
 }

@@ -5,8 +5,15 @@
 //! the blobs that it brings. What a history, a position, a content at a position and a state are stands in `specs/`.
 #![tactic(auto)]
 
+mod content;
+mod copies;
 mod edits;
+mod fitting;
 mod records;
+mod table;
 
-pub use edits::{Commit, Edit, Edits, Stamp};
+pub use content::{Content, apply};
+pub use edits::{Commit, Edit, Edits, Stamp, copy_edits};
+pub use fitting::{apply_all_ready, apply_fitting, fits};
 pub use records::{Email, Mailbox, Summary, Thread};
+pub use table::{Record, Table};
