@@ -16,19 +16,25 @@ is_kind OfEmail OfEmail = true
 is_kind OfThread OfThread = true
 is_kind _ _ = false
 
+-- the id is that of a record of the kind
+abbrev pub is_kind_of : Kind → Id → Bool
+is_kind_of kind i = is_kind kind i.kind
+
 -- the edits of a kind
 abbrev pub edits_of_kind : Kind → List Edit → List Edit
 edits_of_kind kind edits = filter (λ e. is_kind kind (kind_of e)) edits
 
+-- the place of the last item that passes, from whether the first one does and from the place among the others
+abbrev pub place_with : Bool → Option ℕ → Option ℕ
+place_with first (Some n) = Some (n + 1)
+place_with first None = if first then Some 1 else None
+
 -- the place of the last item that passes, counted from 1
 abbrev pub last_place : {A : Type 0} → (A → Bool) → List A → Option ℕ
 last_place test [] = None
-last_place test (x ∷ xs) = place_before (test x) (last_place test xs)
-  where
-    place_before : Bool → Option ℕ → Option ℕ
-    place_before here (Some n) = Some (n + 1)
-    place_before here None = if here then Some 1 else None
+last_place test (x ∷ xs) = place_with (test x) (last_place test xs)
 
+-- the position of a place: that many above the floor, or otherwise, where there is none, the one given
 abbrev pub placed_above : ℕ → ℕ → Option ℕ → ℕ
 placed_above floor otherwise (Some n) = floor + n
 placed_above floor otherwise None = otherwise
@@ -36,7 +42,7 @@ placed_above floor otherwise None = otherwise
 -- The position of the last of these ids that is of the kind, where the first one has the position floor + 1. Where none
 -- is, it is the kind's position at the floor.
 abbrev pub last_position : Kind → ℕ → Floors → List Id → ℕ
-last_position kind floor floors ids = placed_above floor (floor_of floors kind) (last_place (λ (i : Id). is_kind kind i.kind) ids)
+last_position kind floor floors ids = placed_above floor (floor_of floors kind) (last_place (is_kind_of kind) ids)
 
 -- the state of a kind at a position: the position of its last edit up to there, else its position at the floor
 abbrev pub state_at : History → Kind → ℕ → ℕ
@@ -52,7 +58,7 @@ Reaches h kind s = (floor_of h.floors kind ≤ s) × (s ≤ end_of h)
 
 -- the id is that of this kind and number
 abbrev pub is_id : Kind → ℕ → Id → Bool
-is_id kind n i = is_kind kind i.kind && i.number == n
+is_id kind n i = is_kind_of kind i && i.number == n
 
 -- these are exactly the numbers of the kind that the ids name, in number order
 pub record AreNamed (kind : Kind) (ids : List Id) (numbers : List ℕ) : Type 0 where
