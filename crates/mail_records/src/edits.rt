@@ -3,7 +3,7 @@
 ghost use Rattle.std.specs.Prelude.{◌≡◌, IfOk};
 
 use crate::{Email, Mailbox, Record, Thread};
-use jm_base::{Blobs, NoMemory, Sequence};
+use jm_base::{Blobs, Kind, NoMemory, Sequence};
 use std::alloc::Global;
 
 /// One change of one record. `was` says whether a record of this number was there before.
@@ -41,6 +41,19 @@ pub enum Edit {
 }
 
 impl Edit {
+    ghost use Rattle.mail_records.specs.Edits.{kind_of};
+
+    /// The kind of record that it puts or drops.
+    pub fn kind(&self) -> Kind
+        ensures { result ≡ kind_of self.now }
+    {
+        match self {
+            Edit::PutMailbox { .. } | Edit::DropMailbox { .. } => Kind::Mailbox,
+            Edit::PutEmail { .. } | Edit::DropEmail { .. } => Kind::Email,
+            Edit::PutThread { .. } | Edit::DropThread { .. } => Kind::Thread,
+        }
+    }
+
     /// The same edit, in memory of its own.
     pub fn copy(&self, alloc: Global) -> Result<Edit, NoMemory>
         ensures { IfOk result (λ e. e ≡ self.now) }

@@ -11,6 +11,8 @@ mod edits;
 mod fitting;
 mod records;
 mod table;
+#[cfg(test)]
+mod tests;
 
 pub use content::{Content, apply};
 pub use edits::{Commit, Edit, Edits, Stamp, copy_edits};

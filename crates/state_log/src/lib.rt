@@ -6,6 +6,8 @@
 
 mod log;
 mod notes;
+#[cfg(test)]
+mod tests;
 mod touched;
 
 pub use log::{Log, note_all_ready};
