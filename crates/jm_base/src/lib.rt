@@ -4,12 +4,14 @@
 #![tactic(auto)]
 
 mod bytes;
+mod id_texts;
 mod identifiers;
 mod memory;
 mod sequence;
 mod text;
 
 pub use bytes::Bytes;
+pub use id_texts::{id_text, read_id, read_state, state_text};
 pub use identifiers::{AddedItem, FormFault, Id, Kind, SpliceFault, UtcDate};
 pub use memory::NoMemory;
 pub use sequence::{Blobs, Numbers, Rows, Sequence, Texts};

@@ -1,0 +1,230 @@
+// The content of an account: a table of each kind of record, and the next numbers.
+ghost use Rattle.std.specs.Prelude.{◌≡◌, ◌+◌, ◌<◌, ◌≤◌, ◌^◌, false, Some, None, OnOk, OnErr, IfOk, MatchOption, length};
+ghost use Rattle.mail_records.specs.Contents.{mailbox_number, email_number, thread_number, mailbox_at, email_at, thread_at, next_of, empty_content};
+ghost use Rattle.mail_records.specs.Edits.{Fits, HasNext, IsSmall, after_edit};
+ghost use Rattle.mail_records.specs.Tables.{IsTable};
+
+use crate::{Edit, Email, Mailbox, Table, Thread};
+use jm_base::{Kind, NoMemory};
+use std::alloc::Global;
+use std::marker::Model;
+
+/// The mailboxes, emails and threads of an account, each by number, and the next number of each kind. Contracts see
+/// beside it `spare`: for how many edits room stands ready.
+#[derive(Drop)]
+pub struct Content {
+    pub(crate) mailboxes: Table<Mailbox>,
+    pub(crate) emails: Table<Email>,
+    pub(crate) threads: Table<Thread>,
+    pub(crate) next_mailbox: u64,
+    pub(crate) next_email: u64,
+    pub(crate) next_thread: u64,
+}
+
+impl Model for Content {
+    ghost use Rattle.std.specs.Prelude.{min};
+    ghost use Rattle.mail_records.specs.Contents.{Held};
+
+    ghost Value = { Held };
+
+    ghost view = { λ c. record {
+      content = record {
+        mailboxes = c.mailboxes.rows;
+        emails = c.emails.rows;
+        threads = c.threads.rows;
+        next_mailbox = c.next_mailbox;
+        next_email = c.next_email;
+        next_thread = c.next_thread;
+      };
+      spare = min c.mailboxes.spare (min c.emails.spare c.threads.spare);
+    } };
+}
+
+impl Content {
+    /// No record, each kind's next number being 1. It takes no memory.
+    pub fn new(alloc: Global) -> Content
+        ensures { result.content ≡ empty_content }
+    {
+        Content {
+            mailboxes: Table::new(alloc),
+            emails: Table::new(alloc),
+            threads: Table::new(alloc),
+            next_mailbox: 1,
+            next_email: 1,
+            next_thread: 1,
+        }
+    }
+
+    /// The same content, in memory of its own.
+    pub fn copy(&self, alloc: Global) -> Result<Content, NoMemory>
+        ensures { IfOk result (λ c. c.content ≡ self.now.content) }
+    {
+        let mailboxes = self.mailboxes.copy(alloc)?;
+        let emails = self.emails.copy(alloc)?;
+        let threads = self.threads.copy(alloc)?;
+        Ok(Content {
+            mailboxes,
+            emails,
+            threads,
+            next_mailbox: self.next_mailbox,
+            next_email: self.next_email,
+            next_thread: self.next_thread,
+        })
+    }
+
+    /// Lends the mailboxes, in number order.
+    pub fn mailboxes(&self) -> &[Mailbox]
+        ensures items { result.now ≡ self.now.content.mailboxes }
+        ensures table { IsTable mailbox_number result.now }
+    {
+        self.mailboxes.as_slice()
+    }
+
+    /// Lends the emails, in number order.
+    pub fn emails(&self) -> &[Email]
+        ensures items { result.now ≡ self.now.content.emails }
+        ensures table { IsTable email_number result.now }
+    {
+        self.emails.as_slice()
+    }
+
+    /// Lends the threads, in number order.
+    pub fn threads(&self) -> &[Thread]
+        ensures items { result.now ≡ self.now.content.threads }
+        ensures table { IsTable thread_number result.now }
+    {
+        self.threads.as_slice()
+    }
+
+    /// Lends the mailbox of a number.
+    pub fn mailbox(&self, number: u64) -> Option<&Mailbox>
+        ensures { MatchOption result (mailbox_at self.now.content number ≡ None) (λ r. mailbox_at self.now.content number ≡ Some r.now) }
+    {
+        self.mailboxes.get(number)
+    }
+
+    /// Lends the email of a number.
+    pub fn email(&self, number: u64) -> Option<&Email>
+        ensures { MatchOption result (email_at self.now.content number ≡ None) (λ r. email_at self.now.content number ≡ Some r.now) }
+    {
+        self.emails.get(number)
+    }
+
+    /// Lends the thread of a number.
+    pub fn thread(&self, number: u64) -> Option<&Thread>
+        ensures { MatchOption result (thread_at self.now.content number ≡ None) (λ r. thread_at self.now.content number ≡ Some r.now) }
+    {
+        self.threads.get(number)
+    }
+
+    /// The number that the next new record of a kind has.
+    pub fn next(&self, kind: Kind) -> u64
+        ensures { result ≡ next_of self.now.content kind }
+    {
+        match kind {
+            Kind::Mailbox => self.next_mailbox,
+            Kind::Email => self.next_email,
+            Kind::Thread => self.next_thread,
+        }
+    }
+
+    /// Makes room for these edits. Where there is none, all but the room is as before.
+    pub fn reserve(&mut self, edits: &[Edit]) -> Result<(), NoMemory>
+        ensures same { self.new.content ≡ self.old.content }
+        ensures spare { OnOk result (length edits.now ≤ self.new.spare) }
+        ensures no_less { self.old.spare ≤ self.new.spare }
+    {
+        self.make_room(edits.len())
+    }
+
+    // Makes room for so many edits.
+    fn make_room(&mut self, edits: usize) -> Result<(), NoMemory>
+        ensures same { self.new.content ≡ self.old.content }
+        ensures spare { OnOk result (edits ≤ self.new.spare) }
+        ensures no_less { self.old.spare ≤ self.new.spare }
+    {
+        self.mailboxes.reserve(edits)?;
+        self.emails.reserve(edits)?;
+        self.threads.reserve(edits)?;
+        Ok(())
+    }
+
+    fn put_mailbox(&mut self, item: Mailbox, was: bool)
+        requires room { 1 ≤ self.old.spare }
+        requires next { was ≡ false → item.number + 1 < 2 ^ 64 }
+        ensures content { self.new.content ≡ after_edit self.old.content (Edit.PutMailbox item was false) }
+        ensures spare { self.old.spare ≤ self.new.spare + 1 }
+    {
+        if !was {
+            self.next_mailbox = item.number + 1;
+        }
+        self.mailboxes.put_ready(item);
+    }
+
+    fn put_email(&mut self, item: Email, was: bool)
+        requires room { 1 ≤ self.old.spare }
+        requires next { was ≡ false → item.number + 1 < 2 ^ 64 }
+        ensures content { self.new.content ≡ after_edit self.old.content (Edit.PutEmail item was) }
+        ensures spare { self.old.spare ≤ self.new.spare + 1 }
+    {
+        if !was {
+            self.next_email = item.number + 1;
+        }
+        self.emails.put_ready(item);
+    }
+
+    fn put_thread(&mut self, item: Thread, was: bool)
+        requires room { 1 ≤ self.old.spare }
+        requires next { was ≡ false → item.number + 1 < 2 ^ 64 }
+        ensures content { self.new.content ≡ after_edit self.old.content (Edit.PutThread item was) }
+        ensures spare { self.old.spare ≤ self.new.spare + 1 }
+    {
+        if !was {
+            self.next_thread = item.number + 1;
+        }
+        self.threads.put_ready(item);
+    }
+
+    // Applies an edit that fits, for which room stands ready.
+    fn enter(&mut self, edit: Edit)
+        requires room { 1 ≤ self.old.spare }
+        requires fits { Fits self.old.content edit }
+        requires next { HasNext self.old.content edit }
+        ensures content { self.new.content ≡ after_edit self.old.content edit }
+        ensures spare { self.old.spare ≤ self.new.spare + 1 }
+    {
+        match edit {
+            Edit::PutMailbox { item, was, .. } => self.put_mailbox(item, was),
+            Edit::DropMailbox { number } => self.mailboxes.take_out(number),
+            Edit::PutEmail { item, was } => self.put_email(item, was),
+            Edit::DropEmail { number, .. } => self.emails.take_out(number),
+            Edit::PutThread { item, was } => self.put_thread(item, was),
+            Edit::DropThread { number } => self.threads.take_out(number),
+        }
+    }
+
+    /// Applies an edit that fits, for which room stands ready. It takes no memory.
+    pub fn apply_ready(&mut self, edit: Edit)
+        requires room { 1 ≤ self.old.spare }
+        requires fits { Fits self.old.content edit }
+        requires next { HasNext self.old.content edit }
+        requires small { IsSmall edit }
+        ensures content { self.new.content ≡ after_edit self.old.content edit }
+        ensures spare { self.old.spare ≤ self.new.spare + 1 }
+    {
+        self.enter(edit);
+    }
+}
+
+/// Applies an edit that fits. Where there is no memory for it, the content is as before.
+pub fn apply(alloc: Global, content: &mut Content, edit: &Edit) -> Result<(), NoMemory>
+    requires fits { Fits content.old.content edit.now }
+    requires next { HasNext content.old.content edit.now }
+    ensures ok { OnOk result (content.new.content ≡ after_edit content.old.content edit.now) }
+    ensures err { OnErr result (content.new.content ≡ content.old.content) }
+{
+    let copy = edit.copy(alloc)?;
+    content.make_room(1)?;
+    content.enter(copy);
+    Ok(())
+}

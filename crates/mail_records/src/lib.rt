@@ -1,0 +1,21 @@
+//! The records of an account, the edits that change them, and the histories that the edits make.
+//!
+//! An account is three finite maps from numbers to records: mailboxes, emails and threads (RFC 8620 and RFC 8621). Every
+//! change is a list of [`Edit`]s, each of which puts or drops one record. A [`Commit`] is the list of one change with
+//! the blobs that it brings. What a history, a position, a content at a position and a state are stands in `specs/`.
+#![tactic(auto)]
+
+mod content;
+mod copies;
+mod edits;
+mod fitting;
+mod records;
+mod table;
+#[cfg(test)]
+mod tests;
+
+pub use content::{Content, apply};
+pub use edits::{Commit, Edit, Edits, Stamp, copy_edits};
+pub use fitting::{apply_all_ready, apply_fitting, fits};
+pub use records::{Email, Mailbox, Summary, Thread};
+pub use table::{Record, Table};

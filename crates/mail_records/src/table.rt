@@ -1,0 +1,196 @@
+// A finite map from numbers to records: the records in number order in a vector, with room that may stand ready.
+ghost use Rattle.std.specs.Prelude.{◌≡◌, ◌+◌, ◌<◌, ◌≤◌, ℕ, [], Some, None, OnOk, IfOk, MatchOption, length, take, insert, remove, slice_set, vec_len, vec_capacity};
+ghost use Rattle.mail_records.specs.Tables.{IsPlace, IsTable, lookup, put, without};
+
+use jm_base::NoMemory;
+use std::alloc::Global;
+use std::marker::Model;
+
+/// A record of a table: it has a number, and can be copied.
+pub trait Record: Drop {
+    ghost number: { Self → ℕ };
+
+    /// Its number.
+    fn number(&self) -> u64
+        ensures { result ≡ number self.now };
+
+    /// The same record, in memory of its own.
+    fn copy(&self, alloc: Global) -> Result<Self, NoMemory>
+        ensures { IfOk result (λ r. r ≡ self.now) };
+}
+
+// The place of the first record whose number is not below this one.
+fn place_of<R: Record>(rows: &[R], number: u64) -> usize
+    requires { IsTable R.number rows.now }
+    ensures { IsPlace R.number number rows.now result }
+{
+    rows.partition_point(|row| row.number() < number)
+}
+
+// The record of a number.
+fn find<R: Record>(rows: &[R], number: u64) -> Option<&R>
+    requires { IsTable R.number rows.now }
+    ensures { MatchOption result (lookup R.number number rows.now ≡ None) (λ r. lookup R.number number rows.now ≡ Some r.now) }
+{
+    let place = place_of(rows, number);
+    if place == rows.len() {
+        return None;
+    }
+    let row = &rows[place];
+    if row.number() == number {
+        Some(row)
+    } else {
+        None
+    }
+}
+
+// An insertion for which room stands ready.
+fn insert_ready<R: Drop>(rows: &mut Vec<R>, place: usize, item: R)
+    requires place { place ≤ vec_len rows.old }
+    requires room { vec_len rows.old < vec_capacity rows.old }
+    ensures items { rows.new.items ≡ insert rows.old.items place item }
+    ensures len { vec_len rows.new ≡ vec_len rows.old + 1 }
+    ensures capacity { vec_capacity rows.new ≡ vec_capacity rows.old }
+{
+    match rows.insert(place, item) {
+        Ok(()) => {}
+        Err(_) => unreachable!(),
+    }
+}
+
+// Another record in the place of one.
+fn replace<R: Drop>(rows: &mut Vec<R>, place: usize, item: R)
+    requires { place < vec_len rows.old }
+    ensures items { rows.new.items ≡ slice_set rows.old.items place item }
+    ensures len { vec_len rows.new ≡ vec_len rows.old }
+    ensures capacity { vec_capacity rows.new ≡ vec_capacity rows.old }
+{
+    rows[place] = item;
+}
+
+// Puts a record in the place of its number, for which room stands ready.
+fn put_ready<R: Record>(rows: &mut Vec<R>, item: R)
+    requires table { IsTable R.number rows.old.items }
+    requires room { vec_len rows.old < vec_capacity rows.old }
+    ensures items { rows.new.items ≡ put R.number item rows.old.items }
+    ensures len { vec_len rows.new ≤ vec_len rows.old + 1 }
+    ensures capacity { vec_capacity rows.new ≡ vec_capacity rows.old }
+{
+    let number = item.number();
+    let place = place_of(rows, number);
+    if place == rows.len() {
+        insert_ready(rows, place, item);
+        return;
+    }
+    if rows[place].number() != number {
+        insert_ready(rows, place, item);
+        return;
+    }
+    replace(rows, place, item);
+}
+
+// Takes the record of a number out.
+fn take_out<R: Record>(rows: &mut Vec<R>, number: u64)
+    requires { IsTable R.number rows.old.items }
+    ensures items { rows.new.items ≡ without R.number number rows.old.items }
+    ensures len { vec_len rows.new ≤ vec_len rows.old }
+    ensures capacity { vec_capacity rows.new ≡ vec_capacity rows.old }
+{
+    let place = place_of(rows, number);
+    if place == rows.len() {
+        return;
+    }
+    if rows[place].number() == number {
+        let _gone = rows.remove(place);
+    }
+}
+
+// The same records, in memory of their own.
+fn copies<R: Record>(alloc: Global, rows: &[R]) -> Result<Vec<R>, NoMemory>
+    ensures { IfOk result (λ v. v.items ≡ rows.now) }
+{
+    let mut all = Vec::with_capacity(alloc, rows.len())?;
+    for row in rows {
+        all.push(row.copy(alloc)?)?;
+    }
+    Ok(all)
+}
+
+/// A finite map from numbers to records.
+#[derive(Drop)]
+pub struct Table<R: Record> {
+    rows: Vec<R>,
+}
+
+impl<R: Record> Model for Table<R> {
+    ghost use Rattle.std.specs.Prelude.{List, ℕ, ◌-◌, vec_len, vec_capacity};
+    ghost use Rattle.mail_records.specs.Tables.{IsTable, Rows};
+
+    ghost Value = { Rows R };
+
+    ghost view = { λ t. record { rows = t.rows.items; spare = vec_capacity t.rows - vec_len t.rows } };
+
+    ghost invariant = { λ t. IsTable R.number t.rows.items };
+}
+
+impl<R: Record> Table<R> {
+    /// No records. It takes no memory.
+    pub fn new(alloc: Global) -> Table<R>
+        ensures { result.rows ≡ [] }
+    {
+        Table {
+            rows: Vec::new(alloc),
+        }
+    }
+
+    /// The same records, in memory of their own.
+    pub fn copy(&self, alloc: Global) -> Result<Table<R>, NoMemory>
+        ensures { IfOk result (λ t. t.rows ≡ self.now.rows) }
+    {
+        Ok(Table {
+            rows: copies(alloc, &self.rows)?,
+        })
+    }
+
+    /// Lends the records, in number order.
+    pub fn as_slice(&self) -> &[R]
+        ensures rows { result.now ≡ self.now.rows }
+        ensures table { IsTable R.number result.now }
+    {
+        self.rows.as_slice()
+    }
+
+    /// Lends the record of a number.
+    pub fn get(&self, number: u64) -> Option<&R>
+        ensures { MatchOption result (lookup R.number number self.now.rows ≡ None) (λ r. lookup R.number number self.now.rows ≡ Some r.now) }
+    {
+        find(&self.rows, number)
+    }
+
+    /// Makes room for so many more records.
+    pub fn reserve(&mut self, more: usize) -> Result<(), NoMemory>
+        ensures rows { self.new.rows ≡ self.old.rows }
+        ensures spare { OnOk result (more ≤ self.new.spare) }
+        ensures no_less { self.old.spare ≤ self.new.spare }
+    {
+        self.rows.reserve(more)?;
+        Ok(())
+    }
+
+    /// Puts a record in the place of its number, for which room stands ready.
+    pub fn put_ready(&mut self, item: R)
+        requires { 1 ≤ self.old.spare }
+        ensures rows { self.new.rows ≡ put R.number item self.old.rows }
+        ensures spare { self.old.spare ≤ self.new.spare + 1 }
+    {
+        put_ready(&mut self.rows, item);
+    }
+
+    /// Takes the record of a number out, if it is there.
+    pub fn take_out(&mut self, number: u64)
+        ensures rows { self.new.rows ≡ without R.number number self.old.rows }
+        ensures spare { self.old.spare ≤ self.new.spare }
+    {
+        take_out(&mut self.rows, number);
+    }
+}

@@ -1,0 +1,238 @@
+// The log: a note of each edit after the floor, and the state of each kind.
+ghost use Rattle.std.specs.Prelude.{◌≡◌, ◌↔◌, ◌+◌, ◌-◌, ◌++◌, ◌∷◌, [], ◌<◌, ◌≤◌, ◌^◌, IsTrue, OnOk, OnErr, IfOk, length, map, take, drop, if◌then◌else◌, slice_index_or};
+ghost use Rattle.mail_records.specs.Histories.{floor_of};
+ghost use Rattle.mail_records.specs.States.{AreNamed, ids_between, is_kind, last_position};
+ghost use Rattle.state_log.specs.Logs.{ids_in, log_end, note_of};
+ghost use Rattle.state_log.specs.declared.notes.Note.{Note as TheNote};
+
+use crate::Note;
+use crate::notes::{last_place, note_of};
+use crate::touched::touched_in;
+use jm_base::{Kind, NoMemory, Numbers};
+use mail_records::Edit;
+use std::alloc::Global;
+use std::marker::Model;
+
+// A position of each kind of record.
+#[derive(Clone, Copy)]
+struct Positions {
+    mailbox: u64,
+    email: u64,
+    thread: u64,
+}
+
+/// The log of an account. Contracts see its floor, each kind's position there, the notes of the edits since, and
+/// `spare`: for how many more notes room stands ready.
+#[derive(Drop)]
+pub struct Log {
+    floor: u64,
+    floors: Positions,
+    states: Positions,
+    notes: Vec<Note>,
+}
+
+impl Model for Log {
+    ghost use Rattle.std.specs.Prelude.{◌-◌, vec_len, vec_capacity};
+    ghost use Rattle.state_log.specs.Logs.{Notes, Keeps};
+
+    ghost Value = { Notes };
+
+    ghost view = { λ l. record {
+      floor = l.floor;
+      floors = record { mailbox = l.floors.mailbox; email = l.floors.email; thread = l.floors.thread };
+      notes = l.notes.items;
+      spare = vec_capacity l.notes - vec_len l.notes;
+    } };
+
+    ghost invariant = { λ l. Keeps l.floor
+        (record { mailbox = l.floors.mailbox; email = l.floors.email; thread = l.floors.thread })
+        (record { mailbox = l.states.mailbox; email = l.states.email; thread = l.states.thread })
+        l.notes.items };
+}
+
+// The position of a kind.
+fn position_of(positions: &Positions, kind: Kind) -> u64
+    ensures { result ≡ floor_of (record { mailbox = positions.now.mailbox; email = positions.now.email; thread = positions.now.thread }) kind }
+{
+    match kind {
+        Kind::Mailbox => positions.mailbox,
+        Kind::Email => positions.email,
+        Kind::Thread => positions.thread,
+    }
+}
+
+// The positions with that of one kind moved.
+fn moved(positions: Positions, kind: Kind, position: u64) -> Positions
+    ensures mailbox { result.mailbox ≡ (if is_kind Kind.Mailbox kind then position else positions.mailbox) }
+    ensures email { result.email ≡ (if is_kind Kind.Email kind then position else positions.email) }
+    ensures thread { result.thread ≡ (if is_kind Kind.Thread kind then position else positions.thread) }
+{
+    match kind {
+        Kind::Mailbox => Positions {
+            mailbox: position,
+            ..positions
+        },
+        Kind::Email => Positions {
+            email: position,
+            ..positions
+        },
+        Kind::Thread => Positions {
+            thread: position,
+            ..positions
+        },
+    }
+}
+
+impl Log {
+    /// A log without notes that begins at this floor, with the positions of the kinds there. It takes no memory.
+    pub fn new(alloc: Global, floor: u64, mailbox: u64, email: u64, thread: u64) -> Log
+        requires { (mailbox ≤ floor) × (email ≤ floor) × (thread ≤ floor) }
+        ensures floor { result.floor ≡ floor }
+        ensures floors { result.floors ≡ record { mailbox = mailbox; email = email; thread = thread } }
+        ensures notes { result.notes ≡ [] }
+    {
+        let floors = Positions {
+            mailbox,
+            email,
+            thread,
+        };
+        Log {
+            floor,
+            floors,
+            states: floors,
+            notes: Vec::new(alloc),
+        }
+    }
+
+    /// The last position.
+    pub fn end(&self) -> u64
+        ensures { result ≡ log_end self.now }
+    {
+        self.floor + self.notes.len() as u64
+    }
+
+    /// The state of a kind: the position of its last edit, else its position at the floor.
+    pub fn state_of(&self, kind: Kind) -> u64
+        ensures { result ≡ last_position kind self.now.floor self.now.floors (ids_in self.now.notes) }
+    {
+        position_of(&self.states, kind)
+    }
+
+    /// The state of a kind at a position: the position of its last edit up to there, else its position at the floor.
+    pub fn state_at(&self, kind: Kind, position: u64) -> u64
+        ensures { result ≡ last_position kind self.now.floor self.now.floors (take (position - self.now.floor) (ids_in self.now.notes)) }
+    {
+        match last_place(self.notes_upto(position), kind) {
+            Some(place) => self.floor + place as u64,
+            None => position_of(&self.floors, kind),
+        }
+    }
+
+    // The notes of the edits up to a position.
+    fn notes_upto(&self, position: u64) -> &[Note]
+        ensures { result.now ≡ take (position - self.now.floor) self.now.notes }
+    {
+        let count = position.saturating_sub(self.floor);
+        if count >= self.notes.len() as u64 {
+            return self.notes.as_slice();
+        }
+        &self.notes[..count as usize]
+    }
+
+    /// Whether all edits of a kind after a position are known: it is from the kind's position at the floor to the end.
+    pub fn reaches(&self, kind: Kind, position: u64) -> bool
+        ensures { IsTrue result ↔ ((floor_of self.now.floors kind ≤ position) × (position ≤ log_end self.now)) }
+    {
+        position_of(&self.floors, kind) <= position && position <= self.end()
+    }
+
+    /// The numbers that the edits of a kind after one position, and up to another, name, in number order.
+    pub fn touched(
+        &self,
+        alloc: Global,
+        kind: Kind,
+        from: u64,
+        upto: u64,
+    ) -> Result<Numbers, NoMemory>
+        requires order { from ≤ upto }
+        requires within { upto ≤ log_end self.now }
+        ensures { IfOk result (AreNamed kind (ids_between self.now.floor from upto (ids_in self.now.notes))) }
+    {
+        touched_in(alloc, self.notes_between(from, upto), kind)
+    }
+
+    // The notes of the edits after one position, up to another.
+    fn notes_between(&self, from: u64, upto: u64) -> &[Note]
+        requires order { from ≤ upto }
+        requires within { upto ≤ log_end self.now }
+        ensures { result.now ≡ drop (from - self.now.floor) (take (upto - self.now.floor) self.now.notes) }
+    {
+        let first = from.saturating_sub(self.floor) as usize;
+        let notes = self.notes_upto(upto);
+        &notes[first..]
+    }
+
+    /// The note of the edit at a position above the floor.
+    pub fn note(&self, position: u64) -> Note
+        requires above { self.now.floor < position }
+        requires within { position ≤ log_end self.now }
+        ensures { (d : TheNote) → result ≡ slice_index_or self.now.notes (position - self.now.floor - 1) d }
+    {
+        self.notes[(position - self.floor - 1) as usize]
+    }
+
+    /// Makes room for notes of these edits. Where there is none, all but the room is as before.
+    pub fn reserve(&mut self, edits: &[Edit]) -> Result<(), NoMemory>
+        ensures same { self.new ≡ record self.old { spare = self.new.spare } }
+        ensures spare { OnOk result (length edits.now ≤ self.new.spare) }
+        ensures no_less { self.old.spare ≤ self.new.spare }
+    {
+        self.notes.reserve(edits.len())?;
+        Ok(())
+    }
+
+    /// Adds a note of an edit. Where there is no memory for it, all but the room is as before.
+    pub fn push(&mut self, edit: &Edit) -> Result<(), NoMemory>
+        requires { log_end self.old + 1 < 2 ^ 64 }
+        ensures ok { OnOk result (self.new ≡ record self.old { notes = self.old.notes ++ note_of edit.now ∷ []; spare = self.new.spare }) }
+        ensures err { OnErr result (self.new ≡ record self.old { spare = self.new.spare }) }
+    {
+        self.notes.reserve(1)?;
+        self.note_ready(edit);
+        Ok(())
+    }
+
+    /// Adds a note of an edit, for which room stands ready. It takes no memory.
+    pub fn push_ready(&mut self, edit: Edit)
+        requires room { 1 ≤ self.old.spare }
+        requires short { log_end self.old + 1 < 2 ^ 64 }
+        ensures pushed { self.new ≡ record self.old { notes = self.old.notes ++ note_of edit ∷ []; spare = self.new.spare } }
+        ensures spare { self.old.spare ≤ self.new.spare + 1 }
+    {
+        self.note_ready(&edit);
+    }
+
+    /// The same for an edit that is lent.
+    pub fn note_ready(&mut self, edit: &Edit)
+        requires room { 1 ≤ self.old.spare }
+        requires short { log_end self.old + 1 < 2 ^ 64 }
+        ensures pushed { self.new ≡ record self.old { notes = self.old.notes ++ note_of edit.now ∷ []; spare = self.new.spare } }
+        ensures spare { self.old.spare ≤ self.new.spare + 1 }
+    {
+        let note = note_of(edit);
+        let position = self.floor + self.notes.len() as u64 + 1;
+        self.states = moved(self.states, note.kind, position);
+        self.notes.push_reserved(note);
+    }
+}
+
+/// Adds notes of edits in order, for which room stands ready. It takes no memory.
+pub fn note_all_ready(log: &mut Log, edits: &[Edit])
+    requires room { length edits.now ≤ log.old.spare }
+    requires short { log_end log.old + length edits.now < 2 ^ 64 }
+    ensures { log.new ≡ record log.old { notes = log.old.notes ++ map note_of edits.now; spare = log.new.spare } }
+{
+    for edit in edits {
+        log.note_ready(edit);
+    }
+}

@@ -1,0 +1,92 @@
+// What a log keeps of an edit.
+ghost use Rattle.std.specs.Prelude.{◌≡◌, ◌≤◌, false, true, IfSome, length};
+ghost use Rattle.mail_records.specs.States.{is_kind, is_kind_of, last_place};
+ghost use Rattle.state_log.specs.Logs.{ids_in, note_of};
+
+use jm_base::Kind;
+use mail_records::Edit;
+
+/// What an edit names, and how.
+#[derive(Clone, Copy, Debug, PartialEq, Eq)]
+pub struct Note {
+    /// The kind of the record that it puts or drops.
+    pub kind: Kind,
+    /// That record's number.
+    pub number: u64,
+    /// The thread that it names, where the record is an email.
+    pub thread: Option<u64>,
+    /// Whether it puts the record.
+    pub put: bool,
+    /// Whether the record was there before, as it is before a drop.
+    pub was: bool,
+    /// Whether it changes only the counts of a mailbox.
+    pub counts: bool,
+}
+
+// A note of an edit that puts a record.
+fn put_note(kind: Kind, number: u64, thread: Option<u64>, was: bool, counts: bool) -> Note
+    ensures { result ≡ record { kind = kind; number = number; thread = thread; put = true; was = was; counts = counts } }
+{
+    Note {
+        kind,
+        number,
+        thread,
+        put: true,
+        was,
+        counts,
+    }
+}
+
+// A note of an edit that drops a record.
+fn drop_note(kind: Kind, number: u64, thread: Option<u64>) -> Note
+    ensures { result ≡ record { kind = kind; number = number; thread = thread; put = false; was = true; counts = false } }
+{
+    Note {
+        kind,
+        number,
+        thread,
+        put: false,
+        was: true,
+        counts: false,
+    }
+}
+
+/// The note of an edit.
+pub fn note_of(edit: &Edit) -> Note
+    ensures { result ≡ note_of edit.now }
+{
+    match edit {
+        Edit::PutMailbox { item, was, counts } => {
+            put_note(Kind::Mailbox, item.number, None, *was, *counts)
+        }
+        Edit::DropMailbox { number } => drop_note(Kind::Mailbox, *number, None),
+        Edit::PutEmail { item, was } => {
+            put_note(Kind::Email, item.number, Some(item.thread), *was, false)
+        }
+        Edit::DropEmail { number, thread } => drop_note(Kind::Email, *number, Some(*thread)),
+        Edit::PutThread { item, was } => put_note(Kind::Thread, item.number, None, *was, false),
+        Edit::DropThread { number } => drop_note(Kind::Thread, *number, None),
+    }
+}
+
+/// Whether a note is of a kind.
+pub fn is_of(note: &Note, kind: Kind) -> bool
+    ensures { result ≡ is_kind kind note.now.kind }
+{
+    note.kind == kind
+}
+
+/// The place of the last note of a kind, counted from 1.
+pub fn last_place(notes: &[Note], kind: Kind) -> Option<usize>
+    ensures value { result ≡ last_place (is_kind_of kind) (ids_in notes.now) }
+    ensures within { IfSome result (λ n. n ≤ length notes.now) }
+{
+    let mut place = notes.len();
+    while place > 0 {
+        if is_of(&notes[place - 1], kind) {
+            return Some(place);
+        }
+        place -= 1;
+    }
+    None
+}

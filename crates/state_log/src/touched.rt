@@ -1,0 +1,41 @@
+// The numbers of a kind that notes name, in order.
+ghost use Rattle.std.specs.Prelude.{◌≡◌, ℕ, IfOk, ◌==◌};
+ghost use Rattle.std.specs.List.{list_any};
+ghost use Rattle.std.specs.List.Sorted.{IsStrictlyIncreasing};
+ghost use Rattle.mail_records.specs.States.{AreNamed};
+ghost use Rattle.state_log.specs.Logs.{ids_in, numbers_named};
+
+use crate::Note;
+use crate::notes::is_of;
+use jm_base::{Kind, NoMemory, Numbers};
+use std::alloc::Global;
+
+fn numbers_named(alloc: Global, notes: &[Note], kind: Kind) -> Result<Vec<u64>, NoMemory>
+    ensures { IfOk result (λ v. v.items ≡ numbers_named kind (ids_in notes.now)) }
+{
+    let mut numbers = Vec::new(alloc);
+    for note in notes {
+        if is_of(note, kind) {
+            numbers.push(note.number)?;
+        }
+    }
+    Ok(numbers)
+}
+
+// In number order, each once.
+fn put_in_order(numbers: &mut Vec<u64>)
+    ensures rise { IsStrictlyIncreasing numbers.new.items }
+    ensures same { (n : ℕ) → list_any (λ x. x == n) numbers.new.items ≡ list_any (λ x. x == n) numbers.old.items }
+{
+    numbers.sort_unstable();
+    numbers.dedup();
+}
+
+/// The numbers of a kind that the notes name, in number order.
+pub fn touched_in(alloc: Global, notes: &[Note], kind: Kind) -> Result<Numbers, NoMemory>
+    ensures { IfOk result (AreNamed kind (ids_in notes.now)) }
+{
+    let mut numbers = numbers_named(alloc, notes, kind)?;
+    put_in_order(&mut numbers);
+    Ok(Numbers::from_vec(numbers))
+}
