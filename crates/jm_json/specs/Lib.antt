@@ -13,3 +13,4 @@ pub mod Explained
 pub mod Call
 pub mod Invoked
 pub mod Find
+pub mod Taken

@@ -6,12 +6,14 @@
 
 mod copies;
 mod invocation;
+mod parser;
 mod reader;
 mod tree;
 mod writer;
 
 pub use copies::copy;
 pub use invocation::{Created, Invocation, Invocations, Made, Replied};
-pub use reader::{ReadFault, read};
+pub use parser::Scratch;
+pub use reader::{ReadFault, read, read_with};
 pub use tree::{Items, Json, Member, Members};
 pub use writer::{write, write_after};
