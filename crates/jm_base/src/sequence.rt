@@ -85,4 +85,14 @@ impl<T: Drop> Sequence<T> {
         self.items.push(item)?;
         Ok(())
     }
+
+    /// Puts the items of another list at the end.
+    pub fn append(&mut self, more: Sequence<T>) -> Result<(), NoMemory>
+        ensures ok { OnOk result (self.new ≡ self.old ++ more) }
+        ensures err { OnErr result (self.new ≡ self.old) }
+    {
+        let mut items = more.into_vec();
+        self.items.append(&mut items)?;
+        Ok(())
+    }
 }

@@ -1,13 +1,19 @@
-// A library with one function.
+//! What a program reads from and writes to: sources and sinks that count their faults.
+//!
+//! A call answers [`Failed`] only where the count of faults rose in that call. Content is told where it can be: over memory
+//! it is, over a file or a terminal it is not, and then the clauses on content say nothing.
 #![tactic(auto)]
 
-ghost use Rattle.std.specs.Prelude.{◌≡◌};
-ghost use Rattle.jm_edge.specs.Echo.{echo_of};
+mod adapter;
+mod fault;
+mod memory;
+mod sink;
+mod source;
+#[cfg(test)]
+mod tests;
 
-// The `ensures` clause is the contract: what `echo` returns is `echo_of` of its argument, a definition
-// in `specs/Echo.antt`, which a caller's clause can cite too.
-pub fn echo(x: usize) -> usize
-    ensures { result ≡ echo_of x }
-{
-    x
-}
+pub use adapter::{Reading, Writing};
+pub use fault::{EdgeFault, Failed};
+pub use memory::{MemorySink, MemorySource};
+pub use sink::{Sink, put_all};
+pub use source::Source;

@@ -1,0 +1,77 @@
+// Readers and writers of std as sources and sinks. What a file, a terminal or a pipe holds is not told.
+ghost use Rattle.std.specs.Prelude.{◌≡◌};
+
+use crate::{Failed, Sink, Source};
+use std::io::{Read, Write};
+
+/// A reader of std, with its faults counted.
+#[derive(Drop)]
+pub struct Reading<R: Drop> {
+    inner: R,
+    faults: u64,
+}
+
+impl<R: Read + Drop> Reading<R> {
+    /// The reader as a source that has not failed yet.
+    pub fn new(inner: R) -> Reading<R>
+        ensures reader { result.inner ≡ inner }
+        ensures faults { result.faults ≡ 0 }
+    {
+        Reading { inner, faults: 0 }
+    }
+}
+
+impl<R: Read + Drop> Source for Reading<R> {
+    ghost left = { λ s. R.remaining s.inner };
+
+    ghost faults = { λ s. s.faults };
+
+    fn read(&mut self, room: &mut [u8]) -> Result<usize, Failed> {
+        match self.inner.read(room) {
+            Ok(count) => Ok(count),
+            Err(_) => {
+                self.faults = self.faults.saturating_add(1);
+                Err(Failed)
+            }
+        }
+    }
+}
+
+/// A writer of std, with its faults counted. A writer that takes nothing of a piece that is not empty has failed.
+#[derive(Drop)]
+pub struct Writing<W: Drop> {
+    inner: W,
+    faults: u64,
+}
+
+impl<W: Write + Drop> Writing<W> {
+    /// The writer as a sink that has not failed yet.
+    pub fn new(inner: W) -> Writing<W>
+        ensures writer { result.inner ≡ inner }
+        ensures faults { result.faults ≡ 0 }
+    {
+        Writing { inner, faults: 0 }
+    }
+}
+
+impl<W: Write + Drop> Sink for Writing<W> {
+    ghost held = { λ s. W.contents s.inner };
+
+    ghost faults = { λ s. s.faults };
+
+    fn put(&mut self, piece: &[u8]) -> Result<usize, Failed> {
+        match self.inner.write(piece) {
+            Ok(count) => {
+                if count == 0 && !piece.is_empty() {
+                    self.faults = self.faults.saturating_add(1);
+                    return Err(Failed);
+                }
+                Ok(count)
+            }
+            Err(_) => {
+                self.faults = self.faults.saturating_add(1);
+                Err(Failed)
+            }
+        }
+    }
+}

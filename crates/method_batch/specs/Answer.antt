@@ -1,0 +1,65 @@
+-- What is answered to the calls of a request, one after the other (RFC 8620, section 3.4).
+use Rattle.std.specs.Prelude.{◌≡◌, ◌⊎◌, ℕ, List, [], ◌∷◌, ◌++◌, take, Bool, cond, codes, bytes_eq}
+use Rattle.jm_json.specs.Tree.{text, object, fields_of}
+use Rattle.jm_json.specs.Call.{Call}
+use Rattle.jm_json.specs.declared.invocation.Created.{Created}
+use Rattle.jm_json.specs.declared.invocation.Replied.{Replied}
+use Rattle.method_batch.specs.Method.{is_allowed}
+use Rattle.method_batch.specs.declared.progress.Progress.{Progress}
+
+-- a call that a port was asked, with what the request had made by then, and what it replied
+pub record Asked : Type 0 where
+  pub call : Call
+  pub made : List Created
+  pub replied : Replied
+
+-- A port goes from one state to another by a relation: this call, with this made, may be replied so. These were the calls
+-- that took it from one state to another.
+abbrev pub Runs : {S : Type 0} → (S → Call → List Created → Replied → S → Type 0) → S → List Asked → S → Type 0
+Runs answers s [] s' = s' ≡ s
+Runs {S} answers s (a ∷ rest) s' = (m : S) × answers s a.call a.made a.replied m × Runs answers m rest s'
+
+abbrev pub is_echo : Call → Bool
+is_echo c = bytes_eq c.name (codes "Core/echo")
+
+-- the response that says an error (RFC 8620, section 3.6.2)
+abbrev pub error_of : List ℕ → List ℕ → Call
+error_of kind id = record { name = codes "error"; args = object (fields_of ((codes "type", text kind) ∷ [])); id = id }
+
+-- What one call is replied, and what the port was asked for it: an unknown method is an error, an echo is the call itself,
+-- and any other call is what the port replies.
+abbrev pub RepliesOne : Bool → Bool → Call → List Created → List Asked → Replied → Type 0
+RepliesOne core mail c made asked replied =
+    cond (is_allowed core mail c.name)
+    (cond (is_echo c) ((asked ≡ []) × (replied ≡ record { responses = c ∷ []; made = [] })) (asked ≡ record { call = c; made = made; replied = replied } ∷ []))
+    ((asked ≡ []) × (replied ≡ record { responses = error_of (codes "unknownMethod") c.id ∷ []; made = [] }))
+
+-- the progress after a reply
+abbrev pub after_reply : Progress → Replied → Progress
+after_reply p r = record { responses = p.responses ++ r.responses; made = p.made ++ r.made }
+
+-- the calls in order, each from the progress after the one before
+abbrev pub Answers : Bool → Bool → List Call → Progress → List Asked → Progress → Type 0
+Answers core mail [] before asked after = (asked ≡ []) × (after ≡ before)
+Answers core mail (c ∷ cs) before asked after =
+    (first : List Asked) × (more : List Asked) × (replied : Replied) × (asked ≡ first ++ more)
+    × RepliesOne core mail c before.made first replied × Answers core mail cs (after_reply before replied) more after
+
+-- at the beginning of a request
+abbrev pub no_progress : Progress
+no_progress = record { responses = []; made = [] }
+
+-- ---- of a port that goes from the state s to s' meanwhile
+
+-- one call was performed, from one progress to another
+abbrev pub HasPerformed : {S : Type 0} → (S → Call → List Created → Replied → S → Type 0) → S → S → Bool → Bool → Call → Progress → Progress → Type 0
+HasPerformed answers s s' core mail c before after =
+    (asked : List Asked) × (replied : Replied) × Runs answers s asked s' × RepliesOne core mail c before.made asked replied × (after ≡ after_reply before replied)
+
+-- it was not, or it was
+abbrev pub MayHavePerformed : {S : Type 0} → (S → Call → List Created → Replied → S → Type 0) → S → S → Bool → Bool → Call → Progress → Type 0
+MayHavePerformed answers s s' core mail c before = (s' ≡ s) ⊎ ((after : Progress) × HasPerformed answers s s' core mail c before after)
+
+-- the first calls were performed, and no other
+abbrev pub HasBegunCalls : {S : Type 0} → (S → Call → List Created → Replied → S → Type 0) → S → S → Bool → Bool → List Call → Type 0
+HasBegunCalls answers s s' core mail cs = (n : ℕ) × (asked : List Asked) × (after : Progress) × Runs answers s asked s' × Answers core mail (take n cs) no_progress asked after

@@ -1,0 +1,4 @@
+pub mod Method
+pub mod Request
+pub mod Answer
+pub mod Outcome

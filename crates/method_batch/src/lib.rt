@@ -1,0 +1,18 @@
+//! The replies of a request (RFC 8620, section 3), over any port that answers its methods.
+#![tactic(auto)]
+
+mod answer;
+mod calls;
+mod method;
+mod outcome;
+mod port;
+mod progress;
+mod reply;
+mod request;
+mod response;
+mod using;
+
+pub use answer::{answer_request, answer_tree};
+pub use outcome::{Outcome, Problem};
+pub use port::Port;
+pub use response::error;

@@ -1,0 +1,72 @@
+// How far a request has come: its calls are performed one after the other.
+ghost use Rattle.std.specs.Prelude.{◌≡◌, List, IfOk, OnOk, OnErr};
+ghost use Rattle.jm_json.specs.Invoked.{call_of};
+
+use crate::port::Port;
+use crate::reply::reply;
+use jm_base::NoMemory;
+use jm_json::{Invocation, Invocations, Made, Replied};
+use std::alloc::Global;
+use std::collections::VecDeque;
+
+/// The responses so far, and what the request has made so far.
+#[derive(Drop)]
+pub struct Progress {
+    pub responses: Invocations,
+    pub made: Made,
+}
+
+impl Progress {
+    ghost use Rattle.method_batch.specs.Answer.{Asked, Runs, Answers, after_reply, no_progress, HasPerformed, MayHavePerformed, HasBegunCalls};
+
+    /// Performs calls in order. After want of memory the first ones were performed, and no other.
+    pub(crate) fn of_calls<P: Port>(
+        alloc: Global,
+        port: &mut P,
+        core: bool,
+        mail: bool,
+        calls: Invocations,
+    ) -> Result<Progress, NoMemory>
+        ensures done { IfOk result (λ after. (asked : List Asked) × Runs P.answers port.old asked port.new
+            × Answers core mail calls no_progress asked after) }
+        ensures begun { OnErr result (HasBegunCalls P.answers port.old port.new core mail calls) }
+    {
+        let mut progress = Progress {
+            responses: Invocations::new(alloc),
+            made: Made::new(alloc),
+        };
+        let mut rest = VecDeque::from_vec(calls.into_vec());
+        while let Some(call) = rest.pop_front() {
+            match progress.go_on(alloc, port, core, mail, call) {
+                Ok(()) => {}
+                Err(refused) => return Err(refused),
+            }
+        }
+        Ok(progress)
+    }
+
+    fn go_on<P: Port>(
+        &mut self,
+        alloc: Global,
+        port: &mut P,
+        core: bool,
+        mail: bool,
+        call: Invocation,
+    ) -> Result<(), NoMemory>
+        ensures ok { OnOk result (HasPerformed P.answers port.old port.new core mail (call_of call) self.old self.new) }
+        ensures err { OnErr result (MayHavePerformed P.answers port.old port.new core mail (call_of call) self.old) }
+    {
+        match reply(alloc, port, core, mail, call, &self.made) {
+            Ok(replied) => self.take(replied),
+            Err(refused) => Err(refused),
+        }
+    }
+
+    fn take(&mut self, replied: Replied) -> Result<(), NoMemory>
+        ensures { OnOk result (self.new ≡ after_reply self.old replied) }
+    {
+        self.responses.append(replied.responses)?;
+        self.made.append(replied.made)?;
+        Ok(())
+    }
+}

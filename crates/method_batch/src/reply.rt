@@ -1,0 +1,52 @@
+// The reply to one call: by its name alone, or by the port.
+ghost use Rattle.std.specs.Prelude.{◌≡◌, List, [], ◌∷◌, IfOk, OnErr};
+ghost use Rattle.jm_json.specs.Invoked.{call_of};
+ghost use Rattle.method_batch.specs.Answer.{Asked, Runs, RepliesOne, is_echo};
+
+use crate::method::is_allowed;
+use crate::port::Port;
+use crate::response::error;
+use jm_base::NoMemory;
+use jm_json::{Invocation, Invocations, Made, Replied};
+use std::alloc::Global;
+
+/// The reply to a call of a request that uses the capabilities of the core and of mail, or not, and that has made this much
+/// so far.
+pub(crate) fn reply<P: Port>(
+    alloc: Global,
+    port: &mut P,
+    core: bool,
+    mail: bool,
+    call: Invocation,
+    made: &Made,
+) -> Result<Replied, NoMemory>
+    ensures replied { IfOk result (λ r. (asked : List Asked) × Runs P.answers port.old asked port.new
+        × RepliesOne core mail (call_of call) made.now asked r) }
+    ensures same { OnErr result (port.new ≡ port.old) }
+{
+    if !is_allowed(core, mail, call.name.as_str()) {
+        return alone(alloc, error(alloc, "unknownMethod", call.id)?);
+    }
+    if is_echo(&call) {
+        return alone(alloc, call);
+    }
+    port.call(alloc, &call, made)
+}
+
+fn is_echo(call: &Invocation) -> bool
+    ensures { result ≡ is_echo (call_of call.now) }
+{
+    call.name.as_str() == "Core/echo"
+}
+
+// The reply that is one response, and that made nothing.
+fn alone(alloc: Global, response: Invocation) -> Result<Replied, NoMemory>
+    ensures { IfOk result (λ r. r ≡ record { responses = call_of response ∷ []; made = [] }) }
+{
+    let mut responses = Invocations::new(alloc);
+    responses.push(response)?;
+    Ok(Replied {
+        responses,
+        made: Made::new(alloc),
+    })
+}
