@@ -8,6 +8,8 @@ mod copies;
 mod invocation;
 mod parser;
 mod reader;
+#[cfg(test)]
+mod tests;
 mod tree;
 mod writer;
 
