@@ -6,3 +6,4 @@ pub mod Puts
 pub mod Integers
 pub mod Writings
 pub mod Parsing
+pub mod Parts

@@ -14,3 +14,4 @@ pub mod Call
 pub mod Invoked
 pub mod Find
 pub mod Taken
+pub mod Pointer
