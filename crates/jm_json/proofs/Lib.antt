@@ -3,3 +3,7 @@ pub mod Values
 pub mod Readings
 pub mod Lists
 pub mod Puts
+pub mod Integers
+pub mod Writings
+pub mod Parsing
+pub mod Parts

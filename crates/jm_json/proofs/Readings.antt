@@ -1,7 +1,10 @@
 -- What is read is the reading of the bytes.
-use Rattle.std.proofs.Common.{◌≡◌, ℕ, List, Bool, true, false, cond, Some, None, IsUtf8, refl, sym, ap, ◌∙◌}
+use Rattle.std.proofs.Common.{◌≡◌, ℕ, List, [], option_and_then, Bool, true, false, cond, Some, None, IsUtf8, refl, sym, ap, ◌∙◌}
 use Rattle.std.specs.Str.{is_utf8}
 use Rattle.std.proofs.lemmas.Str.{IsUtf8-from_is_utf8, is_utf8-from_IsUtf8}
+use Rattle.json.specs.Token.{Token}
+use Rattle.json.specs.Lex.{tokens}
+use Rattle.json.specs.Json as json
 use Rattle.serde_json.specs.Data.{Data}
 use Rattle.serde_json.specs.Read as json_text
 use Rattle.jm_json.specs.Tree.{Tree}
@@ -25,3 +28,7 @@ taken_whole bs d t u e good same = taken bs d u e ∙ ap (λ o. by_number o d) g
 
 pub taken_bad : (bs : List ℕ) (d : Data) (path : List ℕ) → IsUtf8 bs → json_text.read bs ≡ Some d → first_bad d ≡ Some path → reading_of bs ≡ not_whole path
 taken_bad bs d path u e bad = taken bs d u e ∙ ap (λ o. by_number o d) bad
+
+-- one value and no token after it is what is read
+pub read_from : (bs : List ℕ) (j : json.Json) (d : Data) → json.value json_text.max_depth (tokens bs) ≡ Some (j, []) → json_text.of_json j ≡ Some d → json_text.read bs ≡ Some d
+read_from bs j d e f = ap (λ o. option_and_then json_text.of_json (option_and_then (λ (p : json.Json × List Token). json.if_last p.0 p.1) o)) e ∙ f

@@ -17,12 +17,7 @@ use Rattle.jm_json.specs.Order.{KeysRise}
 use Rattle.jm_json.specs.Reading.{tree_from, trees_from, fields_from}
 use Rattle.jm_json.specs.Json.{tree_of, member_of}
 use Rattle.jm_json.specs.Data.{data_of, items_of, members_of}
-use Rattle.jm_json.specs.declared.tree.Json.{Json}
 use Rattle.jm_json.specs.declared.tree.Member.{Member}
-
-pub items_same : (js : List Json) → view.items_of (map (λ j. data_of (tree_of j)) js) ≡ items_of (trees_of (map tree_of js))
-items_same [] = refl
-items_same (j ∷ js) = ap (json.item (data_of (tree_of j))) (items_same js)
 
 below_at : (k : List ℕ) (ms : List Member) (i : ℕ) (d : Member) → i < length ms → AllByRecursion (λ y. slice_cmp nat_cmp k y ≡ Less) (keys_of (map member_of ms)) → slice_cmp nat_cmp k (get_or ms i d).name ≡ Less
 below_at k [] i d h all = absurd (omega arith)

@@ -13,3 +13,5 @@ pub mod Explained
 pub mod Call
 pub mod Invoked
 pub mod Find
+pub mod Taken
+pub mod Pointer

@@ -6,12 +6,18 @@
 
 mod copies;
 mod invocation;
+mod parser;
+mod paths;
 mod reader;
+#[cfg(test)]
+mod tests;
 mod tree;
 mod writer;
 
 pub use copies::copy;
 pub use invocation::{Created, Invocation, Invocations, Made, Replied};
-pub use reader::{ReadFault, read};
+pub use parser::Scratch;
+pub use paths::{child, part_end, pointer};
+pub use reader::{ReadFault, read, read_with};
 pub use tree::{Items, Json, Member, Members};
 pub use writer::{write, write_after};

@@ -13,6 +13,7 @@ ghost use Rattle.jm_json.specs.Data.{data_of, items_of, members_of};
 ghost use Rattle.jm_json.specs.Whole.{is_whole, first_bad, first_bad_item, first_bad_member, under, pointer_part};
 ghost use Rattle.jm_json.specs.Faults.{Refuses};
 
+use crate::parser::{Scratch, Stop, read_plainly};
 use crate::tree::{Items, Json, Members};
 use jm_base::{NoMemory, Text};
 use serde_json::{Map, Number, Value};
@@ -58,6 +59,29 @@ impl From<NoMemory> for Misfit {
 /// The tree that JSON bytes are, nested at most 127 deep, all of whose numbers are whole and from -2^53+1 to 2^53-1. Of a
 /// repeated key the last member counts. The pointer that is shown names the first other number in the order of the keys.
 pub fn read(alloc: Global, bytes: &[u8]) -> Result<Json, ReadFault>
+    ensures { MatchResult result (λ t. reading_of bytes.now ≡ reading.whole (tree_of t))
+        (λ e. Explains e (reading_of bytes.now)) }
+{
+    let mut scratch = Scratch::new(alloc);
+    read_with(alloc, &mut scratch, bytes)
+}
+
+/// The same, with room that is kept from one call to the next.
+pub fn read_with(alloc: Global, scratch: &mut Scratch, bytes: &[u8]) -> Result<Json, ReadFault>
+    ensures { MatchResult result (λ t. reading_of bytes.now ≡ reading.whole (tree_of t))
+        (λ e. Explains e (reading_of bytes.now)) }
+{
+    match read_plainly(alloc, scratch, bytes) {
+        Ok(tree) => Ok(tree),
+        Err(Stop::NoMemory) => Err(ReadFault::NoMemory),
+        Err(Stop::Irregular) => read_exactly(alloc, bytes),
+    }
+}
+
+// By way of a value, which is looked through for what is wrong with it.
+#[cold]
+#[inline(never)]
+fn read_exactly(alloc: Global, bytes: &[u8]) -> Result<Json, ReadFault>
     ensures { MatchResult result (λ t. reading_of bytes.now ≡ reading.whole (tree_of t))
         (λ e. Explains e (reading_of bytes.now)) }
 {

@@ -1,12 +1,13 @@
 // Writing a tree as JSON bytes.
-ghost use Rattle.std.specs.Prelude.{◌≡◌, ◌≤◌, ◌++◌, None, IfOk, OnOk, OnErr, map};
-ghost use Rattle.serde_json.specs.Data.{depth};
+ghost use Rattle.std.specs.Prelude.{◌≡◌, ◌≤◌, ◌++◌, Some, None, IfOk, OnOk, OnErr, IsUtf8, map};
+ghost use Rattle.serde_json.specs.Data.{depth, number};
+ghost use Rattle.serde_json.specs.Find.{of_integer};
+ghost use Rattle.serde_json.specs.Read as json_text;
 ghost use Rattle.serde_json.specs.Read.{max_depth};
+ghost use Rattle.serde_json.specs.Written.{compact_text, WritesValue, WritesItems, WritesMembers};
 ghost use Rattle.jm_json.specs.Whole.{first_bad};
 ghost use Rattle.jm_json.specs.Reading as reading;
 ghost use Rattle.jm_json.specs.Reading.{reading_of};
-ghost use Rattle.serde_json.specs.View.{view, items_view, members_view};
-ghost use Rattle.serde_json.specs.Written.{compact_text};
 ghost use Rattle.jm_json.specs.Tree.{trees_of, fields_of};
 ghost use Rattle.jm_json.specs.Json.{tree_of, member_of};
 ghost use Rattle.jm_json.specs.Order.{KeysRise};
@@ -14,8 +15,12 @@ ghost use Rattle.jm_json.specs.Data.{data_of, items_of, members_of};
 
 use crate::tree::{Json, Member};
 use jm_base::{Bytes, NoMemory};
-use serde_json::{Map, Value};
+use json::Writer;
 use std::alloc::{AllocError, Global};
+use std::mem;
+
+// Most replies fit into this many bytes, so that one allocation is enough.
+const ROOM: usize = 256;
 
 /// The compact text of a tree, with keys in byte order (RFC 8259). It is read back as the tree, where that nests at most
 /// 127 deep and its numbers are from -2^53+1 to 2^53-1.
@@ -24,47 +29,9 @@ pub fn write(alloc: Global, tree: &Json) -> Result<Bytes, NoMemory>
     ensures reads_back { IfOk result (λ b. depth (data_of (tree_of tree.now)) ≤ max_depth
         → first_bad (data_of (tree_of tree.now)) ≡ None → reading_of b ≡ reading.whole (tree_of tree.now)) }
 {
-    let value = value_of(alloc, tree)?;
-    Ok(Bytes::from_vec(value.to_vec(alloc)?))
-}
-
-#[cycle(value)]
-fn value_of(alloc: Global, tree: &Json) -> Result<Value, AllocError>
-    ensures { IfOk result (λ v. view v ≡ data_of (tree_of tree.now)) }
-{
-    match tree {
-        Json::Null => Ok(Value::Null),
-        Json::Bool(b) => Ok(Value::Bool(*b)),
-        Json::Int(z) => Ok(Value::from(*z)),
-        Json::Text(text) => Ok(Value::String(String::from_str(alloc, text.as_str())?)),
-        Json::List(items) => Ok(Value::Array(array_of(alloc, items.as_slice())?)),
-        Json::Object(members) => Ok(Value::Object(map_of(alloc, members.as_slice())?)),
-    }
-}
-
-#[cycle(value)]
-fn array_of(alloc: Global, items: &[Json]) -> Result<Vec<Value>, AllocError>
-    ensures { IfOk result (λ v. items_view v.items ≡ items_of (trees_of (map tree_of items.now))) }
-{
-    let mut values = Vec::with_capacity(alloc, items.len())?;
-    for item in items {
-        values.push(value_of(alloc, item)?)?;
-    }
-    Ok(values)
-}
-
-#[cycle(value)]
-fn map_of(alloc: Global, members: &[Member]) -> Result<Map<String, Value>, AllocError>
-    requires { KeysRise (map member_of members.now) }
-    ensures { IfOk result
-        (λ m. members_view m.entries ≡ members_of (fields_of (map member_of members.now))) }
-{
-    let mut values = Map::new(alloc);
-    for member in members {
-        let name = String::from_str(alloc, member.name.as_str())?;
-        drop(values.insert(name, value_of(alloc, &member.value)?)?);
-    }
-    Ok(values)
+    let mut bytes = Vec::with_capacity(alloc, ROOM)?;
+    append_text(alloc, &mut bytes, tree)?;
+    Ok(Bytes::from_vec(bytes))
 }
 
 /// Puts the compact text of a tree behind what is there already.
@@ -72,9 +39,84 @@ pub fn write_after(alloc: Global, out: &mut Bytes, tree: &Json) -> Result<(), No
     ensures ok { OnOk result (out.new ≡ out.old ++ compact_text (data_of (tree_of tree.now))) }
     ensures err { OnErr result (out.new ≡ out.old) }
 {
-    let text = write(alloc, tree)?;
-    match out.append(text.as_slice()) {
+    let mut bytes = mem::replace(out, Bytes::new(alloc)).into_vec();
+    let done = append_text(alloc, &mut bytes, tree);
+    *out = Bytes::from_vec(bytes);
+    done
+}
+
+fn append_text(alloc: Global, out: &mut Vec<u8>, tree: &Json) -> Result<(), NoMemory>
+    ensures ok { OnOk result (out.new.items ≡ out.old.items ++ compact_text (data_of (tree_of tree.now))) }
+    ensures utf8 { OnOk result (IsUtf8 (compact_text (data_of (tree_of tree.now)))) }
+    ensures reads_back { OnOk result (depth (data_of (tree_of tree.now)) ≤ max_depth
+        → json_text.read (compact_text (data_of (tree_of tree.now))) ≡ Some (data_of (tree_of tree.now))) }
+    ensures err { OnErr result (out.new.items ≡ out.old.items) }
+{
+    let before = out.len();
+    let mut writer = Writer::new(mem::replace(out, Vec::new(alloc)));
+    let done = put_tree(tree, &mut writer);
+    *out = writer.into_inner();
+    match done {
         Ok(()) => Ok(()),
-        Err(refused) => Err(refused),
+        Err(_refused) => {
+            out.truncate(before);
+            Err(NoMemory)
+        }
     }
+}
+
+// A failure leaves some of the tokens written.
+#[cycle(put)]
+fn put_tree(tree: &Json, out: &mut Writer) -> Result<(), AllocError>
+    ensures ok { OnOk result (WritesValue (data_of (tree_of tree.now)) out.old.tokens out.new.tokens) }
+    ensures before { out.new.before ≡ out.old.before }
+{
+    match tree {
+        Json::Null => out.null(),
+        Json::Bool(b) => out.boolean(*b),
+        Json::Int(z) => put_integer(*z, out),
+        Json::Text(text) => out.string(text.as_str()),
+        Json::List(items) => {
+            out.begin_array()?;
+            put_items(items.as_slice(), out)
+        }
+        Json::Object(members) => {
+            out.begin_object()?;
+            put_members(members.as_slice(), out)
+        }
+    }
+}
+
+#[inline(always)]
+fn put_integer(z: i64, out: &mut Writer) -> Result<(), AllocError>
+    ensures ok { OnOk result (WritesValue (number (of_integer z)) out.old.tokens out.new.tokens) }
+    ensures before { out.new.before ≡ out.old.before }
+{
+    out.i64(z)
+}
+
+#[cycle(put)]
+fn put_items(items: &[Json], out: &mut Writer) -> Result<(), AllocError>
+    ensures ok { OnOk result
+        (WritesItems (items_of (trees_of (map tree_of items.now))) out.old.tokens out.new.tokens) }
+    ensures before { out.new.before ≡ out.old.before }
+{
+    for item in items {
+        put_tree(item, out)?;
+    }
+    out.end_array()
+}
+
+#[cycle(put)]
+fn put_members(members: &[Member], out: &mut Writer) -> Result<(), AllocError>
+    requires { KeysRise (map member_of members.now) }
+    ensures ok { OnOk result
+        (WritesMembers (members_of (fields_of (map member_of members.now))) out.old.tokens out.new.tokens) }
+    ensures before { out.new.before ≡ out.old.before }
+{
+    for member in members {
+        out.key(member.name.as_str())?;
+        put_tree(&member.value, out)?;
+    }
+    out.end_object()
 }

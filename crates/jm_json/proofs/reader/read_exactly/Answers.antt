@@ -3,7 +3,7 @@ use Rattle.serde_json.specs.View.{view}
 use Rattle.serde_json.specs.Errors.{IsMemory}
 use Rattle.jm_json.specs.Json.{tree_of}
 use Rattle.jm_json.proofs.Readings.{refused, taken_whole, taken_bad}
-use Rattle.jm_json.proofs.reader.read.Goals as goal
+use Rattle.jm_json.proofs.reader.read_exactly.Goals as goal
 
 pub returns-in-Err : goal.returns-in-Err
 returns-in-Err c =

@@ -1,0 +1,16 @@
+use Rattle.std.proofs.Common.{◌≡◌, [], Some, refl, sym, ap, ◌∙◌, rules}
+use Rattle.json.specs.Json as json
+use Rattle.json.specs.Lex.{tokens}
+use Rattle.jm_json.specs.Json.{tree_of}
+use Rattle.jm_json.specs.Data.{data_of}
+use Rattle.jm_json.proofs.Readings.{taken_whole, read_from}
+use Rattle.jm_json.proofs.parser.read_plainly.Goals as goal
+
+pub returns : goal.returns
+returns c =
+    let none : c.take_tree.new.reader ≡ [] = search rules in
+    let t = tree_of c.in_ok-tree.tree in
+    let w = c.in_ok-tree.ensures.ok in
+    let same : c.in_ok-reader.reader ≡ tokens c.args.bytes.now = c.in_ok-reader.ensures.ok ∙ ap tokens c.in-Ok.ensures.cases.0 in
+    let one : json.value 127 (tokens c.args.bytes.now) ≡ Some (w.0, []) = ap (json.value 127) (sym same) ∙ w.1 ∙ ap (λ r. Some (w.0, r)) none in
+    taken_whole c.args.bytes.now (data_of t) t c.in-Ok.ensures.cases.1 (read_from c.args.bytes.now w.0 (data_of t) one w.2) c.in_ok-tree.ensures.whole refl

@@ -1,0 +1,205 @@
+// Reading a tree straight from the tokens of its text (RFC 8259). What is irregular is left to the exact reader: a text that
+// is no JSON, a number that is not whole, or very many keys out of order.
+ghost use Rattle.std.specs.Prelude.{◌≡◌, ◌==◌, ◌<◌, length, slice_index, true, false, IsTrue, Some, None, IfOk, IfSome, OnOk};
+ghost use Rattle.serde_json.specs.Find.{of_integer};
+ghost use Rattle.serde_json.specs.Read.{number_of, number_from};
+ghost use Rattle.jm_json.specs.Taken.{IsTaken, AreTaken, MembersTaken};
+ghost use Rattle.jm_json.specs.Reading as reading;
+ghost use Rattle.jm_json.specs.Reading.{reading_of};
+ghost use Rattle.jm_json.specs.Tree.{trees_of, fields_of};
+ghost use Rattle.jm_json.specs.Json.{tree_of};
+ghost use Rattle.jm_json.specs.Data.{data_of, items_of, members_of};
+ghost use Rattle.jm_json.specs.Whole.{is_whole, first_bad, first_bad_item, first_bad_member};
+
+use crate::tree::{Items, Json, Members};
+use fast_float::Numeral;
+use jm_base::{NoMemory, Text};
+use json::{Invalid, Reader, Token};
+use std::alloc::{AllocError, Global};
+
+// How deep a text may nest.
+const MAX_DEPTH: usize = 127;
+
+// From this many members on, an object whose next key is not past the others is irregular, so that placing it costs little.
+const MANY: usize = 512;
+
+// The whole numbers that are read are below 2^53, and above its negative.
+const BOUND: i64 = 9007199254740992;
+
+/// Room that reading takes, which may be kept from one text to the next.
+#[derive(Drop)]
+pub struct Scratch {
+    room: json::Scratch,
+}
+
+impl Scratch {
+    /// No room yet. It takes no memory.
+    pub fn new(alloc: Global) -> Scratch {
+        Scratch {
+            room: json::Scratch::new(alloc),
+        }
+    }
+}
+
+// Why no tree was read here.
+#[derive(Clone, Copy)]
+pub(crate) enum Stop {
+    Irregular,
+    NoMemory,
+}
+
+impl From<Invalid> for Stop {
+    fn from(_invalid: Invalid) -> Stop {
+        Stop::Irregular
+    }
+}
+
+impl From<AllocError> for Stop {
+    fn from(_refused: AllocError) -> Stop {
+        Stop::NoMemory
+    }
+}
+
+impl From<NoMemory> for Stop {
+    fn from(_refused: NoMemory) -> Stop {
+        Stop::NoMemory
+    }
+}
+
+// The tree that bytes are read as.
+pub(crate) fn read_plainly(alloc: Global, scratch: &mut Scratch, bytes: &[u8]) -> Result<Json, Stop>
+    ensures { IfOk result (λ t. reading_of bytes.now ≡ reading.whole (tree_of t)) }
+{
+    let Ok(text) = simdutf8::compat::from_utf8(bytes) else {
+        return Err(Stop::Irregular);
+    };
+    let mut reader = Reader::new(text, &mut scratch.room)?;
+    let tree = take_tree(alloc, &mut reader, MAX_DEPTH)?;
+    if reader.next().is_some() {
+        return Err(Stop::Irregular);
+    }
+    Ok(tree)
+}
+
+#[cycle(take)]
+#[inline(always)]
+fn take_tree(alloc: Global, reader: &mut Reader<'_>, depth: usize) -> Result<Json, Stop>
+    ensures ok { IfOk result (λ t. IsTaken depth (tree_of t) reader.old reader.new) }
+    ensures whole { IfOk result (λ t. first_bad (data_of (tree_of t)) ≡ None) }
+    ensures shorter { OnOk result (length reader.new < length reader.old) }
+{
+    let token = reader.next().ok_or(Stop::Irregular)?;
+    match token {
+        Token::String(text) => Ok(Json::Text(Text::from_str(alloc, text)?)),
+        Token::Number(text) => match whole_of(text) {
+            Some(z) => Ok(Json::Int(z)),
+            None => Err(Stop::Irregular),
+        },
+        Token::Bool(b) => Ok(Json::Bool(b)),
+        Token::Null => Ok(Json::Null),
+        Token::EndObject | Token::EndArray | Token::Key(_) | Token::Bad => Err(Stop::Irregular),
+        Token::BeginArray => {
+            if depth == 0 {
+                return Err(Stop::Irregular);
+            }
+            Ok(Json::List(take_items(alloc, reader, depth - 1)?))
+        }
+        Token::BeginObject => {
+            if depth == 0 {
+                return Err(Stop::Irregular);
+            }
+            Ok(Json::Object(take_members(alloc, reader, depth - 1)?))
+        }
+    }
+}
+
+#[cycle(take)]
+#[inline(never)]
+fn take_items(alloc: Global, reader: &mut Reader<'_>, depth: usize) -> Result<Items, Stop>
+    ensures ok { IfOk result (λ ts. AreTaken depth ts reader.old reader.new) }
+    ensures whole { IfOk result (λ ts. first_bad_item 0 (items_of (trees_of ts)) ≡ None) }
+    ensures shorter { OnOk result (length reader.new < length reader.old) }
+{
+    let mut found = Items::new(alloc);
+    'items: while !reader.take_end_array() {
+        let item = take_tree(alloc, reader, depth)?;
+        found.push(item)?;
+    }
+    Ok(found)
+}
+
+#[cycle(take)]
+#[inline(never)]
+fn take_members(alloc: Global, reader: &mut Reader<'_>, depth: usize) -> Result<Members, Stop>
+    ensures ok { IfOk result (λ ms. MembersTaken depth ms reader.old reader.new) }
+    ensures whole { IfOk result (λ ms. first_bad_member (members_of (fields_of ms)) ≡ None) }
+    ensures shorter { OnOk result (length reader.new < length reader.old) }
+{
+    let mut found = Members::new(alloc);
+    'members: while let Some(name) = reader.next_key()? {
+        if is_crowded(&found, name) {
+            return Err(Stop::Irregular);
+        }
+        let key = Text::from_str(alloc, name)?;
+        let member = take_tree(alloc, reader, depth)?;
+        found.put(key, member)?;
+    }
+    Ok(found)
+}
+
+// Whether there are many members, and the key is not past the last of them.
+fn is_crowded(found: &Members, name: &str) -> bool {
+    let members = found.as_slice();
+    match members.last() {
+        Some(last) => MANY <= members.len() && name.as_bytes() <= last.name.as_bytes(),
+        None => false,
+    }
+}
+
+// The whole number that a token writes, where it is one.
+#[inline(always)]
+fn whole_of(text: &str) -> Option<i64>
+    ensures { IfSome result
+        (λ z. (number_of text.now ≡ Some (of_integer z)) × (is_whole (of_integer z) ≡ true)) }
+{
+    let bytes = text.as_bytes();
+    if has_minus(bytes) {
+        below_zero(&Numeral::scan(&bytes[1..]))
+    } else {
+        from_zero(&Numeral::scan(bytes))
+    }
+}
+
+#[inline(always)]
+fn has_minus(bytes: &[u8]) -> bool
+    ensures value { result ≡ (slice_index bytes.now 0 == 45) }
+    ensures len { IsTrue result → 0 < length bytes.now }
+{
+    !bytes.is_empty() && bytes[0] == b'-'
+}
+
+#[inline(always)]
+fn from_zero(numeral: &Numeral<'_>) -> Option<i64>
+    ensures { IfSome result
+        (λ z. (number_from false numeral.now ≡ Some (of_integer z)) × (is_whole (of_integer z) ≡ true)) }
+{
+    match numeral.to_u64() {
+        Some(n) => if n < BOUND as u64 {
+            Some(n as i64)
+        } else {
+            None
+        },
+        None => None,
+    }
+}
+
+#[inline(always)]
+fn below_zero(numeral: &Numeral<'_>) -> Option<i64>
+    ensures { IfSome result
+        (λ z. (number_from true numeral.now ≡ Some (of_integer z)) × (is_whole (of_integer z) ≡ true)) }
+{
+    match numeral.to_i64(true) {
+        Some(z) => if -BOUND < z && z < 0 { Some(z) } else { None },
+        None => None,
+    }
+}
