@@ -1,0 +1,10 @@
+pub mod Characters
+pub mod Grammar
+pub mod Lists
+pub mod Content
+pub mod Node
+pub mod Forest
+pub mod Code
+pub mod Joined
+pub mod Falls
+pub mod Head
