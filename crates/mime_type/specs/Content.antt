@@ -6,7 +6,7 @@ use Rattle.mime_lines.specs.Named.{lowered}
 use Rattle.mime_codec.specs.declared.coding.Coding.{Coding}
 use Rattle.mime_codec.specs.declared.coding.Coding.TheVariants.{Plain}
 use Rattle.mime_type.specs.Grammar.{Kind, type_at, disposition_at, first_named}
-use Rattle.mime_type.specs.Lists.{coding_in}
+use Rattle.mime_type.specs.Labels.{coding_in}
 
 abbrev pub plain_type : List ℕ → Kind
 plain_type kind = record { kind = kind; params = [] }
@@ -44,9 +44,13 @@ boundary_of k = if is_multipart k.kind then if_any (first_named (codes "boundary
 abbrev pub media_of : Kind → List ℕ
 media_of k = if is_multipart k.kind && not (is_some (boundary_of k)) then codes "application/octet-stream" else k.kind
 
+abbrev pub filename_of : Option Kind → Option (List ℕ)
+filename_of None = None
+filename_of (Some d) = first_named (codes "filename") d.params
+
 -- the name of a part: the disposition's filename, else the type's name
 abbrev pub name_of : Option Kind → Kind → Option (List ℕ)
-name_of shown k = option_or (option_and_then (λ (d : Kind). first_named (codes "filename") d.params) shown) (first_named (codes "name") k.params)
+name_of shown k = option_or (filename_of shown) (first_named (codes "name") k.params)
 
 -- how the body is written: without the field, as it is
 abbrev pub coding_of : Option (List ℕ) → Coding

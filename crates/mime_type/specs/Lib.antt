@@ -1,6 +1,6 @@
 pub mod Characters
 pub mod Grammar
-pub mod Lists
+pub mod Labels
 pub mod Content
 pub mod Node
 pub mod Forest
@@ -8,3 +8,5 @@ pub mod Code
 pub mod Joined
 pub mod Falls
 pub mod Head
+pub mod Texts
+pub mod Views

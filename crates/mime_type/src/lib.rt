@@ -3,6 +3,16 @@
 //! [`part_head`] reads a part's header into a [`Part`], which has no parts within it yet.
 #![tactic(auto)]
 
+mod characters;
+mod content;
+mod gap;
+mod head;
+mod kind;
+mod labels;
+mod params;
 mod part;
+mod values;
 
+pub use head::part_head;
 pub use part::{Part, Parts};
+pub use values::quotes_read_back;

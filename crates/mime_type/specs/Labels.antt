@@ -1,7 +1,7 @@
 -- Content-Id, Content-Language, Content-Location and Content-Transfer-Encoding (RFC 2045, sections 6 and 7; RFC 3282,
 -- section 2; RFC 2557, section 4). White space is ASCII's: space, tab, LF, CR, FF.
-use Rattle.std.specs.Prelude.{ℕ, ◌-◌, ◌==◌, List, [], ◌∷◌, length, get_or, take, drop, codes, bytes_eq, if◌then◌else◌}
-use Rattle.std.specs.List.{prefix_len, suffix_len, onto_first}
+use Rattle.std.specs.Prelude.{ℕ, ◌-◌, Bool, true, false, filter, map, ◌==◌, List, [], ◌∷◌, length, get_or, take, drop, codes, bytes_eq, if◌then◌else◌}
+use Rattle.std.specs.List.{prefix_len, suffix_len, slice_split}
 use Rattle.std.specs.Char.{is_ascii_whitespace}
 use Rattle.mime_lines.specs.Named.{lowered}
 use Rattle.mime_codec.specs.declared.coding.Coding.{Coding}
@@ -29,23 +29,18 @@ without_close text = if get_or text (length text - 1) 0 == 62 then take (length 
 abbrev pub id_in : List ℕ → List ℕ
 id_in text = without_close (without_open (trimmed text))
 
--- the texts between commas
-abbrev pub pieces : List ℕ → List (List ℕ)
-pieces [] = [] ∷ []
-pieces (b ∷ bs) = if b == 44 then [] ∷ pieces bs else onto_first b (pieces bs)
+-- whether there is something in a text
+abbrev pub is_some_text : List ℕ → Bool
+is_some_text [] = false
+is_some_text (b ∷ bs) = true
 
--- those with something in them, without the white space round each
-abbrev pub with_item : List ℕ → List (List ℕ) → List (List ℕ)
-with_item [] later = later
-with_item (b ∷ bs) later = (b ∷ bs) ∷ later
-
+-- the texts that have something in them, without the white space round each
 abbrev pub items : List (List ℕ) → List (List ℕ)
-items [] = []
-items (t ∷ ts) = with_item (trimmed t) (items ts)
+items texts = filter is_some_text (map trimmed texts)
 
--- the tags that a Content-Language lists
+-- the tags that a Content-Language lists between commas
 abbrev pub languages_in : List ℕ → List (List ℕ)
-languages_in text = items (pieces text)
+languages_in text = items (slice_split (λ b. b == 44) text)
 
 -- the coding of a name, in either case
 abbrev pub coding_named : List ℕ → Coding
