@@ -11,6 +11,8 @@ mod kind;
 mod labels;
 mod params;
 mod part;
+#[cfg(test)]
+mod tests;
 mod values;
 
 pub use head::part_head;
