@@ -1,5 +1,5 @@
 // Base64 (RFC 2045, section 6.8). Four letters make three bytes; up to three letters wait until the fourth is there.
-ghost use Rattle.std.specs.Prelude.{◌≡◌, ◌<◌, ◌∷◌, ◌++◌, [], List, ℕ, IfOk, OnOk, IfSome};
+ghost use Rattle.std.specs.Prelude.{◌≡◌, ◌<◌, ◌∷◌, ◌++◌, [], List, ℕ, ◌≤◌, ◌≢◌, IfOk, OnOk, Some, None, slice_index};
 ghost use Rattle.mime_codec.specs.Base64.{letter, with_letter, packed, base64};
 ghost use Rattle.mime_codec.specs.Waiting.{before, AreSmall};
 
@@ -15,19 +15,38 @@ enum Waiting {
     Three(u8, u8, u8),
 }
 
-/// The six bits of a character of the alphabet.
-fn letter_of(byte: u8) -> Option<u8>
-    ensures value { result ≡ letter byte }
-    ensures small { IfSome result (λ value. value < 64) }
+/// What `six_bits` gives for a character that isn't of the alphabet.
+pub const NO_LETTER: u8 = 64;
+
+/// The six bits of each character, or `NO_LETTER`: a table, since tests on random text are jumps that are not foreseen.
+const LETTERS: [u8; 256] = [
+    64, 64, 64, 64, 64, 64, 64, 64, 64, 64, 64, 64, 64, 64, 64, 64, 64, 64, 64, 64, 64, 64, 64, 64,
+    64, 64, 64, 64, 64, 64, 64, 64, 64, 64, 64, 64, 64, 64, 64, 64, 64, 64, 64, 62, 64, 64, 64, 63,
+    52, 53, 54, 55, 56, 57, 58, 59, 60, 61, 64, 64, 64, 64, 64, 64, 64, 0, 1, 2, 3, 4, 5, 6, 7, 8,
+    9, 10, 11, 12, 13, 14, 15, 16, 17, 18, 19, 20, 21, 22, 23, 24, 25, 64, 64, 64, 64, 64, 64, 26,
+    27, 28, 29, 30, 31, 32, 33, 34, 35, 36, 37, 38, 39, 40, 41, 42, 43, 44, 45, 46, 47, 48, 49, 50,
+    51, 64, 64, 64, 64, 64, 64, 64, 64, 64, 64, 64, 64, 64, 64, 64, 64, 64, 64, 64, 64, 64, 64, 64,
+    64, 64, 64, 64, 64, 64, 64, 64, 64, 64, 64, 64, 64, 64, 64, 64, 64, 64, 64, 64, 64, 64, 64, 64,
+    64, 64, 64, 64, 64, 64, 64, 64, 64, 64, 64, 64, 64, 64, 64, 64, 64, 64, 64, 64, 64, 64, 64, 64,
+    64, 64, 64, 64, 64, 64, 64, 64, 64, 64, 64, 64, 64, 64, 64, 64, 64, 64, 64, 64, 64, 64, 64, 64,
+    64, 64, 64, 64, 64, 64, 64, 64, 64, 64, 64, 64, 64, 64, 64, 64, 64, 64, 64, 64, 64, 64, 64, 64,
+    64, 64, 64, 64, 64, 64, 64, 64, 64, 64, 64, 64, 64, 64,
+];
+
+/// What a table has for a byte.
+fn entry(table: &[u8; 256], byte: u8) -> u8
+    ensures { result ≡ slice_index table.now byte }
 {
-    match byte {
-        b'A'..=b'Z' => Some(byte - 65),
-        b'a'..=b'z' => Some(byte - 71),
-        b'0'..=b'9' => Some(byte + 4),
-        b'+' => Some(62),
-        b'/' => Some(63),
-        _ => None,
-    }
+    table[byte as usize]
+}
+
+/// The six bits of a character of the alphabet, or `NO_LETTER`.
+pub fn six_bits(byte: u8) -> u8
+    ensures none { result ≡ NO_LETTER → letter byte ≡ None }
+    ensures some { result ≢ NO_LETTER → letter byte ≡ Some result }
+    ensures small { result ≤ NO_LETTER }
+{
+    entry(&LETTERS, byte)
 }
 
 /// Takes in a letter, and writes three bytes where it is the fourth.
@@ -56,10 +75,11 @@ fn push_character(out: &mut Vec<u8>, waiting: Waiting, byte: u8) -> Result<Waiti
     ensures small { IfOk result AreSmall }
     ensures bytes { IfOk result (λ now. (later : List ℕ) → out.new.items ++ packed (before now later) ≡ out.old.items ++ packed (before waiting (with_letter (letter byte) later))) }
 {
-    match letter_of(byte) {
-        Some(value) => push_letter(out, waiting, value),
-        None => Ok(waiting),
+    let value = six_bits(byte);
+    if value == NO_LETTER {
+        return Ok(waiting);
     }
+    push_letter(out, waiting, value)
 }
 
 /// Writes the whole bytes of the letters that wait at the end of the data.

@@ -7,8 +7,10 @@
 mod base64;
 mod coding;
 mod quoted;
+mod size;
 #[cfg(test)]
 mod tests;
 
 pub use coding::{Coding, decode};
 pub use quoted::unescape;
+pub use size::decoded_size;

@@ -31,12 +31,12 @@ fn digit(byte: u8) -> u8
 
 /// The first byte that a text stands for, and the text after it.
 #[derive(Clone, Copy)]
-struct First<'a> {
-    byte: u8,
-    rest: &'a [u8],
+pub struct First<'a> {
+    pub byte: u8,
+    pub rest: &'a [u8],
 }
 
-fn split_first(text: &[u8]) -> First<'_>
+pub fn split_first(text: &[u8]) -> First<'_>
     requires { 0 < length text.now }
     ensures value { unescaped text.now ≡ result.byte ∷ unescaped result.rest.now }
     ensures shorter { length result.rest.now < length text.now }
@@ -108,7 +108,7 @@ fn is_blank_byte(byte: u8) -> bool
 }
 
 /// The text without the spaces and tabs at its end.
-fn trim_end(text: &[u8]) -> &[u8]
+pub fn trim_end(text: &[u8]) -> &[u8]
     ensures { result.now ≡ trimmed text.now }
 {
     let mut len = text.len();

@@ -1,5 +1,5 @@
 // Tables of both codings. The values of escapes and of base64 are those of Python's `quopri` and `base64`.
-use crate::{Coding, decode, unescape};
+use crate::{Coding, decode, decoded_size, unescape};
 use std::alloc::Global;
 
 fn decodes(alloc: Global, coding: Coding, text: &[u8], meant: &[u8]) -> bool {
@@ -75,4 +75,11 @@ fn bytes_as_they_are(rt: HostRuntime) {
     let alloc = rt.alloc();
     assert!(rt; decodes(alloc, Coding::Plain, b"=41 \n", b"=41 \n"));
     assert!(rt; decodes(alloc, Coding::Unknown, b"=41 \n", b"=41 \n"));
+}
+
+#[test]
+fn sizes(rt: HostRuntime) {
+    assert!(rt; decoded_size(Coding::Plain, b"=41 \n") == 5);
+    assert!(rt; decoded_size(Coding::Quoted, b"a=20b \r\nc= \r\nd=4") == 9);
+    assert!(rt; decoded_size(Coding::Base64, b"Zm9v Yg==Zm9v") == 4);
 }
