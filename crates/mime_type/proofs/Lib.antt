@@ -4,3 +4,4 @@ pub mod Utf8
 pub mod Tags
 pub mod Places
 pub mod Same
+pub mod ReadBack

@@ -233,13 +233,13 @@ value-utf8 (b ∷ bs) r u e =
     ] refl e
 
 -- parameters
-abbrev with_value : List ℕ → (List ℕ × List ℕ) → Option (Pair × List ℕ)
+abbrev pub with_value : List ℕ → (List ℕ × List ℕ) → Option (Pair × List ℕ)
 with_value name value = Some (record { name = lowered name; value = value.0 }, value.1)
 
-abbrev behind_equals : List ℕ → List ℕ → Option (Pair × List ℕ)
+abbrev pub behind_equals : List ℕ → List ℕ → Option (Pair × List ℕ)
 behind_equals name rest = value_at rest >>= with_value name
 
-abbrev behind_name : (List ℕ × List ℕ) → Option (Pair × List ℕ)
+abbrev pub behind_name : (List ℕ × List ℕ) → Option (Pair × List ℕ)
 behind_name name = after_mark 61 name.1 >>= behind_equals name.0
 
 param-utf8 : (text : List ℕ) (r : Pair × List ℕ) → IsUtf8 text → param_at text ≡ Some r → IsUtf8 r.0.value × IsUtf8 r.1
@@ -298,16 +298,16 @@ first_named-utf8 name (p ∷ ps) v h e = elim (bytes_eq p.name name) as (λ t. c
 ] e
 
 -- types and dispositions
-abbrev with_sub : List ℕ → (List ℕ × List ℕ) → Option Kind
+abbrev pub with_sub : List ℕ → (List ℕ × List ℕ) → Option Kind
 with_sub main sub = if_whole (lowered (main ++ 47 ∷ sub.0)) (params_of sub.1)
 
-abbrev behind_slash : List ℕ → List ℕ → Option Kind
+abbrev pub behind_slash : List ℕ → List ℕ → Option Kind
 behind_slash main rest = run_at is_token rest >>= with_sub main
 
-abbrev behind_main : (List ℕ × List ℕ) → Option Kind
+abbrev pub behind_main : (List ℕ × List ℕ) → Option Kind
 behind_main main = after_mark 47 main.1 >>= behind_slash main.0
 
-abbrev at_main : List ℕ → Option Kind
+abbrev pub at_main : List ℕ → Option Kind
 at_main at = run_at is_token at >>= behind_main
 
 pub type_at-text : (text : List ℕ) (k : Kind) → IsUtf8 text → type_at text ≡ Some k → IsText k

@@ -10,3 +10,4 @@ pub mod Falls
 pub mod Head
 pub mod Texts
 pub mod Views
+pub mod Written

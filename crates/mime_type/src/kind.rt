@@ -1,7 +1,9 @@
 // Content-Type and Content-Disposition as a name with parameters (RFC 2045, section 5.1; RFC 2183, section 2).
-ghost use Rattle.std.specs.Prelude.{◌≡◌, ◌++◌, ◌∷◌, map, option_map, IfOk, IfSome};
+ghost use Rattle.std.specs.Prelude.{◌≡◌, ◌++◌, ◌∷◌, map, option_map, IfOk, IfSome, List, ℕ, Some};
 ghost use Rattle.mime_lines.specs.Named.{lowered};
 ghost use Rattle.mime_type.specs.Grammar;
+ghost use Rattle.mime_type.specs.Grammar.{type_at};
+ghost use Rattle.mime_type.specs.Written.{IsToken, written, meant};
 ghost use Rattle.mime_type.specs.Content;
 ghost use Rattle.mime_type.specs.Texts.{IsText};
 ghost use Rattle.mime_type.specs.Views.{kind_of};
@@ -112,3 +114,9 @@ pub fn read_disposition(alloc: Global, field: &Option<Text>) -> Result<Option<Ki
         None => Ok(None),
     }
 }
+
+/// A law: a type that is written as two tokens and a parameter in quotes is read as what was meant, in lower case but
+/// for the parameter's value, which may be any bytes.
+pub fn types_read_back()
+    ensures { (main sub name value : List ℕ) → IsToken main → IsToken sub → IsToken name → type_at (written main sub name value) ≡ Some (meant main sub name value) }
+{}

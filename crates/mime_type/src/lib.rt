@@ -16,5 +16,6 @@ mod tests;
 mod values;
 
 pub use head::part_head;
+pub use kind::types_read_back;
 pub use part::{Part, Parts};
 pub use values::quotes_read_back;
