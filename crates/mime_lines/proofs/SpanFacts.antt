@@ -6,7 +6,7 @@ use Rattle.std.proofs.lemmas.List.{get_or_append_left}
 use Rattle.std.proofs.lemmas.List.Elements.{All-nil, All-cons}
 use Rattle.mime_lines.specs.declared.field.Field.{Field}
 use Rattle.mime_lines.specs.Lines.{lines, is_line_end, text}
-use Rattle.mime_lines.specs.Fields.{header, next_goes_on, onto_next, joined, name_len, is_field, span_of, spans, fields_of}
+use Rattle.mime_lines.specs.Fields.{body_at, body_of, header, next_goes_on, onto_next, joined, name_len, is_field, span_of, spans, fields_of}
 use Rattle.mime_lines.specs.Named.{IsWithin}
 
 -- how many bytes some lines have
@@ -99,3 +99,14 @@ first_within bytes first more e k d low =
     let longer : k < length (first ++ more) = omega (arith, length-append first more) in
     let all : All (IsWithin bytes) (first ++ more) = subst (All (IsWithin bytes)) (sym e) (fields_within bytes) in
     subst (IsWithin bytes) (get_or_append_left first more d k low) (all k d longer)
+
+-- so does the place where the body begins
+body_inside : (at : ℕ) (ls : List (List ℕ)) → body_at at ls ≤ at + size ls
+body_inside at [] = omega arith
+body_inside at (l ∷ ls) = elim (is_line_end l) as (λ v. cond v (at + length l) (body_at (at + length l) ls) ≤ at + (length l + size ls)) [
+  | true ↦ omega arith
+  | false ↦ omega (arith, body_inside (at + length l) ls)
+]
+
+pub body_of-le : (bytes : List ℕ) → body_of bytes ≤ length bytes
+body_of-le bytes = omega (arith, body_inside 0 (lines bytes), size_lines bytes)
