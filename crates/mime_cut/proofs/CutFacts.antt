@@ -1,8 +1,10 @@
 -- The pieces that a cut gives, by the stretch up to the next delimiter.
-use Rattle.std.proofs.Common.{◌≡◌, ℕ, ◌+◌, ◌≤◌, Bool, true, false, cond, List, [], ◌∷◌, ◌++◌, length, take, refl, ap, sym, ◌∙◌, arith, append_assoc, length-append, add_assoc, add-zero, zero-add, suc, eqb, ◌⊎◌, inl, inr}
+use Rattle.std.proofs.Common.{◌≡◌, ℕ, ◌+◌, ◌≤◌, Bool, true, false, cond, List, [], ◌∷◌, ◌++◌, length, take, refl, ap, sym, ◌∙◌, arith, append_assoc, length-append, add_assoc, add-zero, zero-add, suc, ◌⊎◌, inl, inr}
 use Rattle.std.proofs.lemmas.List.{take_all, append-nil, take-append-le}
-use Rattle.std.specs.List.{concat, onto_first}
-use Rattle.mime_lines.specs.Lines.{lines, text, is_line_end}
+use Rattle.std.specs.List.{concat}
+use Rattle.mime_lines.specs.Lines.{lines, text}
+use Rattle.mime_lines.proofs.SpanFacts.{text-le}
+use Rattle.mime_lines.proofs.ReadFacts.{text_front, concat_lines}
 use Rattle.mime_cut.specs.declared.mark.Mark.{Mark}
 use Rattle.mime_cut.specs.declared.mark.Mark.TheVariants.{Plain, Opens, Closes}
 use Rattle.mime_cut.specs.Marks.{mark_of}
@@ -21,21 +23,6 @@ cut_by_stretch b (l ∷ ls) start x y = elim (mark_of b l) as (λ m. mark_of b l
 grown_grown : (at n : ℕ) (xs ys : List ℕ) (ps : List Piece) → grown at xs (grown n ys ps) ≡ grown at (xs ++ ys) ps
 grown_grown at n xs ys [] = refl
 grown_grown at n xs ys (p ∷ ps) = ap (λ t. piece at t ∷ ps) (sym (append_assoc xs ys p.bytes))
-
--- the text of a line is its front
-pub text_front : (l : List ℕ) → take (length (text l)) l ≡ text l
-text_front [] = refl
-text_front (b ∷ bs) = elim (is_line_end (b ∷ bs)) as (λ v. take (length (cond v [] (b ∷ text bs))) (b ∷ bs) ≡ cond v [] (b ∷ text bs)) [
-  | true ↦ refl
-  | false ↦ ap (λ t. b ∷ t) (text_front bs)
-]
-
-pub text-le : (l : List ℕ) → length (text l) ≤ length l
-text-le [] = omega arith
-text-le (b ∷ bs) = elim (is_line_end (b ∷ bs)) as (λ v. length (cond v [] (b ∷ text bs)) ≤ length (b ∷ bs)) [
-  | true ↦ omega arith
-  | false ↦ omega (arith, text-le bs)
-]
 
 take_past : (xs ys : List ℕ) (n : ℕ) → take (length xs + n) (xs ++ ys) ≡ xs ++ take n ys
 take_past [] ys n = rw (zero-add n) refl
@@ -82,18 +69,6 @@ grown_same b (l ∷ ls) at = elim (mark_of b l) as (λ m. mark_of b l ≡ m → 
 no_front : (n : Bool) → let none : List ℕ = [] in cond n none none ≡ none
 no_front true = refl
 no_front false = refl
-
-concat_onto : (b : ℕ) (ls : List (List ℕ)) → concat (onto_first b ls) ≡ b ∷ concat ls
-concat_onto b [] = refl
-concat_onto b (l ∷ ls) = refl
-
--- the lines are the bytes
-pub concat_lines : (bytes : List ℕ) → concat (lines bytes) ≡ bytes
-concat_lines [] = refl
-concat_lines (b ∷ bs) = elim (eqb b 10) as (λ v. concat (cond v ((b ∷ []) ∷ lines bs) (onto_first b (lines bs))) ≡ b ∷ bs) [
-  | true ↦ ap (λ t. b ∷ t) (concat_lines bs)
-  | false ↦ concat_onto b (lines bs) ∙ ap (λ t. b ∷ t) (concat_lines bs)
-]
 
 -- the first piece, and those behind the next delimiter
 pub pieces_first : (b bytes : List ℕ) (start : ℕ) → let s = stretch b 0 0 (lines bytes) in

@@ -8,7 +8,7 @@ use Rattle.mime_cut.specs.declared.mark.Mark.TheVariants.{Plain, Opens, Closes}
 use Rattle.mime_cut.specs.Marks.{mark_of, by_mark}
 use Rattle.mime_cut.specs.Cut.{Piece, piece, grown, next_marks, pieces, cut}
 use Rattle.mime_cut.specs.Reads.{Reads, AllRead}
-use Rattle.mime_cut.proofs.CutFacts.{text_front, concat_lines}
+use Rattle.mime_lines.proofs.ReadFacts.{text_front, concat_lines}
 
 reads_front : (m : List ℕ) (at : ℕ) (xs ys : List ℕ) → Reads m at (xs ++ ys) → Reads m at xs
 reads_front m at xs ys r = (ys ++ r.0, r.1 ∙ append_assoc xs ys r.0)

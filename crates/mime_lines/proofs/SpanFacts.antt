@@ -58,26 +58,30 @@ colon_in_text (b ∷ c ∷ []) (suc (suc i)) h = absurd (omega arith)
 colon_in_text (b ∷ c ∷ d ∷ ds) zero h = omega arith
 colon_in_text (b ∷ c ∷ d ∷ ds) (suc i) h = omega (arith, colon_in_text (c ∷ d ∷ ds) i h)
 
-text_shorter : (l : List ℕ) → length (text l) ≤ length l
-text_shorter [] = omega arith
-text_shorter (b ∷ bs) = elim (is_line_end (b ∷ bs)) as (λ v. length (cond v [] (b ∷ text bs)) ≤ suc (length bs)) [
+pub text-le : (l : List ℕ) → length (text l) ≤ length l
+text-le [] = omega arith
+text-le (b ∷ bs) = elim (is_line_end (b ∷ bs)) as (λ v. length (cond v [] (b ∷ text bs)) ≤ suc (length bs)) [
   | true ↦ omega arith
-  | false ↦ omega (arith, text_shorter bs)
+  | false ↦ omega (arith, text-le bs)
 ]
 
 and_right : (p q : Bool) → (p && q) ≡ true → q ≡ true
 and_right true q h = h
 and_right false q h = absurd (true≢false (sym h))
 
+pub colon_of_field : (l : List ℕ) → is_field l ≡ true → name_len l < length (text l)
+colon_of_field l f =
+    let colon : get_or l (name_len l) 0 ≡ 58 = eqb-true _ _ (and_right (ltb 0 (name_len l)) (eqb (get_or l (name_len l) 0) 58) f) in
+    colon_in_text l (name_len l) colon
+
 -- a field's places lie in the bytes, as its lines do
 span_within : (bytes l : List ℕ) (at : ℕ) → at + length l ≤ length bytes → is_field l ≡ true → IsWithin bytes (span_of at l)
 span_within bytes l at h f =
-    let colon : get_or l (name_len l) 0 ≡ 58 = eqb-true _ _ (and_right (ltb 0 (name_len l)) (eqb (get_or l (name_len l) 0) 58) f) in
-    let inside : name_len l < length (text l) = colon_in_text l (name_len l) colon in
+    let inside : name_len l < length (text l) = colon_of_field l f in
     record {
       named = omega arith;
       ended = omega arith;
-      inside = omega (arith, text_shorter l);
+      inside = omega (arith, text-le l);
     }
 
 pub spans_within : (bytes : List ℕ) (at : ℕ) (ls : List (List ℕ)) → at + size ls ≤ length bytes → All (IsWithin bytes) (spans at ls)
