@@ -6,7 +6,7 @@ use Rattle.std.proofs.lemmas.List.{get_or_append_left}
 use Rattle.std.proofs.lemmas.List.Elements.{All-nil, All-cons}
 use Rattle.mime_lines.specs.declared.field.Field.{Field}
 use Rattle.mime_lines.specs.Lines.{lines, is_line_end, text}
-use Rattle.mime_lines.specs.Fields.{header, next_goes_on, onto_next, joined, name_len, is_field, span_of, spans, fields_of}
+use Rattle.mime_lines.specs.Fields.{body_at, body_of, header, next_goes_on, onto_next, joined, name_len, is_field, span_of, spans, fields_of}
 use Rattle.mime_lines.specs.Named.{IsWithin}
 
 -- how many bytes some lines have
@@ -58,26 +58,30 @@ colon_in_text (b ∷ c ∷ []) (suc (suc i)) h = absurd (omega arith)
 colon_in_text (b ∷ c ∷ d ∷ ds) zero h = omega arith
 colon_in_text (b ∷ c ∷ d ∷ ds) (suc i) h = omega (arith, colon_in_text (c ∷ d ∷ ds) i h)
 
-text_shorter : (l : List ℕ) → length (text l) ≤ length l
-text_shorter [] = omega arith
-text_shorter (b ∷ bs) = elim (is_line_end (b ∷ bs)) as (λ v. length (cond v [] (b ∷ text bs)) ≤ suc (length bs)) [
+pub text-le : (l : List ℕ) → length (text l) ≤ length l
+text-le [] = omega arith
+text-le (b ∷ bs) = elim (is_line_end (b ∷ bs)) as (λ v. length (cond v [] (b ∷ text bs)) ≤ suc (length bs)) [
   | true ↦ omega arith
-  | false ↦ omega (arith, text_shorter bs)
+  | false ↦ omega (arith, text-le bs)
 ]
 
 and_right : (p q : Bool) → (p && q) ≡ true → q ≡ true
 and_right true q h = h
 and_right false q h = absurd (true≢false (sym h))
 
+pub colon_of_field : (l : List ℕ) → is_field l ≡ true → name_len l < length (text l)
+colon_of_field l f =
+    let colon : get_or l (name_len l) 0 ≡ 58 = eqb-true _ _ (and_right (ltb 0 (name_len l)) (eqb (get_or l (name_len l) 0) 58) f) in
+    colon_in_text l (name_len l) colon
+
 -- a field's places lie in the bytes, as its lines do
 span_within : (bytes l : List ℕ) (at : ℕ) → at + length l ≤ length bytes → is_field l ≡ true → IsWithin bytes (span_of at l)
 span_within bytes l at h f =
-    let colon : get_or l (name_len l) 0 ≡ 58 = eqb-true _ _ (and_right (ltb 0 (name_len l)) (eqb (get_or l (name_len l) 0) 58) f) in
-    let inside : name_len l < length (text l) = colon_in_text l (name_len l) colon in
+    let inside : name_len l < length (text l) = colon_of_field l f in
     record {
       named = omega arith;
       ended = omega arith;
-      inside = omega (arith, text_shorter l);
+      inside = omega (arith, text-le l);
     }
 
 pub spans_within : (bytes : List ℕ) (at : ℕ) (ls : List (List ℕ)) → at + size ls ≤ length bytes → All (IsWithin bytes) (spans at ls)
@@ -99,3 +103,14 @@ first_within bytes first more e k d low =
     let longer : k < length (first ++ more) = omega (arith, length-append first more) in
     let all : All (IsWithin bytes) (first ++ more) = subst (All (IsWithin bytes)) (sym e) (fields_within bytes) in
     subst (IsWithin bytes) (get_or_append_left first more d k low) (all k d longer)
+
+-- so does the place where the body begins
+body_inside : (at : ℕ) (ls : List (List ℕ)) → body_at at ls ≤ at + size ls
+body_inside at [] = omega arith
+body_inside at (l ∷ ls) = elim (is_line_end l) as (λ v. cond v (at + length l) (body_at (at + length l) ls) ≤ at + (length l + size ls)) [
+  | true ↦ omega arith
+  | false ↦ omega (arith, body_inside (at + length l) ls)
+]
+
+pub body_of-le : (bytes : List ℕ) → body_of bytes ≤ length bytes
+body_of-le bytes = omega (arith, body_inside 0 (lines bytes), size_lines bytes)

@@ -1,5 +1,7 @@
 // A field of a header: its places in the bytes, and what stands there.
-ghost use Rattle.std.specs.Prelude.{◌≡◌, ◌↔◌, All, IsTrue, MatchOption, Some, None};
+ghost use Rattle.std.specs.Prelude.{List, ℕ, map, ◌≡◌, ◌↔◌, All, IsTrue, MatchOption, Some, None};
+ghost use Rattle.mime_lines.specs.Fields.{fields_of};
+ghost use Rattle.mime_lines.specs.Read.{read_at, field_texts};
 ghost use Rattle.mime_lines.specs.Named.{IsWithin, name_in, value_in, lowered, last_value_of};
 
 use jm_base::Sequence;
@@ -57,3 +59,8 @@ pub fn last_value<'a>(bytes: &'a [u8], fields: &FieldSpans, name: &[u8]) -> Opti
     }
     None
 }
+
+/// What stands at the places of a header's fields is the name and the value that its lines give, for all bytes.
+pub fn fields_stand()
+    ensures { (bytes : List ℕ) → map (read_at bytes) (fields_of bytes) ≡ field_texts bytes }
+{}

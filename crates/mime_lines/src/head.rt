@@ -1,5 +1,5 @@
 // The fields of a header, found in one pass over its lines.
-ghost use Rattle.std.specs.Prelude.{◌≡◌, ◌+◌, ◌<◌, ◌^◌, ◌++◌, ◌∷◌, [], All, length, IfOk, OnOk};
+ghost use Rattle.std.specs.Prelude.{◌≡◌, ◌+◌, ◌<◌, ◌≤◌, ◌^◌, ◌++◌, ◌∷◌, [], All, length, IfOk, OnOk};
 ghost use Rattle.mime_lines.specs.Fields.{fields_of, body_of, spans};
 ghost use Rattle.mime_lines.specs.Named.{IsWithin};
 
@@ -36,6 +36,7 @@ pub fn fields(alloc: Global, bytes: &[u8]) -> Result<Head, NoMemory>
     ensures fields { IfOk result (λ head. head.fields ≡ fields_of bytes.now) }
     ensures within { IfOk result (λ head. All (IsWithin bytes.now) head.fields) }
     ensures body { IfOk result (λ head. head.body ≡ body_of bytes.now) }
+    ensures inside { IfOk result (λ head. head.body ≤ length bytes.now) }
 {
     let mut fields = Sequence::new(alloc);
     let mut at: usize = 0;

@@ -9,7 +9,10 @@ mod folding;
 mod head;
 mod scan;
 
-pub use field::{Field, FieldSpans, last_value};
+pub use field::{Field, FieldSpans, fields_stand, last_value};
 pub use folding::unfold;
 pub use head::{Head, fields};
 pub use scan::{is_line_end, split_line, text_len};
+
+#[cfg(test)]
+mod tests;
