@@ -1,6 +1,6 @@
-use Rattle.std.proofs.Common.{◌≡◌, ◌+◌, ◌-◌, length, take, drop, ap, arith}
+use Rattle.std.proofs.Common.{◌≡◌, ◌+◌, ◌-◌, ◌≤◌, length, take, drop, ap, arith}
 use Rattle.mime_lines.specs.Fields.{body_of}
-use Rattle.mime_type.proofs.Places.{body_of-le, length-piece}
+use Rattle.mime_type.proofs.Places.{length-piece}
 use Rattle.mime_type.proofs.Same.{same_node}
 use Rattle.mime_type.specs.Head.{head_at}
 use Rattle.mime_type.proofs.head.part_head.Goals as goal
@@ -8,9 +8,9 @@ use Rattle.mime_type.proofs.head.part_head.Goals as goal
 pub overflow_add-result : goal.overflow_add-result
 overflow_add-result c =
     let piece = take (c.args.end - c.args.start) (drop c.args.start c.args.bytes.now) in
-    let body : c.in_ok-head.head.body ≡ body_of piece = c.in_ok-head.ensures.body in
+    let inside : c.in_ok-head.head.body ≤ length piece = c.in_ok-head.ensures.inside in
     let size : length piece ≡ c.args.end - c.args.start = length-piece c.args.bytes.now c.args.start c.args.end c.requires.within in
-    omega (arith, body, size, body_of-le piece, c.ranges.end.fits)
+    omega (arith, inside, size, c.ranges.end.fits)
 
 pub returns-clause-node : goal.returns-clause-node
 unfolding head_at
