@@ -1,0 +1,10 @@
+use Rattle.std.proofs.Common.{◌≡◌, ◌++◌, drop}
+use Rattle.mime_codec.specs.Base64.{letters, packed, base64}
+use Rattle.mime_codec.specs.Waiting.{before, AreSmall}
+use Rattle.mime_codec.proofs.base64.decode_base64.Given as goal
+
+abbrev pub invariant-loop-byte : goal.invariant-loop-byte
+invariant-loop-byte l = record {
+  small : AreSmall l.waiting;
+  bytes : l.out.items ++ packed (before l.waiting (letters (drop l.byte-index l.bytes))) ≡ base64 l.bytes;
+}

@@ -1,0 +1,4 @@
+pub mod Quoted
+pub mod Base64
+pub mod Waiting
+pub mod Decoded

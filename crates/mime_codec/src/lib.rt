@@ -1,0 +1,16 @@
+//! Transfer codings: the bytes that the body of a message part stands for (RFC 2045, section 6).
+//!
+//! [`decode`] refuses no input. What a strict decoder would call an error is read as `specs/Quoted.antt` and
+//! `specs/Base64.antt` say.
+#![tactic(auto)]
+
+mod base64;
+mod coding;
+mod quoted;
+mod size;
+#[cfg(test)]
+mod tests;
+
+pub use coding::{Coding, decode};
+pub use quoted::unescape;
+pub use size::decoded_size;

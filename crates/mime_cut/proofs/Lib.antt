@@ -1,0 +1,3 @@
+pub mod CutFacts
+pub mod ReadFacts
+pub mod MarkFacts

@@ -1,0 +1,16 @@
+use Rattle.std.proofs.Common.{◌≡◌, ◌+◌, ◌≤◌, drop, length}
+use Rattle.mime_lines.specs.Lines.{lines}
+use Rattle.mime_cut.specs.Stretch.{stretch, behind}
+use Rattle.mime_cut.proofs.delimiter.scan.Given as goal
+
+abbrev pub invariant-loop-rest : goal.invariant-loop-rest
+invariant-loop-rest l = record {
+  found : stretch l.boundary l.before l.size (lines l.rest) ≡ stretch l.boundary 0 0 (lines l.bytes);
+  behind : behind l.boundary (lines l.rest) ≡ behind l.boundary (lines l.bytes);
+  rest : l.rest ≡ drop l.size l.bytes;
+  ordered : l.before ≤ l.size;
+  all : l.size + length l.rest ≡ length l.bytes;
+}
+
+abbrev pub decreases-loop-rest : goal.decreases-loop-rest
+decreases-loop-rest l = length l.rest

@@ -1,0 +1,4 @@
+pub mod Marks
+pub mod Cut
+pub mod Stretch
+pub mod Reads

@@ -1,0 +1,4 @@
+pub mod LineFacts
+pub mod ScanFacts
+pub mod SpanFacts
+pub mod ReadFacts

@@ -1,0 +1,28 @@
+-- A header's fields as texts, without places.
+use Rattle.std.specs.Prelude.{ℕ, ◌+◌, List, [], ◌∷◌, take, drop, if◌then◌else◌}
+use Rattle.mime_lines.specs.Lines.{lines, text}
+use Rattle.mime_lines.specs.Fields.{header, joined, name_len, is_field}
+use Rattle.mime_lines.specs.Named.{name_in, value_in}
+use Rattle.mime_lines.specs.declared.field.Field.{Field}
+
+-- a name, and what stands behind its colon
+pub record FieldText : Type 0 where
+  pub name : List ℕ
+  pub value : List ℕ
+
+-- those of a joined line
+abbrev pub text_of : List ℕ → FieldText
+text_of l = record { name = take (name_len l) l; value = drop (name_len l + 1) (text l) }
+
+-- those of each joined line that is a field
+abbrev pub texts_of : List (List ℕ) → List FieldText
+texts_of [] = []
+texts_of (l ∷ ls) = if is_field l then text_of l ∷ texts_of ls else texts_of ls
+
+-- the fields of a header, read from its lines
+abbrev pub field_texts : List ℕ → List FieldText
+field_texts bytes = texts_of (joined (header (lines bytes)))
+
+-- what stands in the bytes at a field's places
+abbrev pub read_at : List ℕ → Field → FieldText
+read_at bytes f = record { name = name_in bytes f; value = value_in bytes f }

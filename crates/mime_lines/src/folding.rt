@@ -1,0 +1,21 @@
+// A folded value as one line.
+ghost use Rattle.std.specs.Prelude.{◌≡◌, IfOk};
+ghost use Rattle.mime_lines.specs.Lines.{unfolded};
+
+use crate::scan::{split_line, text_len};
+use jm_base::{Bytes, NoMemory};
+use std::alloc::Global;
+
+/// A value without the line ends within it (RFC 5322, section 2.2.3).
+pub fn unfold(alloc: Global, value: &[u8]) -> Result<Bytes, NoMemory>
+    ensures { IfOk result (λ line. line ≡ unfolded value.now) }
+{
+    let mut line = Bytes::new(alloc);
+    let mut rest = value;
+    while !rest.is_empty() {
+        let (folded, more) = split_line(rest);
+        line.append(&folded[..text_len(folded)])?;
+        rest = more;
+    }
+    Ok(line)
+}

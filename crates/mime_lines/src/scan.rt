@@ -1,0 +1,118 @@
+// Lines and fields at the front of a slice. Each call takes and gives slices, so that places are added up in one function alone.
+ghost use Rattle.std.specs.Prelude.{◌≡◌, ◌≤◌, ◌<◌, ◌+◌, ◌∷◌, ◌++◌, length, take, drop, get_or, cond, None, Some, IfSome};
+ghost use Rattle.mime_lines.specs.Lines.{lines, text};
+ghost use Rattle.mime_lines.specs.Fields.{is_field, name_len, goes_on, is_name_byte};
+ghost use Rattle.mime_lines.specs.Scan.{followers, others};
+
+use memchr::memchr;
+
+/// The first line, its LF included, and what stands after it.
+pub fn split_line(rest: &[u8]) -> (&[u8], &[u8])
+    requires { 0 < length rest.now }
+    ensures some { 0 < length result.0.now }
+    ensures whole { rest.now ≡ result.0.now ++ result.1.now }
+    ensures first { lines rest.now ≡ result.0.now ∷ lines result.1.now }
+{
+    match memchr(b'\n', rest) {
+        Some(i) => rest.split_at(i + 1),
+        None => rest.split_at(rest.len()),
+    }
+}
+
+/// Whether this is an LF alone, or a CR and an LF.
+pub fn is_line_end(line: &[u8]) -> bool
+    ensures { result ≡ Rattle.mime_lines.specs.Lines.is_line_end line.now }
+{
+    match line {
+        [b'\n'] => true,
+        [b'\r', b'\n'] => true,
+        _ => false,
+    }
+}
+
+/// The length of a line, or of several, without the line end at the end.
+pub fn text_len(line: &[u8]) -> usize
+    ensures within { result ≤ length line.now }
+    ensures value { text line.now ≡ take result line.now }
+{
+    let len = line.len();
+    if len == 0 || line[len - 1] != b'\n' {
+        return len;
+    }
+    if len == 1 || line[len - 2] != b'\r' {
+        return len - 1;
+    }
+    len - 2
+}
+
+/// Whether a line begins with space or tab.
+fn is_folded(line: &[u8]) -> bool
+    ensures { result ≡ goes_on line.now }
+{
+    match line {
+        [first, ..] => *first == b' ' || *first == b'\t',
+        [] => false,
+    }
+}
+
+/// The length of the lines at the front that go on with the one before them.
+fn folded_len(rest: &[u8]) -> usize
+    ensures within { result ≤ length rest.now }
+    ensures front { followers (lines rest.now) ≡ take result rest.now }
+    ensures back { lines (drop result rest.now) ≡ others (lines rest.now) }
+{
+    let mut len = 0;
+    let mut left = rest;
+    while !left.is_empty() {
+        let (line, more) = split_line(left);
+        if !is_folded(line) {
+            return len;
+        }
+        len += line.len();
+        left = more;
+    }
+    len
+}
+
+/// The first line with the lines that go on with it, and what stands after them.
+pub fn split_field<'a>(rest: &'a [u8], line: &[u8], after: &[u8]) -> (&'a [u8], &'a [u8])
+    requires { rest.now ≡ line.now ++ after.now }
+    ensures whole { rest.now ≡ result.0.now ++ result.1.now }
+    ensures front { result.0.now ≡ line.now ++ followers (lines after.now) }
+    ensures back { lines result.1.now ≡ others (lines after.now) }
+{
+    rest.split_at(line.len() + folded_len(after))
+}
+
+/// Whether a byte may stand in the name of a field.
+fn is_in_name(byte: u8) -> bool
+    ensures { result ≡ is_name_byte byte }
+{
+    33 <= byte && byte <= 126 && byte != b':'
+}
+
+/// How many bytes of a field's name stand at the front.
+fn name_length(line: &[u8]) -> usize
+    ensures within { result ≤ length line.now }
+    ensures value { result ≡ name_len line.now }
+{
+    for (i, byte) in line.iter().enumerate() {
+        if !is_in_name(*byte) {
+            return i;
+        }
+    }
+    line.len()
+}
+
+/// Where the colon of a field stands.
+pub fn colon_of(line: &[u8]) -> Option<usize>
+    ensures within { IfSome result (λ colon. colon ≤ length line.now) }
+    ensures value { result ≡ cond (is_field line.now) (Some (name_len line.now)) None }
+{
+    let len = name_length(line);
+    if 0 < len && len < line.len() && line[len] == b':' {
+        Some(len)
+    } else {
+        None
+    }
+}

@@ -1,0 +1,4 @@
+pub mod TakenFacts
+pub mod HeadFacts
+pub mod SliceFacts
+pub mod WalkFacts

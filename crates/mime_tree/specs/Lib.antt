@@ -1,0 +1,5 @@
+pub mod Tree
+pub mod Kept
+pub mod Counted
+pub mod Places
+pub mod Numbers

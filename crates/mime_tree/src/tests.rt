@@ -1,0 +1,161 @@
+// Messages with the parts that they have.
+use crate::parts;
+use jm_base::NoMemory;
+use mime_type::Part;
+use std::alloc::{AllocError, Global};
+use std::test::Fail;
+
+/// A part in a line: its number, `-` where it has none, its type, and the bytes of a leaf's body.
+fn push_line(
+    alloc: Global,
+    out: &mut Vec<u8>,
+    part: &Part,
+    message: &[u8],
+) -> Result<(), AllocError> {
+    match part.number {
+        Some(number) => out.extend_from_slice(format!(in alloc; "{number}")?.as_bytes())?,
+        None => out.push(b'-')?,
+    }
+    out.push(b' ')?;
+    out.extend_from_slice(part.media.as_bytes())?;
+    if part.number.is_some() && part.body <= part.end && part.end <= message.len() as u64 {
+        out.push(b' ')?;
+        out.extend_from_slice(&message[part.body as usize..part.end as usize])?;
+    }
+    out.push(b'\n')?;
+    Ok(())
+}
+
+/// The parts in walk order.
+fn outline(alloc: Global, message: &[u8]) -> Result<Vec<u8>, NoMemory> {
+    let root = parts(alloc, message)?;
+    let mut out = Vec::new(alloc);
+    let mut waiting = Vec::new(alloc);
+    waiting.push(&root)?;
+    for _ in 0..2000 {
+        let Some(part) = waiting.pop() else {
+            return Ok(out);
+        };
+        push_line(alloc, &mut out, part, message)?;
+        for inner in part.parts.as_slice().iter().rev() {
+            waiting.push(inner)?;
+        }
+    }
+    Ok(out)
+}
+
+#[test]
+fn outlines_of_messages(rt: HostRuntime) -> Result<(), Fail> {
+    let table: [(&[u8], &[u8]); 9] = [
+        (b"", b"1 text/plain \n"),
+        (
+            b"Content-Type: multipart/mixed; boundary=a\n\n--a\n\none\n--ab\n--a \n\ntwo",
+            b"- multipart/mixed\n1 text/plain one\n--ab\n2 text/plain two\n",
+        ),
+        // A multipart without a delimiter has no parts, and one without a boundary is a leaf.
+        (
+            b"Content-Type: multipart/mixed; boundary=a\n\n-a\n",
+            b"- multipart/mixed\n",
+        ),
+        (
+            b"Content-Type: multipart/mixed\n\n--a",
+            b"1 application/octet-stream --a\n",
+        ),
+        // A delimiter of the outer multipart ends the inner one, whose own close is missing.
+        (
+            b"Content-Type: multipart/a; boundary=x\n\n--x\nContent-Type: multipart/b; boundary=y\n\n--y\n\n1\n--x\n\n2\n--y\n--x--\n",
+            b"- multipart/a\n- multipart/b\n1 text/plain 1\n2 text/plain 2\n--y\n",
+        ),
+        // A delimiter of the inner multipart ends no part of the outer one.
+        (
+            b"Content-Type: multipart/a; boundary=x\n\n--x\nContent-Type: multipart/b; boundary=y\n\n--y\n\n1\n--y--\n\n--x\n\n2\n--x--\n",
+            b"- multipart/a\n- multipart/b\n1 text/plain 1\n2 text/plain 2\n",
+        ),
+        // In a digest a part is a message where it doesn't say what it is, and a message isn't entered.
+        (
+            b"Content-Type: multipart/digest; boundary=a\n\n--a\n\nA: b\n--a\nContent-Type: text/plain\n\nc\n--a--",
+            b"- multipart/digest\n1 message/rfc822 A: b\n2 text/plain c\n",
+        ),
+        (
+            b"Content-Type: message/rfc822\n\nContent-Type: multipart/mixed; boundary=a\n\n--a\n\nb\n",
+            b"1 message/rfc822 Content-Type: multipart/mixed; boundary=a\n\n--a\n\nb\n\n",
+        ),
+        // A piece without an empty line is all header.
+        (
+            b"Content-Type: multipart/mixed; boundary=a\n\n--a\nx\n--a\n--a--",
+            b"- multipart/mixed\n1 text/plain \n2 text/plain \n",
+        ),
+    ];
+    for (message, want) in table {
+        let found = outline(rt.alloc(), message)?;
+        assert_eq!(rt; found.as_slice(), want, "message {message:?}");
+    }
+    Ok(())
+}
+
+#[test]
+fn example_with_preamble_and_epilogue(rt: HostRuntime) -> Result<(), Fail> {
+    let message: &[u8] = b"From: Nathaniel Borenstein <nsb@bellcore.com>\r\n\
+        To: Ned Freed <ned@innosoft.com>\r\n\
+        Date: Sun, 21 Mar 1993 23:56:48 -0800 (PST)\r\n\
+        Subject: Sample message\r\n\
+        MIME-Version: 1.0\r\n\
+        Content-type: multipart/mixed; boundary=\"simple boundary\"\r\n\r\n\
+        This is the preamble.  It is to be ignored, though it\r\n\
+        is a handy place for composition agents to include an\r\n\
+        explanatory note to non-MIME conformant readers.\r\n\r\n\
+        --simple boundary\r\n\r\n\
+        This is implicitly typed plain US-ASCII text.\r\n\
+        It does NOT end with a linebreak.\r\n\
+        --simple boundary\r\n\
+        Content-type: text/plain; charset=us-ascii\r\n\r\n\
+        This is explicitly typed plain US-ASCII text.\r\n\
+        It DOES end with a linebreak.\r\n\r\n\
+        --simple boundary--\r\n\r\n\
+        This is the epilogue.  It is also to be ignored.\r\n";
+    let want: &[u8] = b"- multipart/mixed\n\
+        1 text/plain This is implicitly typed plain US-ASCII text.\r\n\
+        It does NOT end with a linebreak.\n\
+        2 text/plain This is explicitly typed plain US-ASCII text.\r\n\
+        It DOES end with a linebreak.\r\n\n";
+    let found = outline(rt.alloc(), message)?;
+    assert_eq!(rt; found.as_slice(), want);
+    Ok(())
+}
+
+#[test]
+fn multiparts_within_one_another(rt: HostRuntime) -> Result<(), Fail> {
+    let alloc = rt.alloc();
+    let mut message = Vec::new(alloc);
+    let mut want = Vec::new(alloc);
+    for depth in 1..34u8 {
+        let head = format!(in alloc;
+            "Content-Type: multipart/mixed; boundary=b{depth}\n\n--b{depth}\n"
+        )?;
+        message.extend_from_slice(head.as_bytes())?;
+        want.extend_from_slice(if depth < 33 {
+            b"- multipart/mixed\n"
+        } else {
+            b"1 application/octet-stream --b33\n\n"
+        })?;
+    }
+    let found = outline(alloc, message.as_slice())?;
+    assert_eq!(rt; found.as_slice(), want.as_slice());
+    Ok(())
+}
+
+#[test]
+fn parts_past_the_limit(rt: HostRuntime) -> Result<(), Fail> {
+    let alloc = rt.alloc();
+    let mut message = Vec::from_slice(alloc, b"Content-Type: multipart/mixed; boundary=a\n\n")?;
+    let mut want = Vec::from_slice(alloc, b"- multipart/mixed\n")?;
+    for number in 1..1005u32 {
+        message.extend_from_slice(b"--a\n\nx\n")?;
+        if number < 1000 {
+            want.extend_from_slice(format!(in alloc; "{number} text/plain x\n")?.as_bytes())?;
+        }
+    }
+    let found = outline(alloc, message.as_slice())?;
+    assert_eq!(rt; found.as_slice(), want.as_slice());
+    Ok(())
+}

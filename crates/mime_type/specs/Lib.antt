@@ -1,0 +1,13 @@
+pub mod Characters
+pub mod Grammar
+pub mod Labels
+pub mod Content
+pub mod Node
+pub mod Forest
+pub mod Code
+pub mod Joined
+pub mod Falls
+pub mod Head
+pub mod Texts
+pub mod Views
+pub mod Written

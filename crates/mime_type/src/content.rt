@@ -1,0 +1,121 @@
+// What a type and a disposition say of a part (RFC 2045, section 5; RFC 2046, section 5.1; RFC 2183).
+ghost use Rattle.std.specs.Prelude.{◌≡◌, Bool, option_map, IfOk};
+ghost use Rattle.std.specs.Option.{ForSome};
+ghost use Rattle.mime_lines.specs.Named.{lowered};
+ghost use Rattle.mime_type.specs.Content;
+ghost use Rattle.mime_type.specs.Texts.{IsText};
+ghost use Rattle.mime_type.specs.Views.{kind_of};
+
+use crate::kind::Kind;
+use crate::params::{copy_text, first_text};
+use jm_base::{NoMemory, Text};
+use std::alloc::Global;
+
+/// A text in lower case, in its own memory.
+fn lower_text(text: Text) -> Text
+    ensures { result ≡ lowered text }
+{
+    let mut string = text.into_string();
+    string.make_ascii_lowercase();
+    Text::from_string(string)
+}
+
+/// The charset of a type without the parameter.
+fn default_charset(alloc: Global, kind: &[u8]) -> Result<Option<Text>, NoMemory>
+    ensures { IfOk result (λ c. c ≡ Rattle.mime_type.specs.Content.default_charset kind.now) }
+{
+    if kind.starts_with(b"text/") {
+        return Ok(Some(Text::from_str(alloc, "us-ascii")?));
+    }
+    Ok(None)
+}
+
+/// The charset of a type, in lower case.
+pub fn read_charset(alloc: Global, kind: &Kind) -> Result<Option<Text>, NoMemory>
+    requires { IsText (kind_of kind.now) }
+    ensures { IfOk result (λ c. c ≡ Rattle.mime_type.specs.Content.charset_of (kind_of kind.now)) }
+{
+    match first_text(alloc, kind.params.as_slice(), b"charset")? {
+        Some(charset) => Ok(Some(lower_text(charset))),
+        None => default_charset(alloc, kind.kind.as_slice()),
+    }
+}
+
+fn is_multipart(kind: &[u8]) -> bool
+    ensures { result ≡ Rattle.mime_type.specs.Content.is_multipart kind.now }
+{
+    kind.starts_with(b"multipart/")
+}
+
+/// A boundary that isn't empty.
+fn if_any(boundary: Option<Text>) -> Option<Text>
+    ensures { result ≡ Rattle.mime_type.specs.Content.if_any boundary }
+{
+    match boundary {
+        None => None,
+        Some(text) => {
+            if text.as_bytes().is_empty() {
+                None
+            } else {
+                Some(text)
+            }
+        }
+    }
+}
+
+/// The boundary of a multipart.
+pub fn read_boundary(alloc: Global, kind: &Kind) -> Result<Option<Text>, NoMemory>
+    requires { IsText (kind_of kind.now) }
+    ensures { IfOk result (λ b. b ≡ Rattle.mime_type.specs.Content.boundary_of (kind_of kind.now)) }
+{
+    if !is_multipart(kind.kind.as_slice()) {
+        return Ok(None);
+    }
+    Ok(if_any(first_text(alloc, kind.params.as_slice(), b"boundary")?))
+}
+
+/// The type that a part is taken for, where its boundary is known.
+pub fn read_media(alloc: Global, kind: &Kind, boundary: &Option<Text>) -> Result<Text, NoMemory>
+    requires text { IsText (kind_of kind.now) }
+    requires boundary { boundary.now ≡ Rattle.mime_type.specs.Content.boundary_of (kind_of kind.now) }
+    ensures { IfOk result (λ m. m ≡ Rattle.mime_type.specs.Content.media_of (kind_of kind.now)) }
+{
+    if boundary.is_none() && is_multipart(kind.kind.as_slice()) {
+        return Text::from_str(alloc, "application/octet-stream");
+    }
+    copy_text(alloc, kind.kind.as_slice())
+}
+
+/// The filename of a disposition.
+fn read_filename(alloc: Global, shown: &Option<Kind>) -> Result<Option<Text>, NoMemory>
+    requires { ForSome shown.now (λ k. IsText (kind_of k)) }
+    ensures { IfOk result (λ n. n ≡ Rattle.mime_type.specs.Content.filename_of (option_map kind_of shown.now)) }
+{
+    match shown {
+        Some(kind) => first_text(alloc, kind.params.as_slice(), b"filename"),
+        None => Ok(None),
+    }
+}
+
+/// The name of a part, before its encoded words are decoded.
+pub fn read_name(alloc: Global, shown: &Option<Kind>, kind: &Kind) -> Result<Option<Text>, NoMemory>
+    requires shown { ForSome shown.now (λ k. IsText (kind_of k)) }
+    requires kind { IsText (kind_of kind.now) }
+    ensures { IfOk result (λ n. n ≡ Rattle.mime_type.specs.Content.name_of (option_map kind_of shown.now) (kind_of kind.now)) }
+{
+    match read_filename(alloc, shown)? {
+        Some(name) => Ok(Some(name)),
+        None => first_text(alloc, kind.params.as_slice(), b"name"),
+    }
+}
+
+/// The disposition's name.
+pub fn read_shown(alloc: Global, shown: &Option<Kind>) -> Result<Option<Text>, NoMemory>
+    requires { ForSome shown.now (λ k. IsText (kind_of k)) }
+    ensures { IfOk result (λ d. d ≡ option_map (λ k. k.kind) (option_map kind_of shown.now)) }
+{
+    match shown {
+        Some(kind) => Ok(Some(copy_text(alloc, kind.kind.as_slice())?)),
+        None => Ok(None),
+    }
+}

@@ -1,0 +1,144 @@
+// The head of a part, read from its header.
+ghost use Rattle.std.specs.Prelude.{◌≡◌, ◌≤◌, All, IfOk, length, option_map, slice_range, codes};
+ghost use Rattle.mime_lines.specs.Fields.{fields_of};
+ghost use Rattle.mime_lines.specs.Named.{IsWithin};
+ghost use Rattle.mime_type.specs.Content.{charset_of, boundary_of, media_of, name_of, coding_of};
+ghost use Rattle.mime_type.specs.Forest.{none};
+ghost use Rattle.mime_type.specs.Head;
+ghost use Rattle.mime_type.specs.Head.{head_at, kind_in, shown_in};
+ghost use Rattle.mime_type.specs.Joined.{node_of};
+ghost use Rattle.mime_type.specs.Labels.{trimmed, id_in, languages_in};
+
+use crate::content::{read_boundary, read_charset, read_media, read_name, read_shown};
+use crate::kind::{read_disposition, read_type};
+use crate::labels::{read_coding, read_id, read_language, read_location};
+use crate::part::{Part, Parts};
+use jm_base::{NoMemory, Text, Texts};
+use mime_codec::Coding;
+use mime_lines::{FieldSpans, fields, last_value, unfold};
+use std::alloc::Global;
+
+/// What the last field of a name says, on one line, where there is one.
+#[tactic(auto, unfolding(crate::specs::Head::field_text))]
+fn field_text(
+    alloc: Global,
+    bytes: &[u8],
+    fields: &FieldSpans,
+    name: &[u8],
+) -> Result<Option<Text>, NoMemory>
+    requires within { All (IsWithin bytes.now) fields.now }
+    requires whole { fields.now ≡ fields_of bytes.now }
+    ensures { IfOk result (λ t. t ≡ Head.field_text name.now bytes.now) }
+{
+    let Some(value) = last_value(bytes, fields, name) else {
+        return Ok(None);
+    };
+    let line = unfold(alloc, value)?;
+    Ok(Some(Text::from_string(String::from_utf8_lossy(alloc, line.as_slice())?)))
+}
+
+/// What a part is taken for.
+#[derive(Drop)]
+struct Content {
+    media: Text,
+    charset: Option<Text>,
+    boundary: Option<Text>,
+    disposition: Option<Text>,
+    name: Option<Text>,
+}
+
+/// What Content-Type and Content-Disposition say.
+fn read_content(
+    alloc: Global,
+    bytes: &[u8],
+    fields: &FieldSpans,
+    digest: bool,
+) -> Result<Content, NoMemory>
+    requires within { All (IsWithin bytes.now) fields.now }
+    requires whole { fields.now ≡ fields_of bytes.now }
+    ensures media { IfOk result (λ c. c.media ≡ media_of (kind_in digest bytes.now)) }
+    ensures charset { IfOk result (λ c. c.charset ≡ charset_of (kind_in digest bytes.now)) }
+    ensures boundary { IfOk result (λ c. c.boundary ≡ boundary_of (kind_in digest bytes.now)) }
+    ensures disposition { IfOk result (λ c. c.disposition ≡ option_map (λ d. d.kind) (shown_in bytes.now)) }
+    ensures name { IfOk result (λ c. c.name ≡ name_of (shown_in bytes.now) (kind_in digest bytes.now)) }
+{
+    let kind_text = field_text(alloc, bytes, fields, b"content-type")?;
+    let shown_text = field_text(alloc, bytes, fields, b"content-disposition")?;
+    let kind = read_type(alloc, &kind_text, digest)?;
+    let shown = read_disposition(alloc, &shown_text)?;
+    let boundary = read_boundary(alloc, &kind)?;
+    Ok(Content {
+        media: read_media(alloc, &kind, &boundary)?,
+        charset: read_charset(alloc, &kind)?,
+        boundary,
+        disposition: read_shown(alloc, &shown)?,
+        name: read_name(alloc, &shown, &kind)?,
+    })
+}
+
+/// What the other fields say.
+#[derive(Drop)]
+struct Labels {
+    cid: Option<Text>,
+    language: Option<Texts>,
+    location: Option<Text>,
+    coding: Coding,
+}
+
+/// What Content-Id, Content-Language, Content-Location and Content-Transfer-Encoding say.
+fn read_labels(alloc: Global, bytes: &[u8], fields: &FieldSpans) -> Result<Labels, NoMemory>
+    requires within { All (IsWithin bytes.now) fields.now }
+    requires whole { fields.now ≡ fields_of bytes.now }
+    ensures cid { IfOk result (λ l. l.cid ≡ option_map id_in (Head.field_text (codes "content-id") bytes.now)) }
+    ensures language { IfOk result (λ l. l.language ≡ option_map languages_in (Head.field_text (codes "content-language") bytes.now)) }
+    ensures location { IfOk result (λ l. l.location ≡ option_map trimmed (Head.field_text (codes "content-location") bytes.now)) }
+    ensures coding { IfOk result (λ l. l.coding ≡ coding_of (Head.field_text (codes "content-transfer-encoding") bytes.now)) }
+{
+    let id = field_text(alloc, bytes, fields, b"content-id")?;
+    let language = field_text(alloc, bytes, fields, b"content-language")?;
+    let location = field_text(alloc, bytes, fields, b"content-location")?;
+    let coding = field_text(alloc, bytes, fields, b"content-transfer-encoding")?;
+    Ok(Labels {
+        cid: read_id(alloc, &id)?,
+        language: read_language(alloc, &language)?,
+        location: read_location(alloc, &location)?,
+        coding: read_coding(alloc, &coding)?,
+    })
+}
+
+/// The head of the part that these places of a message hold: what its header says of it, with no parts within it and
+/// no number yet. `digest` says that it stands in a multipart/digest, where a part without a Content-Type is a message
+/// (RFC 2046, section 5.1.5). Total for all bytes.
+pub fn part_head(
+    alloc: Global,
+    bytes: &[u8],
+    start: u64,
+    end: u64,
+    digest: bool,
+) -> Result<Part, NoMemory>
+    requires ordered { start ≤ end }
+    requires within { end ≤ length bytes.now }
+    ensures node { IfOk result (λ p. node_of p ≡ head_at start (slice_range bytes.now start end) digest) }
+    ensures parts { IfOk result (λ p. p.parts ≡ none) }
+{
+    let piece = &bytes[start as usize..end as usize];
+    let head = fields(alloc, piece)?;
+    let content = read_content(alloc, piece, &head.fields, digest)?;
+    let labels = read_labels(alloc, piece, &head.fields)?;
+    Ok(Part {
+        start,
+        body: start + head.body,
+        end,
+        number: None,
+        media: content.media,
+        charset: content.charset,
+        boundary: content.boundary,
+        disposition: content.disposition,
+        name: content.name,
+        cid: labels.cid,
+        language: labels.language,
+        location: labels.location,
+        coding: labels.coding,
+        parts: Parts::from_vec(Vec::new(alloc)),
+    })
+}

@@ -1,0 +1,122 @@
+// Content-Type and Content-Disposition as a name with parameters (RFC 2045, section 5.1; RFC 2183, section 2).
+ghost use Rattle.std.specs.Prelude.{◌≡◌, ◌++◌, ◌∷◌, map, option_map, IfOk, IfSome, List, ℕ, Some};
+ghost use Rattle.mime_lines.specs.Named.{lowered};
+ghost use Rattle.mime_type.specs.Grammar;
+ghost use Rattle.mime_type.specs.Grammar.{type_at};
+ghost use Rattle.mime_type.specs.Written.{IsToken, written, meant};
+ghost use Rattle.mime_type.specs.Content;
+ghost use Rattle.mime_type.specs.Texts.{IsText};
+ghost use Rattle.mime_type.specs.Views.{kind_of};
+
+use crate::characters::{lower_copy, push_lowered};
+use crate::gap::{skip_gap, skip_mark};
+use crate::params::{Param, all_params};
+use crate::values::token;
+use jm_base::{NoMemory, Text};
+use std::alloc::Global;
+
+/// A type or a disposition in lower case, with its parameters.
+#[derive(Debug, Drop)]
+pub struct Kind {
+    pub kind: Vec<u8>,
+    pub params: Vec<Param>,
+}
+
+/// A type and a subtype, as one text in lower case.
+fn join_type(alloc: Global, main: &[u8], sub: &[u8]) -> Result<Vec<u8>, NoMemory>
+    ensures { IfOk result (λ out. out.items ≡ lowered (main.now ++ 47 ∷ sub.now)) }
+{
+    let mut out = lower_copy(alloc, main)?;
+    out.push(b'/')?;
+    push_lowered(&mut out, sub)?;
+    Ok(out)
+}
+
+#[tactic(auto, unfolding(crate::specs::Grammar::type_at))]
+fn take_type(alloc: Global, text: &[u8]) -> Result<Option<Kind>, NoMemory>
+    ensures { IfOk result (λ r. option_map kind_of r ≡ Rattle.mime_type.specs.Grammar.type_at text.now) }
+{
+    let Some(at) = skip_gap(text) else {
+        return Ok(None);
+    };
+    let Some(main) = token(at) else {
+        return Ok(None);
+    };
+    let Some(rest) = skip_mark(b'/', main.rest) else {
+        return Ok(None);
+    };
+    let Some(sub) = token(rest) else {
+        return Ok(None);
+    };
+    let params = all_params(alloc, sub.rest)?;
+    if !params.whole {
+        return Ok(None);
+    }
+    Ok(Some(Kind {
+        kind: join_type(alloc, main.text, sub.text)?,
+        params: params.found,
+    }))
+}
+
+#[tactic(auto, unfolding(crate::specs::Grammar::disposition_at))]
+fn take_disposition(alloc: Global, text: &[u8]) -> Result<Option<Kind>, NoMemory>
+    ensures { IfOk result (λ r. option_map kind_of r ≡ Rattle.mime_type.specs.Grammar.disposition_at text.now) }
+{
+    let Some(at) = skip_gap(text) else {
+        return Ok(None);
+    };
+    let Some(name) = token(at) else {
+        return Ok(None);
+    };
+    let params = all_params(alloc, name.rest)?;
+    Ok(Some(Kind {
+        kind: lower_copy(alloc, name.text)?,
+        params: params.found,
+    }))
+}
+
+/// A type without parameters.
+fn plain_type(alloc: Global, kind: &str) -> Result<Kind, NoMemory>
+    ensures value { IfOk result (λ k. kind_of k ≡ Rattle.mime_type.specs.Content.plain_type kind.now) }
+    ensures text { IfOk result (λ k. IsText (kind_of k)) }
+{
+    Ok(Kind {
+        kind: Vec::from_slice(alloc, kind.as_bytes())?,
+        params: Vec::new(alloc),
+    })
+}
+
+const PLAIN: &str = "text/plain";
+
+const MESSAGE: &str = "message/rfc822";
+
+/// The type of a part by its Content-Type field, if it has one.
+pub fn read_type(alloc: Global, field: &Option<Text>, digest: bool) -> Result<Kind, NoMemory>
+    ensures value { IfOk result (λ k. kind_of k ≡ Rattle.mime_type.specs.Content.type_of digest field.now) }
+    ensures texts { IfOk result (λ k. IsText (kind_of k)) }
+{
+    let Some(text) = field else {
+        return plain_type(alloc, if digest { MESSAGE } else { PLAIN });
+    };
+    match take_type(alloc, text.as_bytes())? {
+        Some(kind) => Ok(kind),
+        None => plain_type(alloc, PLAIN),
+    }
+}
+
+/// The disposition of a part by its Content-Disposition field, if it has one.
+pub fn read_disposition(alloc: Global, field: &Option<Text>) -> Result<Option<Kind>, NoMemory>
+    ensures value { IfOk result (λ r. option_map kind_of r ≡ Rattle.mime_type.specs.Content.disposition_of field.now) }
+    ensures texts { IfOk result (λ r. IfSome r (λ k. IsText (kind_of k))) }
+{
+    match field {
+        Some(text) => take_disposition(alloc, text.as_bytes()),
+        None => Ok(None),
+    }
+}
+
+/// A law: a type that is written as two tokens and a parameter in quotes is read as what was meant, in lower case but
+/// for the parameter's value, which may be any bytes.
+pub fn types_read_back()
+    ensures { (main sub name value : List ℕ) → IsToken main → IsToken sub → IsToken name → type_at (written main sub name value) ≡ Some (meant main sub name value) }
+{}

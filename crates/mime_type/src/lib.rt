@@ -1,0 +1,21 @@
+//! The head of a message part: its type, its disposition, its coding and its names (RFC 2045, RFC 2183).
+//!
+//! [`part_head`] reads a part's header into a [`Part`], which has no parts within it yet.
+#![tactic(auto)]
+
+mod characters;
+mod content;
+mod gap;
+mod head;
+mod kind;
+mod labels;
+mod params;
+mod part;
+#[cfg(test)]
+mod tests;
+mod values;
+
+pub use head::part_head;
+pub use kind::types_read_back;
+pub use part::{Part, Parts};
+pub use values::quotes_read_back;

@@ -1,0 +1,88 @@
+// A part of a message, with the parts within it.
+ghost use Rattle.std.specs.Prelude.{◌≡◌};
+
+use jm_base::{Text, Texts};
+use mime_codec::Coding;
+use std::marker::Model;
+
+/// A part of a message. Places count the message's bytes from 0.
+#[derive(Drop)]
+#[cycle(part)]
+pub struct Part {
+    /// Where the part begins.
+    pub start: u64,
+    /// Where its body begins, behind the empty line that ends its header.
+    pub body: u64,
+    /// Where it ends.
+    pub end: u64,
+    /// The number of a leaf in the message, from 1, once it is known.
+    pub number: Option<u64>,
+    /// The type and subtype in lower case, as `text/plain`.
+    pub media: Text,
+    /// The charset in lower case.
+    pub charset: Option<Text>,
+    /// The boundary of a multipart; it isn't empty.
+    pub boundary: Option<Text>,
+    /// The disposition in lower case.
+    pub disposition: Option<Text>,
+    /// The name of a file, before its encoded words are decoded.
+    pub name: Option<Text>,
+    /// The identifier of Content-Id, without angle brackets.
+    pub cid: Option<Text>,
+    /// The tags of Content-Language.
+    pub language: Option<Texts>,
+    /// The URI of Content-Location.
+    pub location: Option<Text>,
+    /// How the body is written.
+    pub coding: Coding,
+    /// The parts within a multipart.
+    pub parts: Parts,
+}
+
+/// Parts in their order, seen by contracts as a list of trees.
+#[derive(Drop)]
+#[cycle(part)]
+pub struct Parts {
+    items: Vec<Part>,
+}
+
+impl Model for Parts {
+    ghost use Rattle.mime_type.specs.Forest.{Forest};
+    ghost use Rattle.mime_type.specs.Code.{forest_code};
+
+    ghost Value = { Forest };
+
+    ghost coded = { forest_code };
+
+    ghost use Rattle.mime_type.specs.Forest.{none};
+    ghost use Rattle.mime_type.specs.Joined.{joined};
+
+    ghost view = { λ a. joined a.items.items none };
+
+    ghost use Rattle.mime_type.specs.Forest.{forest_size};
+
+    ghost size = { forest_size };
+
+    ghost use Rattle.mime_type.specs.Falls.{parts_deep};
+
+    ghost size_decreases = { λ a h. parts_deep a.items.items };
+}
+
+impl Parts {
+    ghost use Rattle.mime_type.specs.Forest.{none};
+    ghost use Rattle.mime_type.specs.Joined.{joined};
+
+    /// The parts of a vector. It takes no memory.
+    pub fn from_vec(items: Vec<Part>) -> Parts
+        ensures { result ≡ joined items.items none }
+    {
+        Parts { items }
+    }
+
+    /// Lends the parts in their order.
+    pub fn as_slice(&self) -> &[Part]
+        ensures { joined result.now none ≡ self.now }
+    {
+        self.items.as_slice()
+    }
+}

@@ -1,0 +1,141 @@
+// Tokens and the values of parameters.
+ghost use Rattle.std.specs.Prelude.{◌≡◌, ◌≢◌, ◌≤◌, ◌<◌, ◌∷◌, ◌++◌, length, option_map, Some, None, IfSome, IfOk, ℕ, List, Bool, false};
+ghost use Rattle.std.specs.List.{prefix_len};
+ghost use Rattle.mime_type.specs.Characters;
+ghost use Rattle.mime_type.specs.Grammar.{run_at, quoted_from, value_at, with_front, quoted_text};
+ghost use Rattle.mime_type.specs.Views.{run_of, value_of};
+
+use crate::characters::{is_bare, is_token};
+use jm_base::NoMemory;
+use std::alloc::Global;
+
+/// Some text, and the text after it.
+#[derive(Clone, Copy)]
+pub struct Run<'a> {
+    pub text: &'a [u8],
+    pub rest: &'a [u8],
+}
+
+/// A value, and the text after it.
+#[derive(Drop)]
+pub struct Value<'a> {
+    pub text: Vec<u8>,
+    pub rest: &'a [u8],
+}
+
+fn token_len(text: &[u8]) -> usize
+    ensures within { result ≤ length text.now }
+    ensures value { result ≡ prefix_len Rattle.mime_type.specs.Characters.is_token text.now }
+{
+    for (i, byte) in text.iter().enumerate() {
+        if !is_token(*byte) {
+            return i;
+        }
+    }
+    text.len()
+}
+
+fn bare_len(text: &[u8]) -> usize
+    ensures within { result ≤ length text.now }
+    ensures value { result ≡ prefix_len Rattle.mime_type.specs.Characters.is_bare text.now }
+{
+    for (i, byte) in text.iter().enumerate() {
+        if !is_bare(*byte) {
+            return i;
+        }
+    }
+    text.len()
+}
+
+/// The front of this length, if it isn't empty.
+fn cut(text: &[u8], len: usize) -> Option<Run<'_>>
+    requires { len ≤ length text.now }
+    ensures value { (class : ℕ → Bool) → len ≡ prefix_len class text.now → option_map run_of result ≡ run_at class text.now }
+    ensures within { IfSome result (λ r. length r.rest.now ≤ length text.now) }
+{
+    if len == 0 {
+        return None;
+    }
+    let (text, rest) = text.split_at(len);
+    Some(Run { text, rest })
+}
+
+/// The token at the front.
+pub fn token(text: &[u8]) -> Option<Run<'_>>
+    ensures value { option_map run_of result ≡ run_at Rattle.mime_type.specs.Characters.is_token text.now }
+    ensures within { IfSome result (λ r. length r.rest.now ≤ length text.now) }
+{
+    cut(text, token_len(text))
+}
+
+/// The value without quote marks at the front.
+fn bare(text: &[u8]) -> Option<Run<'_>>
+    ensures value { option_map run_of result ≡ run_at Rattle.mime_type.specs.Characters.is_bare text.now }
+    ensures within { IfSome result (λ r. length r.rest.now ≤ length text.now) }
+{
+    cut(text, bare_len(text))
+}
+
+/// Takes in a byte of a quoted string that isn't its end, and says whether it quotes the next.
+fn push_quoted(out: &mut Vec<u8>, quoted: bool, byte: u8) -> Result<bool, NoMemory>
+    requires { quoted ≡ false → byte ≢ 34 }
+    ensures { IfOk result (λ now. (rest : List ℕ) → with_front out.new.items (quoted_from now rest) ≡ with_front out.old.items (quoted_from quoted (byte ∷ rest))) }
+{
+    if !quoted && byte == b'\\' {
+        return Ok(true);
+    }
+    out.push(byte)?;
+    Ok(false)
+}
+
+/// The rest of a quoted string, behind its first quote mark.
+fn quoted_rest(alloc: Global, text: &[u8]) -> Result<Option<Value<'_>>, NoMemory>
+    ensures value { IfOk result (λ r. option_map value_of r ≡ quoted_from false text.now) }
+    ensures within { IfOk result (λ o. IfSome o (λ r. length r.rest.now ≤ length text.now)) }
+{
+    let mut out = Vec::new(alloc);
+    let mut quoted = false;
+    let mut rest = text;
+    while let [byte, after @ ..] = rest {
+        if !quoted && *byte == b'"' {
+            return Ok(Some(Value {
+                text: out,
+                rest: after,
+            }));
+        }
+        quoted = push_quoted(&mut out, quoted, *byte)?;
+        rest = after;
+    }
+    Ok(None)
+}
+
+/// A run as a value of its own.
+fn copied(alloc: Global, run: Option<Run<'_>>) -> Result<Option<Value<'_>>, NoMemory>
+    ensures value { IfOk result (λ r. option_map value_of r ≡ option_map run_of run.entry) }
+    ensures within { (n : ℕ) → IfSome run.entry (λ r. length r.rest.now ≤ n) → IfOk result (λ o. IfSome o (λ r. length r.rest.now ≤ n)) }
+{
+    match run {
+        None => Ok(None),
+        Some(run) => Ok(Some(Value {
+            text: Vec::from_slice(alloc, run.text)?,
+            rest: run.rest,
+        })),
+    }
+}
+
+/// The value at the front: a quoted string, or a run of other characters.
+pub fn take_value(alloc: Global, text: &[u8]) -> Result<Option<Value<'_>>, NoMemory>
+    ensures value { IfOk result (λ r. option_map value_of r ≡ value_at text.now) }
+    ensures within { IfOk result (λ o. IfSome o (λ r. length r.rest.now ≤ length text.now)) }
+{
+    match text {
+        [b'"', rest @ ..] => quoted_rest(alloc, rest),
+        [_, ..] => copied(alloc, bare(text)),
+        [] => Ok(None),
+    }
+}
+
+/// A law: each value that is written between quote marks is read again, whatever follows it.
+pub fn quotes_read_back()
+    ensures { (text rest : List ℕ) → value_at (34 ∷ quoted_text text ++ 34 ∷ rest) ≡ Some (text, rest) }
+{}
