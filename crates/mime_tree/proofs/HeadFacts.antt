@@ -11,7 +11,7 @@ use Rattle.mime_type.specs.Joined.{tree_of, joined}
 use Rattle.mime_type.specs.Head.{head_at}
 use Rattle.mime_tree.specs.Tree.{closed, node_at}
 use Rattle.mime_tree.specs.Places.{IsPlaced, AllPlaced}
-use Rattle.mime_tree.specs.Kept.{number_of, next_number}
+use Rattle.mime_tree.specs.Kept.{next_number}
 use Rattle.mime_tree.specs.Counted.{with_number}
 use Rattle.mime_lines.proofs.SpanFacts.{body_of-le}
 use Rattle.mime_tree.proofs.SliceFacts.{length-slice, drop-slice}

@@ -1,17 +1,15 @@
 -- What a budget takes of a tree, part by part.
-use Rattle.std.proofs.Common.{◌≡◌, ◌≢◌, ℕ, zero, suc, ◌+◌, ◌-◌, ◌<◌, Bool, true, false, List, [], ◌∷◌, ◌++◌, length, drop, refl, ap, sym, ◌∙◌, arith, Some, None, Option}
-use Rattle.std.specs.Prelude.{is_some}
-use Rattle.mime_lines.specs.Lines.{lines}
+use Rattle.std.proofs.Common.{◌≡◌, ℕ, zero, suc, ◌+◌, ◌-◌, ◌<◌, Bool, false, List, [], ◌∷◌, ◌++◌, drop, refl, ap, sym, ◌∙◌, arith, Some, None}
 use Rattle.mime_lines.specs.Fields.{body_of}
 use Rattle.mime_cut.specs.declared.mark.Mark.{Mark}
 use Rattle.mime_cut.specs.declared.mark.Mark.TheVariants.{Plain, Opens, Closes}
-use Rattle.mime_cut.specs.Cut.{Piece, piece, cut, after_mark}
+use Rattle.mime_cut.specs.Cut.{Piece, piece, after_mark}
 use Rattle.mime_type.specs.Node.{Node}
 use Rattle.mime_type.specs.Forest.{Forest, none, part}
 use Rattle.mime_type.specs.Joined.{node_of, tree_of, joined}
 use Rattle.mime_type.specs.declared.part.Part.{Part}
-use Rattle.mime_tree.specs.Tree.{is_digest, node_at, planted, within, grow}
-use Rattle.mime_tree.specs.Kept.{Counted, kept, numbered, number_of, next_number, parts_of}
+use Rattle.mime_tree.specs.Tree.{is_digest, node_at, within, grow}
+use Rattle.mime_tree.specs.Kept.{kept, numbered, number_of, next_number, parts_of}
 use Rattle.mime_tree.specs.Counted.{Taken, taken, with_number}
 
 abbrev pub took : Forest → ℕ → ℕ → Taken

@@ -1,5 +1,5 @@
 -- The limit on parts, and the numbers of leaves.
-use Rattle.std.specs.Prelude.{ℕ, zero, suc, ◌+◌, Bool, false, List, [], ◌∷◌, ◌++◌, Option, None, Some, is_some, if◌then◌else◌}
+use Rattle.std.specs.Prelude.{ℕ, zero, suc, ◌+◌, false, List, [], ◌∷◌, ◌++◌, Option, None, Some, is_some, if◌then◌else◌}
 use Rattle.mime_cut.specs.Cut.{piece}
 use Rattle.mime_type.specs.Node.{Node}
 use Rattle.mime_type.specs.Forest.{Forest, none, part}

@@ -1,7 +1,6 @@
-use Rattle.std.proofs.Common.{◌≡◌, ◌≤◌, ◌<◌, ◌+◌, ◌-◌, ◌∷◌, ◌++◌, [], length, take, drop, Some, rules, subst, sym, ap, ◌∙◌, arith}
+use Rattle.std.proofs.Common.{◌≡◌, ◌≤◌, ◌<◌, ◌+◌, ◌-◌, ◌∷◌, length, take, drop, Some, rules, subst, sym, ap, ◌∙◌, arith}
 use Rattle.std.specs.Prelude.{slice_range}
 use Rattle.mime_lines.specs.Lines.{lines}
-use Rattle.mime_lines.specs.Fields.{body_of}
 use Rattle.mime_cut.specs.Cut.{piece, cut, after_mark}
 use Rattle.mime_type.specs.Forest.{none, part}
 use Rattle.mime_type.specs.Joined.{node_of, tree_of, joined}
@@ -9,7 +8,7 @@ use Rattle.mime_tree.specs.Tree.{grow, planted, within}
 use Rattle.mime_tree.specs.Tree.{is_digest as digest_of}
 use Rattle.mime_tree.specs.Places.{AllPlaced}
 use Rattle.mime_tree.specs.Kept.{next_number}
-use Rattle.mime_tree.specs.Counted.{Taken, taken}
+use Rattle.mime_tree.specs.Counted.{taken}
 use Rattle.mime_tree.proofs.TakenFacts.{took, onto, taken_zero, part_alone, part_first, inner_of, inner_more, onto_push, finished}
 use Rattle.mime_tree.proofs.HeadFacts.{entered, not_numbered, same_next, body_slice, part_placed, numbered_placed, placed_push}
 use Rattle.mime_tree.proofs.SliceFacts.{length-slice, take-slice, drop-slice}
