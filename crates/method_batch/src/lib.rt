@@ -10,6 +10,8 @@ mod progress;
 mod reply;
 mod request;
 mod response;
+#[cfg(test)]
+mod tests;
 mod using;
 
 pub use answer::{answer_request, answer_tree};
