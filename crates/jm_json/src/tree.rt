@@ -183,6 +183,16 @@ impl Items {
         self.items.as_slice()
     }
 
+    /// Puts the items of another list at the end.
+    pub fn append(&mut self, more: Items) -> Result<(), NoMemory>
+        ensures ok { OnOk result (self.new ≡ self.old ++ more) }
+        ensures err { OnErr result (self.new ≡ self.old) }
+    {
+        let mut items = more.into_vec();
+        self.items.append(&mut items)?;
+        Ok(())
+    }
+
     /// Puts an item at the end.
     pub fn push(&mut self, item: Json) -> Result<(), NoMemory>
         ensures ok { OnOk result (self.new ≡ self.old ++ tree_of item ∷ []) }

@@ -1,0 +1,3 @@
+pub mod References
+pub mod Explained
+pub mod Parts

@@ -1,0 +1,184 @@
+// The arguments of a call, with each reference replaced by what it refers to.
+ghost use Rattle.std.specs.Prelude.{◌≡◌, ◌&&◌, [], true, false, Some, map, drop, is_some, option_map, MatchResult, MatchOption};
+ghost use Rattle.jm_json.specs.Json.{tree_of, member_of};
+ghost use Rattle.jm_json.specs.Find.{find};
+ghost use Rattle.jm_json.specs.Invoked.{call_of};
+ghost use Rattle.result_refs.specs.References.{resolution, resolved, by_arguments, arguments, argument, clashes, referred, asked, taken, response_of, text_at, is_marked};
+ghost use Rattle.result_refs.specs.Explained.{Explains, Fails};
+
+use crate::RefFault;
+use crate::path::pick;
+use jm_base::Text;
+use jm_json::{Invocation, Json, Member, Members, copy};
+use std::alloc::Global;
+
+/// The arguments of a call in which each member whose name begins with `#` is replaced: the name loses the mark, and the value
+/// is what the reference names in the responses so far (RFC 8620, section 3.7). The first response with the id of a reference
+/// is taken, and its name must be that of the reference.
+pub fn resolve(alloc: Global, args: &Json, responses: &[Invocation]) -> Result<Json, RefFault>
+    ensures { MatchResult result
+        (λ t. resolution (tree_of args.now) (map call_of responses.now) ≡ resolved (tree_of t))
+        (λ e. Explains e (resolution (tree_of args.now) (map call_of responses.now))) }
+{
+    match args.as_object() {
+        Some(members) => resolve_members(alloc, members, responses),
+        None => Ok(copy(alloc, args)?),
+    }
+}
+
+fn resolve_members(
+    alloc: Global,
+    members: &Members,
+    responses: &[Invocation],
+) -> Result<Json, RefFault>
+    ensures { MatchResult result
+        (λ t. by_arguments (arguments [] members.now (map call_of responses.now)) (clashes members.now members.now) ≡ resolved (tree_of t))
+        (λ e. Explains e (by_arguments (arguments [] members.now (map call_of responses.now)) (clashes members.now members.now))) }
+{
+    let found = match replace_members(alloc, members.as_slice(), responses) {
+        Ok(found) => found,
+        Err(fault) => return Err(fault),
+    };
+    if has_clash(members, members.as_slice()) {
+        return Err(RefFault::Both);
+    }
+    Ok(Json::Object(found))
+}
+
+fn replace_members(
+    alloc: Global,
+    members: &[Member],
+    responses: &[Invocation],
+) -> Result<Members, RefFault>
+    ensures { MatchResult result
+        (λ ms. arguments [] (map member_of members.now) (map call_of responses.now) ≡ Some ms)
+        (λ e. Fails e (arguments [] (map member_of members.now) (map call_of responses.now))) }
+{
+    let mut found = Members::with_room(alloc, members.len())?;
+    for member in members {
+        match replace(alloc, member, responses) {
+            Ok(put) => found.put(put.name, put.value)?,
+            Err(fault) => return Err(fault),
+        }
+    }
+    Ok(found)
+}
+
+fn replace(alloc: Global, member: &Member, responses: &[Invocation]) -> Result<Member, RefFault>
+    ensures { MatchResult result
+        (λ m. argument (member_of member.now) (map call_of responses.now) ≡ Some (member_of m))
+        (λ e. Fails e (argument (member_of member.now) (map call_of responses.now))) }
+{
+    match unmarked(member.name.as_str()) {
+        Some(name) => match refer(alloc, &member.value, responses) {
+            Ok(value) => Ok(Member {
+                name: Text::from_str(alloc, name)?,
+                value,
+            }),
+            Err(fault) => Err(fault),
+        },
+        None => Ok(Member {
+            name: member.name.copy()?,
+            value: copy(alloc, &member.value)?,
+        }),
+    }
+}
+
+// A name without its mark, where it has one.
+fn unmarked(name: &str) -> Option<&str>
+    ensures { MatchOption result (is_marked name.now ≡ false)
+        (λ n. (is_marked name.now ≡ true) × (n.now ≡ drop 1 name.now)) }
+{
+    name.strip_prefix('#')
+}
+
+fn refer(alloc: Global, reference: &Json, responses: &[Invocation]) -> Result<Json, RefFault>
+    ensures { MatchResult result
+        (λ t. referred (tree_of reference.now) (map call_of responses.now) ≡ Some (tree_of t))
+        (λ e. Fails e (referred (tree_of reference.now) (map call_of responses.now))) }
+{
+    match reference.as_object() {
+        Some(members) => ask(alloc, members, responses),
+        None => Err(RefFault::BadReference),
+    }
+}
+
+fn ask(alloc: Global, members: &Members, responses: &[Invocation]) -> Result<Json, RefFault>
+    ensures { MatchResult result
+        (λ t. asked members.now (map call_of responses.now) ≡ Some (tree_of t))
+        (λ e. Fails e (asked members.now (map call_of responses.now))) }
+{
+    let Some(id) = text_of(members, "resultOf") else {
+        return Err(RefFault::BadReference);
+    };
+    let Some(name) = text_of(members, "name") else {
+        return Err(RefFault::BadReference);
+    };
+    let Some(path) = text_of(members, "path") else {
+        return Err(RefFault::BadReference);
+    };
+    take(alloc, id, name, path, responses)
+}
+
+fn text_of<'a>(members: &'a Members, key: &str) -> Option<&'a Text>
+    ensures { option_map (λ t. t.now) result ≡ text_at key.now members.now }
+{
+    match members.get(key) {
+        Some(value) => value.as_text(),
+        None => None,
+    }
+}
+
+fn take(
+    alloc: Global,
+    id: &Text,
+    name: &Text,
+    path: &Text,
+    responses: &[Invocation],
+) -> Result<Json, RefFault>
+    ensures { MatchResult result
+        (λ t. taken id.now name.now path.now (map call_of responses.now) ≡ Some (tree_of t))
+        (λ e. Fails e (taken id.now name.now path.now (map call_of responses.now))) }
+{
+    match response_to(id.as_str(), responses) {
+        Some(response) => {
+            if response.name.as_str() != name.as_str() {
+                return Err(RefFault::BadReference);
+            }
+            pick(alloc, &response.args, path.as_bytes())
+        }
+        None => Err(RefFault::BadReference),
+    }
+}
+
+fn response_to<'a>(id: &str, responses: &'a [Invocation]) -> Option<&'a Invocation>
+    ensures { option_map (λ r. call_of r.now) result ≡ response_of id.now (map call_of responses.now) }
+{
+    for response in responses {
+        if response.id.as_str() == id {
+            return Some(response);
+        }
+    }
+    None
+}
+
+fn has_clash(all: &Members, members: &[Member]) -> bool
+    ensures { result ≡ clashes (map member_of members.now) all.now }
+{
+    for member in members {
+        if is_given_twice(all, member.name.as_str()) {
+            return true;
+        }
+    }
+    false
+}
+
+// Whether a name has the mark, and a member stands under the name without it.
+fn is_given_twice(all: &Members, name: &str) -> bool
+    ensures { result ≡ (is_marked name.now && is_some (find (drop 1 name.now) all.now)) }
+{
+    match unmarked(name) {
+        Some(plain) => all.get(plain).is_some(),
+        None => false,
+    }
+}

@@ -1,0 +1,114 @@
+// Tables of references. The expected values are worked out from RFC 8620, section 3.7, and RFC 6901.
+use crate::{RefFault, resolve};
+use jm_base::Text;
+use jm_json::{Invocation, Json, read, write};
+use std::alloc::{AllocError, Global};
+use std::test::Fail;
+
+// The responses so far: what each was called, its id, and its arguments.
+const RESPONSES: [(&str, &str, &str); 3] = [
+    (
+        "Foo/get",
+        "a",
+        "{\"list\":[{\"id\":\"1\",\"to\":[\"x\",\"y\"]},{\"id\":\"2\",\"to\":[\"z\"]}],\"m/n\":{\"~\":[[1,[2]],[3]]},\"\":{\"\":5},\"*\":7,\"none\":[]}",
+    ),
+    ("Foo/get", "b", "{\"v\":1}"),
+    ("Foo/set", "b", "{\"v\":2}"),
+];
+
+// A reference by its id, name and path, and what the argument becomes.
+const REFERENCES: &str = "a Foo/get /list/*/id => {\"x\":[\"1\",\"2\"]}\n\
+    a Foo/get /list/*/to => {\"x\":[\"x\",\"y\",\"z\"]}\n\
+    a Foo/get /list/*/to/* => {\"x\":[\"x\",\"y\",\"z\"]}\n\
+    a Foo/get /list/1/to/0 => {\"x\":\"z\"}\n\
+    a Foo/get /list/0/to => {\"x\":[\"x\",\"y\"]}\n\
+    a Foo/get /m~1n/~0 => {\"x\":[[1,[2]],[3]]}\n\
+    a Foo/get /m~1n/~0/* => {\"x\":[1,[2],3]}\n\
+    a Foo/get /m~1n/~0/*/* => {\"x\":[1,2,3]}\n\
+    a Foo/get // => {\"x\":5}\n\
+    a Foo/get /* => {\"x\":7}\n\
+    a Foo/get /none/* => {\"x\":[]}\n\
+    a Foo/get /none/*/id => {\"x\":[]}\n\
+    b Foo/get /v => {\"x\":1}\n\
+    b Foo/get  => {\"x\":{\"v\":1}}\n\
+    b Foo/set /v => bad reference\n\
+    c Foo/get /v => bad reference\n\
+    a Foo/get list => bad reference\n\
+    a Foo/get /list/2 => bad reference\n\
+    a Foo/get /list/01/id => bad reference\n\
+    a Foo/get /list/-1 => bad reference\n\
+    a Foo/get /list/*/to/1 => bad reference\n\
+    a Foo/get /list/id => bad reference\n\
+    a Foo/get /m~2n => bad reference\n\
+    a Foo/get /m~ => bad reference\n\
+    a Foo/get /*/0 => bad reference\n\
+    a Foo/get /list/ => bad reference";
+
+// Other arguments, and what becomes of them.
+const ARGUMENTS: &str = "{\"b\":1,\"a\":null} => {\"a\":null,\"b\":1}\n\
+    7 => 7\n\
+    {\"#x\":1} => bad reference\n\
+    {\"#x\":{\"resultOf\":\"b\",\"name\":\"Foo/get\"}} => bad reference\n\
+    {\"#x\":{\"resultOf\":\"b\",\"name\":\"Foo/get\",\"path\":1}} => bad reference\n\
+    {\"#x\":{\"resultOf\":\"b\",\"name\":\"Foo/get\",\"path\":\"/v\"},\"a\":0} => {\"a\":0,\"x\":1}\n\
+    {\"#x\":{\"resultOf\":\"b\",\"name\":\"Foo/get\",\"path\":\"/v\"},\"x\":0} => both\n\
+    {\"##x\":{\"resultOf\":\"b\",\"name\":\"Foo/get\",\"path\":\"/v\"}} => {\"#x\":1}\n\
+    {\"##x\":{\"resultOf\":\"b\",\"name\":\"Foo/get\",\"path\":\"/v\"},\"#x\":{\"resultOf\":\"b\",\"name\":\"Foo/get\",\"path\":\"/v\"}} => both\n\
+    {\"#x\":{\"resultOf\":\"z\",\"name\":\"Foo/get\",\"path\":\"/v\"},\"x\":0} => bad reference";
+
+fn tree(alloc: Global, text: &str) -> Result<Json, AllocError> {
+    match read(alloc, text.as_bytes()) {
+        Ok(tree) => Ok(tree),
+        Err(_) => Err(AllocError),
+    }
+}
+
+fn responses(alloc: Global) -> Result<Vec<Invocation>, AllocError> {
+    let mut all = Vec::new(alloc);
+    for (name, id, args) in RESPONSES {
+        all.push(Invocation {
+            name: Text::from_string(String::from_str(alloc, name)?),
+            args: tree(alloc, args)?,
+            id: Text::from_string(String::from_str(alloc, id)?),
+        })?;
+    }
+    Ok(all)
+}
+
+// The text of what arguments become, or why they are refused.
+fn outcome(alloc: Global, args: &str) -> Result<Vec<u8>, AllocError> {
+    match resolve(alloc, &tree(alloc, args)?, &responses(alloc)?) {
+        Ok(tree) => match write(alloc, &tree) {
+            Ok(text) => Ok(text.into_vec()),
+            Err(_) => Err(AllocError),
+        },
+        Err(RefFault::BadReference) => Vec::from_slice(alloc, b"bad reference"),
+        Err(RefFault::Both) => Vec::from_slice(alloc, b"both"),
+        Err(RefFault::NoMemory) => Err(AllocError),
+    }
+}
+
+#[test]
+fn gives_what_a_reference_names(rt: HostRuntime) -> Result<(), Fail> {
+    for row in REFERENCES.lines() {
+        let (reference, want) = row.split_once(" => ").unwrap_or((row, ""));
+        let (id, rest) = reference.split_once(' ').unwrap_or((reference, ""));
+        let (name, path) = rest.split_once(' ').unwrap_or((rest, ""));
+        let args = format!(in rt.alloc();
+            "{{\"#x\":{{\"resultOf\":\"{id}\",\"name\":\"{name}\",\"path\":\"{path}\"}}}}"
+        )?;
+        let got = outcome(rt.alloc(), args.as_str())?;
+        assert_eq!(rt; got.as_slice(), want.as_bytes(), "at {row}");
+    }
+    Ok(())
+}
+
+#[test]
+fn refuses_in_the_order_of_the_standard(rt: HostRuntime) -> Result<(), Fail> {
+    for row in ARGUMENTS.lines() {
+        let (args, want) = row.split_once(" => ").unwrap_or((row, ""));
+        let got = outcome(rt.alloc(), args)?;
+        assert_eq!(rt; got.as_slice(), want.as_bytes(), "at {row}");
+    }
+    Ok(())
+}
