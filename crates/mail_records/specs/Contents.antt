@@ -1,5 +1,5 @@
 -- What an account holds at one moment: a finite map of each kind of record, and the next number of each.
-use Rattle.std.specs.Prelude.{ℕ, ◌≤◌, Bool, List, [], Option, is_some}
+use Rattle.std.specs.Prelude.{◌≡◌, ℕ, ◌≤◌, Bool, List, [], Option, is_some}
 use Rattle.mail_records.specs.Tables.{lookup, IsTable, IsNumbered}
 use Rattle.mail_records.specs.declared.records.Mailbox.{Mailbox}
 use Rattle.mail_records.specs.declared.records.Email.{Email}
@@ -54,6 +54,12 @@ abbrev pub next_of : Content → Kind → ℕ
 next_of c OfMailbox = c.next_mailbox
 next_of c OfEmail = c.next_email
 next_of c OfThread = c.next_thread
+
+-- the records of a kind are the same
+abbrev pub SameRecords : Kind → Content → Content → Type 0
+SameRecords OfMailbox c d = c.mailboxes ≡ d.mailboxes
+SameRecords OfEmail c d = c.emails ≡ d.emails
+SameRecords OfThread c d = c.threads ≡ d.threads
 
 -- each list is in number order
 pub record AreTables (c : Content) : Type 0 where
