@@ -25,6 +25,7 @@ pub record Held : Type 0 where
 abbrev pub empty_content : Content
 empty_content = record { mailboxes = []; emails = []; threads = []; next_mailbox = 1; next_email = 1; next_thread = 1 }
 
+-- the number of a mailbox, of an email and of a thread
 abbrev pub mailbox_number : Mailbox → ℕ
 mailbox_number m = m.number
 
@@ -34,6 +35,7 @@ email_number e = e.number
 abbrev pub thread_number : Thread → ℕ
 thread_number t = t.number
 
+-- the mailbox, the email and the thread of a number
 abbrev pub mailbox_at : Content → ℕ → Option Mailbox
 mailbox_at c n = lookup mailbox_number n c.mailboxes
 
