@@ -1,5 +1,5 @@
 -- What an account holds at one moment: a finite map of each kind of record, and the next number of each.
-use Rattle.std.specs.Prelude.{ℕ, ◌≤◌, Bool, List, [], Option, is_some}
+use Rattle.std.specs.Prelude.{◌≡◌, ℕ, ◌≤◌, Bool, List, [], Option, is_some}
 use Rattle.mail_records.specs.Tables.{lookup, IsTable, IsNumbered}
 use Rattle.mail_records.specs.declared.records.Mailbox.{Mailbox}
 use Rattle.mail_records.specs.declared.records.Email.{Email}
@@ -25,6 +25,7 @@ pub record Held : Type 0 where
 abbrev pub empty_content : Content
 empty_content = record { mailboxes = []; emails = []; threads = []; next_mailbox = 1; next_email = 1; next_thread = 1 }
 
+-- the number of a mailbox, of an email and of a thread
 abbrev pub mailbox_number : Mailbox → ℕ
 mailbox_number m = m.number
 
@@ -34,6 +35,7 @@ email_number e = e.number
 abbrev pub thread_number : Thread → ℕ
 thread_number t = t.number
 
+-- the mailbox, the email and the thread of a number
 abbrev pub mailbox_at : Content → ℕ → Option Mailbox
 mailbox_at c n = lookup mailbox_number n c.mailboxes
 
@@ -54,6 +56,12 @@ abbrev pub next_of : Content → Kind → ℕ
 next_of c OfMailbox = c.next_mailbox
 next_of c OfEmail = c.next_email
 next_of c OfThread = c.next_thread
+
+-- the records of a kind are the same
+abbrev pub SameRecords : Kind → Content → Content → Type 0
+SameRecords OfMailbox c d = c.mailboxes ≡ d.mailboxes
+SameRecords OfEmail c d = c.emails ≡ d.emails
+SameRecords OfThread c d = c.threads ≡ d.threads
 
 -- each list is in number order
 pub record AreTables (c : Content) : Type 0 where

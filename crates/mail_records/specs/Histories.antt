@@ -17,6 +17,7 @@ pub data Entry : Type 0 where
   Committed : (commit : Commit) → Entry
   Refused : (stamp : Stamp) → Entry
 
+-- who made an entry
 abbrev pub entry_stamp : Entry → Stamp
 entry_stamp (Committed commit) = commit.stamp
 entry_stamp (Refused stamp) = stamp
@@ -25,19 +26,22 @@ entry_stamp (Refused stamp) = stamp
 abbrev pub entry_pass : Entry → ℕ
 entry_pass e = (entry_stamp e).pass
 
+-- the edits of an entry
 abbrev pub entry_edits : Entry → List Edit
 entry_edits (Committed commit) = commit.edits
 entry_edits (Refused stamp) = []
 
+-- the blobs that an entry brings
 abbrev pub entry_blobs : Entry → List (List ℕ)
 entry_blobs (Committed commit) = commit.blobs
 entry_blobs (Refused stamp) = []
 
+-- the entry is a refusal
 abbrev pub is_refused : Entry → Bool
 is_refused (Committed commit) = false
 is_refused (Refused stamp) = true
 
--- the commits among entries, in order
+-- the commit of an entry, or none
 abbrev pub entry_commits : Entry → List Commit
 entry_commits (Committed commit) = commit ∷ []
 entry_commits (Refused stamp) = []
@@ -48,6 +52,7 @@ pub record Floors : Type 0 where
   pub email : ℕ
   pub thread : ℕ
 
+-- the position of one kind
 abbrev pub floor_of : Floors → Kind → ℕ
 floor_of floors OfMailbox = floors.mailbox
 floor_of floors OfEmail = floors.email

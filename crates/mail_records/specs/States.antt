@@ -10,6 +10,7 @@ use Rattle.jm_base.specs.declared.identifiers.Id.{Id}
 use Rattle.jm_base.specs.declared.identifiers.Kind.{Kind}
 use Rattle.jm_base.specs.declared.identifiers.Kind.TheVariants.{Mailbox as OfMailbox, Email as OfEmail, Thread as OfThread}
 
+-- the kinds are the same
 abbrev pub is_kind : Kind → Kind → Bool
 is_kind OfMailbox OfMailbox = true
 is_kind OfEmail OfEmail = true

@@ -13,13 +13,13 @@ pub struct Summary {
     /// The message ids of the fields Message-ID, In-Reply-To and References, each once and in byte order. Emails that
     /// share one may be of one thread (RFC 8621, section 3).
     pub links: Texts,
-    /// The subject without its prefixes and trailers, by which threads are told apart and emails sorted.
+    /// The subject without the prefixes of replies and forwards, by which threads are told apart.
     pub subject: Text,
-    /// The name or the address of the first author, for sorting.
+    /// The name, else the address, of the first author.
     pub from: Text,
-    /// The name or the address of the first receiver, for sorting.
+    /// The name, else the address, of the first receiver.
     pub to: Text,
-    /// The moment of the field Date, where it has one.
+    /// The moment of the field Date, where it tells one.
     pub sent: Option<UtcDate>,
     /// Whether the message has an attachment.
     pub attachment: bool,

@@ -32,7 +32,11 @@ fn states_are_the_last_positions_of_their_kinds(rt: HostRuntime) -> Result<(), F
     }
     let reached = [(6, false), (7, true), (14, true), (15, false)];
     for (position, known) in reached {
-        assert_eq!(rt; log.reaches(Kind::Mailbox, position), known, "at {position}");
+        assert_eq!(rt;
+            log.reaches(Kind::Mailbox, position),
+            known,
+            "at {position}"
+        );
     }
     let touched = log.touched(alloc, Kind::Email, 10, 14)?;
     assert_eq!(rt; touched.as_slice(), [4u64, 5].as_slice());
