@@ -7,3 +7,5 @@ pub mod Integers
 pub mod Writings
 pub mod Parsing
 pub mod Parts
+pub mod Removals
+pub mod Patched

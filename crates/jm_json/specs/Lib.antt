@@ -15,3 +15,5 @@ pub mod Invoked
 pub mod Find
 pub mod Taken
 pub mod Pointer
+pub mod Patch
+pub mod Patching

@@ -7,6 +7,7 @@
 mod copies;
 mod invocation;
 mod parser;
+mod patches;
 mod paths;
 mod reader;
 #[cfg(test)]
@@ -17,6 +18,7 @@ mod writer;
 pub use copies::copy;
 pub use invocation::{Created, Invocation, Invocations, Made, Replied};
 pub use parser::Scratch;
+pub use patches::{PatchFault, patch};
 pub use paths::{child, part_end, pointer};
 pub use reader::{ReadFault, read, read_with};
 pub use tree::{Items, Json, Member, Members};

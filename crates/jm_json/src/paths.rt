@@ -91,7 +91,7 @@ fn index_of(part: &[u8]) -> Option<usize>
     }
 }
 
-fn member_at<'a>(members: &'a [Member], part: &[u8]) -> Option<&'a Json>
+pub(crate) fn member_at<'a>(members: &'a [Member], part: &[u8]) -> Option<&'a Json>
     ensures { option_map (λ j. tree_of j.now) result
         ≡ option_and_then (λ k. find k (map member_of members.now)) (name_of part.now) }
 {
@@ -128,7 +128,7 @@ fn strip<'a>(part: &'a [u8], byte: u8) -> Option<&'a [u8]>
     }
 }
 
-fn after_byte<'a>(part: &'a [u8], byte: u8) -> Option<&'a [u8]>
+pub(crate) fn after_byte<'a>(part: &'a [u8], byte: u8) -> Option<&'a [u8]>
     ensures { option_map (λ m. m.now) result ≡ stripped (byte ∷ []) part.now }
 {
     if part.is_empty() || part[0] != byte {

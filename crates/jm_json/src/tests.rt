@@ -1,7 +1,7 @@
 // Tables of readings. The expected values are those of RFC 8259 and of Python's `json`, with the bounds of whole numbers put in.
 use crate::{
-    Created, Invocation, Invocations, Items, Json, Made, Members, ReadFault, Replied, Scratch,
-    copy, read, read_with, write, write_after,
+    Created, Invocation, Invocations, Items, Json, Made, Members, PatchFault, ReadFault, Replied,
+    Scratch, copy, patch, pointer, read, read_with, write, write_after,
 };
 use jm_base::{Bytes, Text};
 use std::alloc::{AllocError, Global};
@@ -114,6 +114,53 @@ const BLANKS: [(&[u8], &str); 22] = [
     (b"\"\xc3", "not JSON"),
     (b"[1]\xc3", "not JSON"),
 ];
+
+// A tree, a patch, and what the patch makes of the tree, or its bad path (RFC 8620, section 5.3).
+const PATCHES: &str = "{\"a\":{\"b\":1}} with {\"a/b\":2,\"a/c\":3} => {\"a\":{\"b\":2,\"c\":3}}\n\
+    {\"a\":{\"b\":1}} with {\"a\":1,\"a/b\":2} => bad: a\n\
+    {\"a\":{\"b\":1}} with {\"x/y\":1} => bad: x/y\n\
+    {\"a\":[1]} with {\"a/0\":2} => bad: a/0\n\
+    {\"a\":1,\"b\":2} with {\"a\":null} => {\"b\":2}\n\
+    {\"a\":1} with {} => {\"a\":1}\n\
+    [1] with {} => [1]\n\
+    1 with {\"a\":1} => bad: a\n\
+    {\"a\":1} with [\"a\"] => bad: \n\
+    {\"a\":1} with null => bad: \n\
+    {\"a\":1} with {\"b\":null} => {\"a\":1}\n\
+    {\"a\":{\"b\":{\"c\":1}}} with {\"a/b/c\":null} => {\"a\":{\"b\":{}}}\n\
+    {\"a\":{}} with {\"a/x~1y~0z\":1} => {\"a\":{\"x/y~z\":1}}\n\
+    {\"a/b\":{\"c\":1}} with {\"a~1b/c\":2} => {\"a/b\":{\"c\":2}}\n\
+    {\"a\":1} with {\"a~2\":1} => bad: a~2\n\
+    {\"a~\":{}} with {\"a~/b\":1} => bad: a~/b\n\
+    {} with {\"\":1} => {\"\":1}\n\
+    {\"\":{\"\":1}} with {\"/\":2} => {\"\":{\"\":2}}\n\
+    {\"a\":null} with {\"a/b\":1} => bad: a/b\n\
+    {\"a\":\"x\"} with {\"a/b\":1} => bad: a/b\n\
+    {\"a\":{}} with {\"a/b\":2,\"a!\":1,\"a\":3} => bad: a\n\
+    {\"b\":{}} with {\"b/x\":1,\"a/x\":1} => bad: a/x\n\
+    {\"a\":{\"b\":1},\"c\":2} with {\"a/b\":null,\"a/d\":{\"e\":null},\"c\":[3]} => {\"a\":{\"d\":{\"e\":null}},\"c\":[3]}";
+
+// A path into the tree, and what it names.
+const POINTED: &str = "{\"a\":[{\"\":2,\"b/c\":{\"~\":1}},[3]],\"m\":{\"0\":4}}";
+
+const POINTERS: &str = "/a/0/b~1c/~0 => 1\n\
+    /a/1/0 => 3\n\
+    /a/1 => [3]\n\
+    /a/0/ => 2\n\
+    /m/0 => 4\n\
+    a => none\n\
+    /a/2 => none\n\
+    /a/00 => none\n\
+    /a/01 => none\n\
+    /a/+1 => none\n\
+    /a/- => none\n\
+    /a/ => none\n\
+    /m/~0 => none\n\
+    /a/0/b~2c => none\n\
+    /a/0/b~ => none\n\
+    /a/0// => none\n\
+    /a/1/0/0 => none\n\
+    /a/18446744073709551616 => none";
 
 // The compact text of what bytes are read as, or what is wrong with them.
 fn reading(alloc: Global, scratch: &mut Scratch, bytes: &[u8]) -> Result<Vec<u8>, AllocError> {
@@ -276,6 +323,60 @@ fn keeps_calls_and_what_was_made(rt: HostRuntime) -> Result<(), Fail> {
         assert_eq!(rt; kept.name.as_str(), "Core/echo");
         assert_eq!(rt; kept.id.as_str(), "a");
         assert!(rt; kept.args.as_object().is_some());
+    }
+    Ok(())
+}
+
+fn text_of(alloc: Global, tree: &Json) -> Result<Vec<u8>, AllocError> {
+    match write(alloc, tree) {
+        Ok(text) => Ok(text.into_vec()),
+        Err(_) => Err(AllocError),
+    }
+}
+
+fn tree_of(alloc: Global, text: &str) -> Result<Json, AllocError> {
+    match read(alloc, text.as_bytes()) {
+        Ok(tree) => Ok(tree),
+        Err(_) => Err(AllocError),
+    }
+}
+
+fn patching(alloc: Global, tree: &str, change: &str) -> Result<Vec<u8>, AllocError> {
+    match patch(alloc, &tree_of(alloc, tree)?, &tree_of(alloc, change)?) {
+        Ok(tree) => text_of(alloc, &tree),
+        Err(PatchFault::BadPatch(path)) => {
+            let mut text = Vec::from_slice(alloc, b"bad: ")?;
+            text.extend_from_slice(path.as_bytes())?;
+            Ok(text)
+        }
+        Err(PatchFault::NoMemory) => Err(AllocError),
+    }
+}
+
+#[test]
+fn patches_as_the_standard_says(rt: HostRuntime) -> Result<(), Fail> {
+    for row in PATCHES.lines() {
+        let (change, want) = row.split_once(" => ").unwrap_or((row, ""));
+        let (tree, change) = change.split_once(" with ").unwrap_or((change, ""));
+        let got = patching(rt.alloc(), tree, change)?;
+        assert_eq!(rt; got.as_slice(), want.as_bytes(), "at {row}");
+    }
+    Ok(())
+}
+
+#[test]
+fn points_as_the_standard_says(rt: HostRuntime) -> Result<(), Fail> {
+    let tree = tree_of(rt.alloc(), POINTED)?;
+    if let Some(whole) = pointer(&tree, b"") {
+        assert_eq!(rt; text_of(rt.alloc(), whole)?.as_slice(), POINTED.as_bytes());
+    }
+    for row in POINTERS.lines() {
+        let (path, want) = row.split_once(" => ").unwrap_or((row, ""));
+        let got = match pointer(&tree, path.as_bytes()) {
+            Some(named) => text_of(rt.alloc(), named)?,
+            None => Vec::from_slice(rt.alloc(), b"none")?,
+        };
+        assert_eq!(rt; got.as_slice(), want.as_bytes(), "at {row}");
     }
     Ok(())
 }

@@ -2,6 +2,7 @@
 ghost use Rattle.std.specs.Prelude.{◌≡◌, [], ◌∷◌, ◌++◌, map, option_map, OnOk, OnErr, IfOk};
 ghost use Rattle.jm_json.specs.Json.{tree_of, member_of};
 ghost use Rattle.jm_json.specs.Order.{KeysRise, put};
+ghost use Rattle.jm_json.specs.Patch.{take_away};
 ghost use Rattle.jm_json.specs.Place.{IsPlace};
 ghost use Rattle.jm_json.specs.Find.{find, as_text, as_list, as_object};
 
@@ -269,6 +270,14 @@ impl Members {
         put_member(&mut self.members, name, value)
     }
 
+    /// Takes the member of a key away, and gives its value.
+    pub fn remove(&mut self, name: &str) -> Option<Json>
+        ensures value { option_map (λ j. tree_of j) result ≡ find name.now self.old }
+        ensures rest { self.new ≡ take_away name.now self.old }
+    {
+        remove_member(&mut self.members, name)
+    }
+
     /// Sets the value at a key that is given as a slice.
     pub fn set(&mut self, alloc: Global, name: &str, value: Json) -> Result<(), NoMemory>
         ensures ok { OnOk result (self.new ≡ put name.now (tree_of value) self.old) }
@@ -276,6 +285,20 @@ impl Members {
     {
         self.put(Text::from_str(alloc, name)?, value)
     }
+}
+
+// Takes the member of a name away, and gives its value.
+fn remove_member(members: &mut Vec<Member>, name: &str) -> Option<Json>
+    ensures value { option_map (λ j. tree_of j) result ≡ find name.now (map member_of members.old.items) }
+    ensures rest { map member_of members.new.items ≡ take_away name.now (map member_of members.old.items) }
+{
+    for i in 0..members.len() {
+        if members[i].name.as_str() == name {
+            let Member { value, .. } = members.remove(i);
+            return Some(value);
+        }
+    }
+    None
 }
 
 fn put_member(members: &mut Vec<Member>, name: Text, value: Json) -> Result<(), NoMemory>

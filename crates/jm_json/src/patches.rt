@@ -1,0 +1,279 @@
+// Changing a tree by a patch (RFC 8620, section 5.3).
+ghost use Rattle.std.specs.Prelude.{◌≡◌, ◌<◌, ◌≤◌, ◌&&◌, ◌||◌, [], ◌∷◌, true, Some, None, map, length, is_some, not, option_map, option_and_then, drop, IfOk, IfSome, OnOk, MatchResult, MatchOption};
+ghost use Rattle.jm_json.specs.Json.{tree_of, member_of};
+ghost use Rattle.jm_json.specs.Find.{as_object, find};
+ghost use Rattle.jm_json.specs.Order.{KeysRise};
+ghost use Rattle.jm_json.specs.Pointer.{cut, name_of, unescaped};
+ghost use Rattle.jm_json.specs.Patch.{at_member, goes_on, is_prefix, is_placed as is_placed_at, member_named, set_member, changed, all_changed, first_bad_path, patched, patching, by_path};
+ghost use Rattle.jm_json.specs.Patching.{ExplainsPatch};
+
+use crate::copies::copy;
+use crate::paths::{after_byte, member_at, part_end};
+use crate::tree::{Json, Member, Members};
+use jm_base::{NoMemory, Text};
+use std::alloc::Global;
+
+/// Why a patch does not change a tree: its first bad path in the order of the keys, which is empty where the patch is no
+/// object. Or no memory was left.
+#[derive(Debug, Drop)]
+pub enum PatchFault {
+    BadPatch(Text),
+    NoMemory,
+}
+
+impl From<NoMemory> for PatchFault {
+    ghost use Rattle.std.specs.Prelude.{◌≡◌};
+    ghost use Rattle.jm_json.specs.declared.patches.PatchFault.TheVariants.{NoMemory};
+
+    ghost from_gives = { λ _ e. e ≡ NoMemory };
+
+    fn from(_refused: NoMemory) -> PatchFault {
+        PatchFault::NoMemory
+    }
+}
+
+/// A tree changed by a patch, an object whose names are JSON Pointers without the slash that they begin with (RFC 8620,
+/// section 5.3). Null takes the value at a path away, and every other value takes its place. A path is bad where it is a prefix
+/// of another, by parts, and where some part but the last names no member of an object.
+pub fn patch(alloc: Global, tree: &Json, patch: &Json) -> Result<Json, PatchFault>
+    ensures { MatchResult result
+        (λ t. patching (tree_of tree.now) (tree_of patch.now) ≡ patched (tree_of t))
+        (λ e. ExplainsPatch e (patching (tree_of tree.now) (tree_of patch.now))) }
+{
+    match patch.as_object() {
+        Some(changes) => patch_members(alloc, tree, changes.as_slice()),
+        None => Err(PatchFault::BadPatch(Text::from_str(alloc, "")?)),
+    }
+}
+
+fn patch_members(alloc: Global, tree: &Json, changes: &[Member]) -> Result<Json, PatchFault>
+    ensures { MatchResult result
+        (λ t. by_path (first_bad_path (map member_of changes.now) (map member_of changes.now) (tree_of tree.now)) (map member_of changes.now) (tree_of tree.now) ≡ patched (tree_of t))
+        (λ e. ExplainsPatch e (by_path (first_bad_path (map member_of changes.now) (map member_of changes.now) (tree_of tree.now)) (map member_of changes.now) (tree_of tree.now))) }
+{
+    match first_bad(tree, changes) {
+        Some(path) => Err(PatchFault::BadPatch(path.copy()?)),
+        None => Ok(change_all(alloc, copy(alloc, tree)?, changes)?),
+    }
+}
+
+fn first_bad<'a>(tree: &Json, changes: &'a [Member]) -> Option<&'a Text>
+    ensures { option_map (λ p. p.now) result
+        ≡ first_bad_path (map member_of changes.now) (map member_of changes.now) (tree_of tree.now) }
+{
+    for change in changes {
+        if is_bad(tree, changes, change.name.as_bytes()) {
+            return Some(&change.name);
+        }
+    }
+    None
+}
+
+fn is_bad(tree: &Json, changes: &[Member], path: &[u8]) -> bool
+    ensures { result ≡ (is_prefix path.now (map member_of changes.now) || not (is_placed_at (cut path.now) (tree_of tree.now))) }
+{
+    has_longer(changes, path) || !is_placed(tree, path)
+}
+
+fn has_longer(changes: &[Member], path: &[u8]) -> bool
+    ensures { result ≡ is_prefix path.now (map member_of changes.now) }
+{
+    for change in changes {
+        if continues(path, change.name.as_bytes()) {
+            return true;
+        }
+    }
+    false
+}
+
+// Whether the longer path is the path, a slash and more.
+fn continues(path: &[u8], longer: &[u8]) -> bool
+    ensures { result ≡ goes_on path.now longer.now }
+{
+    let mut rest = longer;
+    for b in path {
+        match after_byte(rest, *b) {
+            Some(more) => rest = more,
+            None => return false,
+        }
+    }
+    begins_with_slash(rest)
+}
+
+fn begins_with_slash(path: &[u8]) -> bool
+    ensures { result ≡ goes_on [] path.now }
+{
+    !path.is_empty() && path[0] == b'/'
+}
+
+// Whether the parts of a path but the last name members that are there, and the last is a name in an object.
+fn is_placed(tree: &Json, path: &[u8]) -> bool
+    ensures { result ≡ is_placed_at (cut path.now) (tree_of tree.now) }
+{
+    let mut target = tree;
+    let mut rest = path;
+    let mut end = part_end(rest);
+    'parts: while end < rest.len() {
+        let (part, more) = rest.split_at(end);
+        match member(target, part) {
+            Some(next) => target = next,
+            None => return false,
+        }
+        rest = &more[1..];
+        end = part_end(rest);
+    }
+    target.as_object().is_some() && is_name(rest)
+}
+
+fn member<'a>(tree: &'a Json, part: &[u8]) -> Option<&'a Json>
+    ensures { option_map (λ j. tree_of j.now) result ≡ member_named part.now (tree_of tree.now) }
+{
+    match tree.as_object() {
+        Some(members) => member_at(members.as_slice(), part),
+        None => None,
+    }
+}
+
+// A byte of a name that a part writes, and what follows it there.
+#[derive(Clone, Copy)]
+struct Unescaped<'a> {
+    byte: u8,
+    rest: &'a [u8],
+}
+
+// The first byte of the name that a byte of a part and those behind it write.
+fn unescape_first<'a>(byte: u8, rest: &'a [u8]) -> Option<Unescaped<'a>>
+    ensures name { MatchOption result (name_of (byte ∷ rest.now) ≡ None)
+        (λ u. name_of (byte ∷ rest.now) ≡ option_map (λ k. u.byte ∷ k) (name_of u.rest.now)) }
+    ensures shorter { IfSome result (λ u. length u.rest.now ≤ length rest.now) }
+{
+    match byte {
+        b'~' => unescape_tilde(rest),
+        b'/' => None,
+        _ => Some(Unescaped { byte, rest }),
+    }
+}
+
+fn unescape_tilde<'a>(part: &'a [u8]) -> Option<Unescaped<'a>>
+    ensures name { MatchOption result (unescaped true part.now ≡ None)
+        (λ u. unescaped true part.now ≡ option_map (λ k. u.byte ∷ k) (name_of u.rest.now)) }
+    ensures shorter { IfSome result (λ u. length u.rest.now ≤ length part.now) }
+{
+    match part.split_first() {
+        Some((first, rest)) => unescape_letter(*first, rest),
+        None => None,
+    }
+}
+
+fn unescape_letter<'a>(letter: u8, rest: &'a [u8]) -> Option<Unescaped<'a>>
+    ensures name { MatchOption result (unescaped true (letter ∷ rest.now) ≡ None)
+        (λ u. unescaped true (letter ∷ rest.now) ≡ option_map (λ k. u.byte ∷ k) (name_of u.rest.now)) }
+    ensures shorter { IfSome result (λ u. length u.rest.now ≤ length rest.now) }
+{
+    match letter {
+        b'0' => Some(Unescaped { byte: b'~', rest }),
+        b'1' => Some(Unescaped { byte: b'/', rest }),
+        _ => None,
+    }
+}
+
+fn is_name(part: &[u8]) -> bool
+    ensures { result ≡ is_some (name_of part.now) }
+{
+    let mut rest = part;
+    'bytes: while let Some((byte, more)) = rest.split_first() {
+        match unescape_first(*byte, more) {
+            Some(first) => rest = first.rest,
+            None => return false,
+        }
+    }
+    true
+}
+
+// The name that a part writes, where it writes one.
+fn name_in(alloc: Global, part: &[u8]) -> Result<Option<Text>, NoMemory>
+    ensures { IfOk result (λ o. o ≡ name_of part.now) }
+{
+    let mut name = Vec::with_capacity(alloc, part.len())?;
+    let mut rest = part;
+    'bytes: while let Some((byte, more)) = rest.split_first() {
+        match unescape_first(*byte, more) {
+            Some(first) => {
+                name.push(first.byte)?;
+                rest = first.rest;
+            }
+            None => return Ok(None),
+        }
+    }
+    match Text::from_utf8(name) {
+        Some(name) => Ok(Some(name)),
+        None => Err(NoMemory),
+    }
+}
+
+fn change_all(alloc: Global, tree: Json, changes: &[Member]) -> Result<Json, NoMemory>
+    ensures { IfOk result (λ t. tree_of t ≡ all_changed (map member_of changes.now) (tree_of tree)) }
+{
+    let mut tree = tree;
+    for member in changes {
+        tree = change(alloc, tree, member.name.as_bytes(), &member.value)?;
+    }
+    Ok(tree)
+}
+
+#[cycle(change)]
+fn change(alloc: Global, tree: Json, path: &[u8], value: &Json) -> Result<Json, NoMemory>
+    ensures { IfOk result (λ t. tree_of t ≡ changed (cut path.now) (tree_of value.now) (tree_of tree)) }
+{
+    let (part, more) = path.split_at(part_end(path));
+    match tree {
+        Json::Object(members) => match name_in(alloc, part)? {
+            Some(name) => Ok(Json::Object(change_member(alloc, members, name, more, value)?)),
+            None => Ok(Json::Object(members)),
+        },
+        tree => Ok(tree),
+    }
+}
+
+#[cycle(change)]
+fn change_member(
+    alloc: Global,
+    members: Members,
+    name: Text,
+    more: &[u8],
+    value: &Json,
+) -> Result<Members, NoMemory>
+    requires { KeysRise members }
+    ensures last { IfOk result (λ ms. length more.now ≡ 0 → ms ≡ set_member name (tree_of value.now) members) }
+    ensures inner { IfOk result (λ ms. 0 < length more.now
+        → ms ≡ at_member name (changed (cut (drop 1 more.now)) (tree_of value.now)) (find name members) members) }
+{
+    let mut members = members;
+    if more.is_empty() {
+        put_or_remove(alloc, &mut members, name, value)?;
+        return Ok(members);
+    }
+    match members.remove(name.as_str()) {
+        Some(inner) => {
+            let inner = change(alloc, inner, &more[1..], value)?;
+            members.put(name, inner)?;
+            Ok(members)
+        }
+        None => Ok(members),
+    }
+}
+
+fn put_or_remove(
+    alloc: Global,
+    members: &mut Members,
+    name: Text,
+    value: &Json,
+) -> Result<(), NoMemory>
+    ensures { OnOk result (members.new ≡ set_member name (tree_of value.now) members.old) }
+{
+    match value {
+        Json::Null => drop(members.remove(name.as_str())),
+        value => members.put(name, copy(alloc, value)?)?,
+    }
+    Ok(())
+}
