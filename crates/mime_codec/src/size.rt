@@ -19,7 +19,8 @@ fn letters_of(byte: u8) -> usize
 
 /// How many letters stand before the first equals sign.
 fn count_letters(bytes: &[u8]) -> usize
-    ensures { result ≡ length (letters bytes.now) }
+    ensures value { result ≡ length (letters bytes.now) }
+    ensures within { result ≤ length bytes.now }
 {
     let mut count = 0;
     for byte in bytes {
@@ -32,7 +33,8 @@ fn count_letters(bytes: &[u8]) -> usize
 }
 
 fn base64_size(bytes: &[u8]) -> usize
-    ensures { result ≡ length (base64 bytes.now) }
+    ensures value { result ≡ length (base64 bytes.now) }
+    ensures within { result ≤ length bytes.now }
 {
     let count = count_letters(bytes);
     count / 4 * 3 + (count % 4) * 3 / 4
@@ -73,7 +75,8 @@ fn line_size(line: &[u8]) -> usize
 }
 
 fn quoted_size(bytes: &[u8]) -> usize
-    ensures { result ≡ length (quoted_printable bytes.now) }
+    ensures value { result ≡ length (quoted_printable bytes.now) }
+    ensures within { result ≤ length bytes.now }
 {
     let mut size = 0;
     let mut rest = bytes;
@@ -85,9 +88,10 @@ fn quoted_size(bytes: &[u8]) -> usize
     size
 }
 
-/// How many bytes `bytes` stand for in this coding. It takes no memory.
+/// How many bytes `bytes` stand for in this coding: no more than they are. It takes no memory.
 pub fn decoded_size(coding: Coding, bytes: &[u8]) -> u64
-    ensures { result ≡ length (decoded coding bytes.now) }
+    ensures value { result ≡ length (decoded coding bytes.now) }
+    ensures within { result ≤ length bytes.now }
 {
     let size = match coding {
         Coding::Plain | Coding::Unknown => bytes.len(),
