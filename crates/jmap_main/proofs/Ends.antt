@@ -1,58 +1,54 @@
 -- What a status says of a run.
-use Rattle.std.proofs.Common.{◌≡◌, ℕ, List, Bool, true, false, IsTrue, sym, ◌∙◌, arith}
+use Rattle.std.proofs.Common.{◌≡◌, ℕ, Option, None, Some, refl, ap, ◌∙◌, arith}
 use Rattle.jm_edge.specs.Causes.{Rose}
-use Rattle.jmap_main.specs.Words.{IsBatch}
-use Rattle.jmap_main.specs.Run.{HasAnswered, IsTooLong}
+use Rattle.jmap_main.specs.Run.{HasAnsweredBy, IsTooLongBy}
 use Rattle.jmap_main.specs.Status.{status_of}
-use Rattle.jmap_main.specs.Ended.{Seen, Explains, ExplainsWords}
+use Rattle.jmap_main.specs.Ended.{Seen, ExplainsWords}
+use Rattle.jmap_main.specs.declared.words.Command.{Command}
 use Rattle.jmap_main.specs.declared.ending.Ending.{Ending}
 use Rattle.jmap_main.specs.declared.ending.Ending.TheVariants.{Done, Usage, ReadFault, WriteFault, NoMemory, TooLong}
 
--- the words are those of `batch`, and so no ending is for want of usage
-pub of_batch : (e : Ending) (words : List (List ℕ)) (s : Seen) → IsBatch words → Explains e s → ExplainsWords e words s
-of_batch Done words s batch h = (batch, h)
-of_batch Usage words s batch h = absurd h
-of_batch ReadFault words s batch h = (batch, h)
-of_batch WriteFault words s batch h = (batch, h)
-of_batch NoMemory words s batch h = (batch, h)
-of_batch TooLong words s batch h = (batch, h)
+pub done_of : (w : Option Command) (e : Ending) (s : Seen) (n : ℕ) → n ≡ status_of e → ExplainsWords w e s → n ≡ 0 → HasAnsweredBy w s.left s.left_after s.held s.held_after
+done_of None e s n is h same = absurd (omega (arith, is, ap status_of h))
+done_of (Some c) Done s n is h same = h
+done_of (Some c) Usage s n is h same = absurd h
+done_of (Some c) ReadFault s n is h same = absurd (omega arith)
+done_of (Some c) WriteFault s n is h same = absurd (omega arith)
+done_of (Some c) NoMemory s n is h same = absurd (omega arith)
+done_of (Some c) TooLong s n is h same = absurd (omega arith)
 
-pub done_of : (e : Ending) (words : List (List ℕ)) (s : Seen) (n : ℕ) → n ≡ status_of e → ExplainsWords e words s → n ≡ 0 → HasAnswered s.left s.left_after s.held s.held_after
-done_of Done words s n e h zero = h.1
-done_of Usage words s n e h zero = absurd (omega arith)
-done_of ReadFault words s n e h zero = absurd (omega arith)
-done_of WriteFault words s n e h zero = absurd (omega arith)
-done_of NoMemory words s n e h zero = absurd (omega arith)
-done_of TooLong words s n e h zero = absurd (omega arith)
+pub read_of : (w : Option Command) (e : Ending) (s : Seen) (n : ℕ) → n ≡ status_of e → ExplainsWords w e s → n ≡ 3 → Rose s.reads s.reads_after
+read_of None e s n is h same = absurd (omega (arith, is, ap status_of h))
+read_of (Some c) Done s n is h same = absurd (omega arith)
+read_of (Some c) Usage s n is h same = absurd h
+read_of (Some c) ReadFault s n is h same = h
+read_of (Some c) WriteFault s n is h same = absurd (omega arith)
+read_of (Some c) NoMemory s n is h same = absurd (omega arith)
+read_of (Some c) TooLong s n is h same = absurd (omega arith)
 
-pub usage_of : (e : Ending) (words : List (List ℕ)) (s : Seen) (n : ℕ) → n ≡ status_of e → ExplainsWords e words s → (n ≡ 2 → ¬ (IsBatch words)) × (¬ (IsBatch words) → n ≡ 2)
-usage_of Done words s n e h = (λ two. absurd (omega arith), λ other. absurd (other h.0))
-usage_of Usage words s n e h = (λ two. h, λ other. e)
-usage_of ReadFault words s n e h = (λ two. absurd (omega arith), λ other. absurd (other h.0))
-usage_of WriteFault words s n e h = (λ two. absurd (omega arith), λ other. absurd (other h.0))
-usage_of NoMemory words s n e h = (λ two. absurd (omega arith), λ other. absurd (other h.0))
-usage_of TooLong words s n e h = (λ two. absurd (omega arith), λ other. absurd (other h.0))
+pub write_of : (w : Option Command) (e : Ending) (s : Seen) (n : ℕ) → n ≡ status_of e → ExplainsWords w e s → n ≡ 4 → Rose s.writes s.writes_after
+write_of None e s n is h same = absurd (omega (arith, is, ap status_of h))
+write_of (Some c) Done s n is h same = absurd (omega arith)
+write_of (Some c) Usage s n is h same = absurd h
+write_of (Some c) ReadFault s n is h same = absurd (omega arith)
+write_of (Some c) WriteFault s n is h same = h
+write_of (Some c) NoMemory s n is h same = absurd (omega arith)
+write_of (Some c) TooLong s n is h same = absurd (omega arith)
 
-pub read_of : (e : Ending) (words : List (List ℕ)) (s : Seen) (n : ℕ) → n ≡ status_of e → ExplainsWords e words s → n ≡ 3 → Rose s.reads s.reads_after
-read_of Done words s n e h three = absurd (omega arith)
-read_of Usage words s n e h three = absurd (omega arith)
-read_of ReadFault words s n e h three = h.1
-read_of WriteFault words s n e h three = absurd (omega arith)
-read_of NoMemory words s n e h three = absurd (omega arith)
-read_of TooLong words s n e h three = absurd (omega arith)
+pub long_of : (w : Option Command) (e : Ending) (s : Seen) (n : ℕ) → n ≡ status_of e → ExplainsWords w e s → n ≡ 14 → IsTooLongBy w s.left s.left_after
+long_of None e s n is h same = absurd (omega (arith, is, ap status_of h))
+long_of (Some c) Done s n is h same = absurd (omega arith)
+long_of (Some c) Usage s n is h same = absurd h
+long_of (Some c) ReadFault s n is h same = absurd (omega arith)
+long_of (Some c) WriteFault s n is h same = absurd (omega arith)
+long_of (Some c) NoMemory s n is h same = absurd (omega arith)
+long_of (Some c) TooLong s n is h same = h
 
-pub write_of : (e : Ending) (words : List (List ℕ)) (s : Seen) (n : ℕ) → n ≡ status_of e → ExplainsWords e words s → n ≡ 4 → Rose s.writes s.writes_after
-write_of Done words s n e h four = absurd (omega arith)
-write_of Usage words s n e h four = absurd (omega arith)
-write_of ReadFault words s n e h four = absurd (omega arith)
-write_of WriteFault words s n e h four = h.1
-write_of NoMemory words s n e h four = absurd (omega arith)
-write_of TooLong words s n e h four = absurd (omega arith)
-
-pub long_of : (e : Ending) (words : List (List ℕ)) (s : Seen) (n : ℕ) → n ≡ status_of e → ExplainsWords e words s → n ≡ 14 → IsTooLong s.left s.left_after
-long_of Done words s n e h long = absurd (omega arith)
-long_of Usage words s n e h long = absurd (omega arith)
-long_of ReadFault words s n e h long = absurd (omega arith)
-long_of WriteFault words s n e h long = absurd (omega arith)
-long_of NoMemory words s n e h long = absurd (omega arith)
-long_of TooLong words s n e h long = h.1
+pub usage_of : (w : Option Command) (e : Ending) (s : Seen) (n : ℕ) → n ≡ status_of e → ExplainsWords w e s → (n ≡ 2 → w ≡ None) × (w ≡ None → n ≡ 2)
+usage_of None e s n is h = (λ two. refl, λ other. is ∙ ap status_of h)
+usage_of (Some c) Done s n is h = (λ two. absurd (omega arith), λ other. cc)
+usage_of (Some c) Usage s n is h = absurd h
+usage_of (Some c) ReadFault s n is h = (λ two. absurd (omega arith), λ other. cc)
+usage_of (Some c) WriteFault s n is h = (λ two. absurd (omega arith), λ other. cc)
+usage_of (Some c) NoMemory s n is h = (λ two. absurd (omega arith), λ other. cc)
+usage_of (Some c) TooLong s n is h = (λ two. absurd (omega arith), λ other. cc)

@@ -4,3 +4,5 @@ pub mod Held
 pub mod Feeds
 pub mod Runs
 pub mod Ends
+pub mod LeafFacts
+pub mod Messages

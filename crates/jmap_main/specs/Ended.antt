@@ -1,8 +1,9 @@
 -- When a run, or a part of it, ends in each way.
-use Rattle.std.specs.Prelude.{◌≡◌, ℕ, List, Option, ⊤}
+use Rattle.std.specs.Prelude.{◌≡◌, ℕ, List, [], take, Option, None, Some, ⊤}
 use Rattle.std.specs.Io.KnownBytes.{Appends}
 use Rattle.jm_edge.specs.Causes.{Rose}
-use Rattle.jmap_main.specs.Words.{IsBatch}
+use Rattle.jmap_main.specs.declared.words.Command.{Command}
+use Rattle.jmap_main.specs.declared.words.Command.TheVariants.{Read}
 use Rattle.jmap_main.specs.Run.{HasAnswered, IsTooLong}
 use Rattle.jmap_main.specs.declared.ending.Ending.{Ending}
 use Rattle.jmap_main.specs.declared.ending.Ending.TheVariants.{Done, Usage, ReadFault, WriteFault, NoMemory, TooLong}
@@ -18,14 +19,14 @@ pub record Seen : Type 0 where
   pub writes : ℕ
   pub writes_after : ℕ
 
--- why the lines of an input came to this end
-abbrev pub Explains : Ending → Seen → Type 0
-Explains Done s = HasAnswered s.left s.left_after s.held s.held_after
-Explains Usage s = ⊥
-Explains ReadFault s = Rose s.reads s.reads_after
-Explains WriteFault s = Rose s.writes s.writes_after
-Explains NoMemory s = ⊤
-Explains TooLong s = IsTooLong s.left s.left_after
+-- why a command came to this end
+abbrev pub Explains : Command → Ending → Seen → Type 0
+Explains c Done s = HasAnswered c s.left s.left_after s.held s.held_after
+Explains c Usage s = ⊥
+Explains c ReadFault s = Rose s.reads s.reads_after
+Explains c WriteFault s = Rose s.writes s.writes_after
+Explains c NoMemory s = ⊤
+Explains c TooLong s = IsTooLong c s.left s.left_after
 
 -- why the replies to a piece were not all put
 abbrev pub StopsFor : Ending → ℕ → ℕ → Type 0
@@ -36,11 +37,25 @@ StopsFor WriteFault writes writes_after = Rose writes writes_after
 StopsFor NoMemory writes writes_after = ⊤
 StopsFor TooLong writes writes_after = ⊥
 
--- why the words of a command line came to this end: other words are of no command
-abbrev pub ExplainsWords : Ending → List (List ℕ) → Seen → Type 0
-ExplainsWords Done words s = IsBatch words × Explains Done s
-ExplainsWords Usage words s = ¬ IsBatch words
-ExplainsWords ReadFault words s = IsBatch words × Explains ReadFault s
-ExplainsWords WriteFault words s = IsBatch words × Explains WriteFault s
-ExplainsWords NoMemory words s = IsBatch words × Explains NoMemory s
-ExplainsWords TooLong words s = IsBatch words × Explains TooLong s
+-- why reading a whole message failed
+abbrev pub Unread : Ending → Option (List ℕ) → Option (List ℕ) → ℕ → ℕ → Type 0
+Unread Done left left_after reads reads_after = ⊥
+Unread Usage left left_after reads reads_after = ⊥
+Unread ReadFault left left_after reads reads_after = Rose reads reads_after
+Unread WriteFault left left_after reads reads_after = ⊥
+Unread NoMemory left left_after reads reads_after = ⊤
+Unread TooLong left left_after reads reads_after = IsTooLong Read left left_after
+
+-- why the words of a command line came to this end: words of no command are told how to use the program
+abbrev pub ExplainsWords : Option Command → Ending → Seen → Type 0
+ExplainsWords None e s = e ≡ Usage
+ExplainsWords (Some c) e s = Explains c e s
+
+-- a line was written, or a front of it
+abbrev pub Written : Ending → Option (List ℕ) → Option (List ℕ) → ℕ → ℕ → List ℕ → Type 0
+Written Done held held_after writes writes_after line = Appends held held_after line
+Written Usage held held_after writes writes_after line = ⊥
+Written ReadFault held held_after writes writes_after line = ⊥
+Written WriteFault held held_after writes writes_after line = Rose writes writes_after × ((n : ℕ) × Appends held held_after (take n line))
+Written NoMemory held held_after writes writes_after line = Appends held held_after []
+Written TooLong held held_after writes writes_after line = ⊥

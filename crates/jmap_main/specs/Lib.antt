@@ -1,5 +1,6 @@
 pub mod Lines
 pub mod Batch
+pub mod Read
 pub mod Words
 pub mod Status
 pub mod Run

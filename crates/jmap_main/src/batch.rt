@@ -8,6 +8,7 @@ ghost use Rattle.jmap_main.specs.Ended.{Explains, StopsFor};
 
 use crate::ending::Ending;
 use crate::line::{cut_line, end_line, hold};
+use crate::words::Command;
 use jm_base::{Bytes, NoMemory};
 use jm_edge::{Sink, Source, put_all};
 use std::alloc::Global;
@@ -20,7 +21,7 @@ const ROOM: usize = 65536;
 
 /// Answers the lines of the input until its end.
 pub(crate) fn answer_input<S: Source, O: Sink>(alloc: Global, source: &mut S, out: &mut O) -> Ending
-    ensures cause { Explains result (record {
+    ensures cause { Explains Command.Batch result (record {
       left = S.left source.old;
       left_after = S.left source.new;
       reads = S.faults source.old;
@@ -30,7 +31,7 @@ pub(crate) fn answer_input<S: Source, O: Sink>(alloc: Global, source: &mut S, ou
       writes = O.faults out.old;
       writes_after = O.faults out.new;
     }) }
-    ensures begun { HasBegun (S.left source.old) (S.left source.new) (O.held out.old) (O.held out.new) }
+    ensures begun { HasBegun Command.Batch (S.left source.old) (S.left source.new) (O.held out.old) (O.held out.new) }
 {
     match vec![in alloc; 0u8; ROOM] {
         Ok(mut room) => answer_reads(alloc, source, room.as_mut_slice(), out),
@@ -45,7 +46,7 @@ fn answer_reads<S: Source, O: Sink>(
     out: &mut O,
 ) -> Ending
     requires { 0 < length room.old }
-    ensures cause { Explains result (record {
+    ensures cause { Explains Command.Batch result (record {
       left = S.left source.old;
       left_after = S.left source.new;
       reads = S.faults source.old;
@@ -55,7 +56,7 @@ fn answer_reads<S: Source, O: Sink>(
       writes = O.faults out.old;
       writes_after = O.faults out.new;
     }) }
-    ensures begun { HasBegun (S.left source.old) (S.left source.new) (O.held out.old) (O.held out.new) }
+    ensures begun { HasBegun Command.Batch (S.left source.old) (S.left source.new) (O.held out.old) (O.held out.new) }
 {
     let mut line = Bytes::new(alloc);
     let mut replies = Bytes::new(alloc);

@@ -3,11 +3,14 @@
 
 mod batch;
 mod ending;
+mod leaves;
 mod line;
+mod read;
 mod run;
 #[cfg(test)]
 mod tests;
 mod unknown;
+mod words;
 
 use crate::ending::Ending;
 use crate::run::{NoWorld, run};
@@ -17,7 +20,7 @@ use std::{env, io};
 
 fn main(rt: HostRuntime) -> ExitCode {
     let mut err = Writing::new(rt.stderr());
-    match words(&rt) {
+    match words_of(&rt) {
         Ok(words) => {
             let mut source = Reading::new(rt.stdin());
             let mut out = Writing::new(rt.stdout());
@@ -37,7 +40,7 @@ fn main(rt: HostRuntime) -> ExitCode {
 }
 
 // The words behind the program's name. Words that are no UTF-8 are words of no command.
-fn words(rt: &(impl env::Env + AllocGlobal)) -> Result<Vec<String>, Ending> {
+fn words_of(rt: &(impl env::Env + AllocGlobal)) -> Result<Vec<String>, Ending> {
     let all = match env::args(rt) {
         Ok(all) => all,
         Err(refused) => {

@@ -1,13 +1,15 @@
 // The top call: all that the program does.
-ghost use Rattle.std.specs.Prelude.{◌≡◌, ◌↔◌, IsTrue, map, string_bytes};
+ghost use Rattle.std.specs.Prelude.{◌≡◌, ◌↔◌, None, map, string_bytes};
 ghost use Rattle.jm_edge.specs.Causes.{Rose};
-ghost use Rattle.jmap_main.specs.Words.{IsBatch};
-ghost use Rattle.jmap_main.specs.Run.{HasAnswered, HasBegun, IsTooLong};
+ghost use Rattle.jmap_main.specs.Words.{command_of};
+ghost use Rattle.jmap_main.specs.Run.{HasBegun, HasAnsweredBy, HasBegunBy, IsTooLongBy};
 ghost use Rattle.jmap_main.specs.Status.{Says};
-ghost use Rattle.jmap_main.specs.Ended.{ExplainsWords};
+ghost use Rattle.jmap_main.specs.Ended.{Explains, ExplainsWords};
 
 use crate::batch::answer_input;
 use crate::ending::{Ending, Status};
+use crate::read::read_message;
+use crate::words::Command;
 use jm_edge::{Sink, Source};
 use std::alloc::Global;
 use std::sync::Wait;
@@ -33,17 +35,17 @@ pub fn run<S: Source, O: Sink, E: Sink, W: World>(
     err: &mut E,
     _world: &mut W,
 ) -> Status
-    // With status 0 the input was read to its end, and what was written is what `batch` writes for its bytes.
-    ensures done { result.0 ≡ 0 → HasAnswered (S.left source.old) (S.left source.new) (O.held out.old) (O.held out.new) }
+    // With status 0 the input was read to its end, and what was written is what the command writes for its bytes.
+    ensures done { result.0 ≡ 0 → HasAnsweredBy (command_of (map string_bytes words.now)) (S.left source.old) (S.left source.new) (O.held out.old) (O.held out.new) }
 
-    // With every status, what was written is a front of that.
-    ensures begun { HasBegun (S.left source.old) (S.left source.new) (O.held out.old) (O.held out.new) }
+    // With every status, what was written is a front of that; where the words are those of no command, nothing was read.
+    ensures begun { HasBegunBy (command_of (map string_bytes words.now)) (S.left source.old) (S.left source.new) (O.held out.old) (O.held out.new) }
 
     // Each status comes exactly where, or only where:
-    ensures usage { (result.0 ≡ 2) ↔ ¬ (IsBatch (map string_bytes words.now)) }
+    ensures usage { (result.0 ≡ 2) ↔ (command_of (map string_bytes words.now) ≡ None) }
     ensures read { result.0 ≡ 3 → Rose (S.faults source.old) (S.faults source.new) }
     ensures write { result.0 ≡ 4 → Rose (O.faults out.old) (O.faults out.new) }
-    ensures long { result.0 ≡ 14 → IsTooLong (S.left source.old) (S.left source.new) }
+    ensures long { result.0 ≡ 14 → IsTooLongBy (command_of (map string_bytes words.now)) (S.left source.old) (S.left source.new) }
 
     // It is one of the statuses, and its text stands on the error output, as far as that can be written.
     ensures says { Says result.0 (E.held err.old) (E.held err.new) (E.faults err.old) (E.faults err.new) }
@@ -58,7 +60,7 @@ fn perform<S: Source, O: Sink>(
     source: &mut S,
     out: &mut O,
 ) -> Ending
-    ensures cause { ExplainsWords result (map string_bytes words.now) (record {
+    ensures cause { ExplainsWords (command_of (map string_bytes words.now)) result (record {
       left = S.left source.old;
       left_after = S.left source.new;
       reads = S.faults source.old;
@@ -68,16 +70,34 @@ fn perform<S: Source, O: Sink>(
       writes = O.faults out.old;
       writes_after = O.faults out.new;
     }) }
-    ensures begun { HasBegun (S.left source.old) (S.left source.new) (O.held out.old) (O.held out.new) }
+    ensures begun { HasBegunBy (command_of (map string_bytes words.now)) (S.left source.old) (S.left source.new) (O.held out.old) (O.held out.new) }
 {
-    if is_batch(words) {
-        return answer_input(alloc, source, out);
+    match Command::of_words(words) {
+        Some(command) => perform_command(alloc, command, source, out),
+        None => Ending::Usage,
     }
-    Ending::Usage
 }
 
-fn is_batch(words: &[String]) -> bool
-    ensures { IsTrue result ↔ IsBatch (map string_bytes words.now) }
+fn perform_command<S: Source, O: Sink>(
+    alloc: Global,
+    command: Command,
+    source: &mut S,
+    out: &mut O,
+) -> Ending
+    ensures cause { Explains command result (record {
+      left = S.left source.old;
+      left_after = S.left source.new;
+      reads = S.faults source.old;
+      reads_after = S.faults source.new;
+      held = O.held out.old;
+      held_after = O.held out.new;
+      writes = O.faults out.old;
+      writes_after = O.faults out.new;
+    }) }
+    ensures begun { HasBegun command (S.left source.old) (S.left source.new) (O.held out.old) (O.held out.new) }
 {
-    words.len() == 1 && words[0].as_str() == "batch"
+    match command {
+        Command::Batch => answer_input(alloc, source, out),
+        Command::Read => read_message(alloc, source, out),
+    }
 }

@@ -171,6 +171,67 @@ fn writes_a_front_whatever_fails(rt: HostRuntime) -> Result<(), Fail> {
 }
 
 #[test]
+fn reads_the_leaves_of_a_message(rt: HostRuntime) -> Result<(), Fail> {
+    let rows = [
+        (
+            "",
+            "{\"parts\":[{\"partId\":\"1\",\"size\":0,\"type\":\"text/plain\"}]}\n",
+        ),
+        (
+            "Content-Type: multipart/mixed; boundary=a\n\n--a\n\none\n--ab\n--a \n\ntwo",
+            "{\"parts\":[{\"partId\":\"1\",\"size\":8,\"type\":\"text/plain\"},{\"partId\":\"2\",\"size\":3,\"type\":\"text/plain\"}]}\n",
+        ),
+        (
+            "Content-Type: image/PNG\nContent-Transfer-Encoding: base64\n\nAAEC\n",
+            "{\"parts\":[{\"partId\":\"1\",\"size\":3,\"type\":\"image/png\"}]}\n",
+        ),
+    ];
+    for (message, line) in &rows {
+        let done = answer(
+            &rt,
+            rt.alloc(),
+            "read",
+            message,
+            7,
+            never(rt.alloc()),
+            never(rt.alloc()),
+        )?;
+        assert_eq!(rt; done.status, Status(0));
+        assert_eq!(rt; done.out.as_slice(), line.as_bytes());
+    }
+    Ok(())
+}
+
+#[test]
+fn reads_no_message_in_part(rt: HostRuntime) -> Result<(), Fail> {
+    let unread = answer(
+        &rt,
+        rt.alloc(),
+        "read",
+        "abc",
+        2,
+        after(rt.alloc(), 1)?,
+        never(rt.alloc()),
+    )?;
+    assert_eq!(rt; unread.status, Status(3));
+    assert_eq!(rt; unread.out.as_slice(), b"".as_slice());
+    let unput = answer(
+        &rt,
+        rt.alloc(),
+        "read",
+        "abc",
+        2,
+        never(rt.alloc()),
+        after(rt.alloc(), 0)?,
+    )?;
+    assert_eq!(rt; unput.status, Status(4));
+    let longer = repeats(&rt, rt.alloc(), "read", 0, 50000001)?;
+    assert_eq!(rt; longer.status, Status(14));
+    assert_eq!(rt; longer.out.as_slice(), b"".as_slice());
+    Ok(())
+}
+
+#[test]
 fn refuses_other_words(rt: HostRuntime) -> Result<(), Fail> {
     for words in ["read x", "batch batch", "", "Batch"] {
         let other = answer(
@@ -222,12 +283,13 @@ impl Source for Repeated {
 fn repeats(
     rt: &(impl Threads + Wait + Sync),
     alloc: Global,
+    word: &str,
     byte: u8,
     left: u64,
 ) -> Result<Ran, Fail> {
     let mut out = MemorySink::new(alloc);
     let mut err = MemorySink::new(alloc);
-    let words = vec![in alloc; String::from_str(alloc, "batch")?]?;
+    let words = vec![in alloc; String::from_str(alloc, word)?]?;
     let status = run(
         rt,
         alloc,
@@ -246,9 +308,9 @@ fn repeats(
 
 #[test]
 fn ends_past_the_longest_input(rt: HostRuntime) -> Result<(), Fail> {
-    let longest = repeats(&rt, rt.alloc(), 0, 1073741824)?;
+    let longest = repeats(&rt, rt.alloc(), "batch", 0, 1073741824)?;
     assert_eq!(rt; longest.status, Status(0));
-    let longer = repeats(&rt, rt.alloc(), 0, 1073741825)?;
+    let longer = repeats(&rt, rt.alloc(), "batch", 0, 1073741825)?;
     assert_eq!(rt; longer.status, Status(14));
     assert_eq!(rt; longer.err.as_slice(), b"too long\n".as_slice());
     Ok(())
@@ -256,11 +318,11 @@ fn ends_past_the_longest_input(rt: HostRuntime) -> Result<(), Fail> {
 
 #[test]
 fn refuses_a_long_line_unread(rt: HostRuntime) -> Result<(), Fail> {
-    let blank = repeats(&rt, rt.alloc(), b' ', 10000000)?;
+    let blank = repeats(&rt, rt.alloc(), "batch", b' ', 10000000)?;
     assert_eq!(rt; blank.out.as_slice(), NOT_JSON.as_bytes());
-    let longer = repeats(&rt, rt.alloc(), b' ', 10000001)?;
+    let longer = repeats(&rt, rt.alloc(), "batch", b' ', 10000001)?;
     assert_eq!(rt; longer.out.as_slice(), NOT_REQUEST.as_bytes());
-    let upload = repeats(&rt, rt.alloc(), b'+', 10000001)?;
+    let upload = repeats(&rt, rt.alloc(), "batch", b'+', 10000001)?;
     assert_eq!(rt; upload.out.as_slice(), NOT_JSON.as_bytes());
     Ok(())
 }

@@ -1,6 +1,5 @@
 use Rattle.std.proofs.Common.{◌≡◌, ◌≤◌, ◌<◌, ◌+◌, ◌-◌, ◌^◌, min, [], ℕ, List, take, length, arith, ◌∙◌, sym}
 use Rattle.std.specs.Io.KnownBytes.{Consumes}
-use Rattle.jmap_main.specs.Run.{most_input}
 use Rattle.jmap_main.proofs.Runs.{begun_kept, begun_more, long_more, way_on, begun_on, all_answered, begun_answered, begun_last}
 use Rattle.jmap_main.proofs.batch.answer_reads.Goals as goal
 

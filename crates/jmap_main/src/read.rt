@@ -1,0 +1,97 @@
+// The command `read`: the leaves of a message as one line.
+ghost use Rattle.std.specs.Prelude.{◌≡◌, ◌≤◌, ◌<◌, ◌^◌, ℕ, List, [], ◌++◌, length, take, IfOk, IfErr, OnOk, OnErr};
+ghost use Rattle.std.specs.Io.KnownBytes.{Consumes, IsAtEnd};
+ghost use Rattle.jmap_main.specs.Read.{read_out};
+ghost use Rattle.jmap_main.specs.Run.{HasBegun};
+ghost use Rattle.jmap_main.specs.Ended.{Explains, Unread, Written};
+
+use crate::ending::Ending;
+use crate::leaves::message_line;
+use crate::words::Command;
+use jm_base::Bytes;
+use jm_edge::{Sink, Source, put_all};
+use std::alloc::Global;
+
+// The bytes that a message may have.
+const MOST_MESSAGE: u64 = 50000000;
+
+// The bytes that are read at once.
+const ROOM: usize = 65536;
+
+/// Reads a message to its end, and writes the line of its leaves.
+pub(crate) fn read_message<S: Source, O: Sink>(alloc: Global, source: &mut S, out: &mut O) -> Ending
+    ensures cause { Explains Command.Read result (record {
+      left = S.left source.old;
+      left_after = S.left source.new;
+      reads = S.faults source.old;
+      reads_after = S.faults source.new;
+      held = O.held out.old;
+      held_after = O.held out.new;
+      writes = O.faults out.old;
+      writes_after = O.faults out.new;
+    }) }
+    ensures begun { HasBegun Command.Read (S.left source.old) (S.left source.new) (O.held out.old) (O.held out.new) }
+{
+    match take_message(alloc, source) {
+        Ok(message) => write_message(alloc, message.as_slice(), out),
+        Err(ending) => ending,
+    }
+}
+
+// The line of a message is written, or a front of it.
+fn write_message<O: Sink>(alloc: Global, message: &[u8], out: &mut O) -> Ending
+    requires { length message.now ≤ MOST_MESSAGE }
+    ensures { Written result (O.held out.old) (O.held out.new) (O.faults out.old) (O.faults out.new) (read_out message.now) }
+{
+    match message_line(alloc, message) {
+        Ok(line) => write_line(line.as_slice(), out),
+        Err(_) => Ending::NoMemory,
+    }
+}
+
+fn write_line<O: Sink>(line: &[u8], out: &mut O) -> Ending
+    ensures { Written result (O.held out.old) (O.held out.new) (O.faults out.old) (O.faults out.new) line.now }
+{
+    match put_all(out, line) {
+        Ok(()) => Ending::Done,
+        Err(_) => Ending::WriteFault,
+    }
+}
+
+// The bytes of the input, read to its end.
+fn take_message<S: Source>(alloc: Global, source: &mut S) -> Result<Bytes, Ending>
+    ensures ok { IfOk result (λ b. Consumes (S.left source.old) (S.left source.new) b × (length b ≤ MOST_MESSAGE) × IsAtEnd (S.left source.new)) }
+    ensures taken { OnErr result ((b : List ℕ) × Consumes (S.left source.old) (S.left source.new) b) }
+    ensures reason { IfErr result (λ e. Unread e (S.left source.old) (S.left source.new) (S.faults source.old) (S.faults source.new)) }
+{
+    match vec![in alloc; 0u8; ROOM] {
+        Ok(mut room) => take_reads(alloc, source, room.as_mut_slice()),
+        Err(_) => Err(Ending::NoMemory),
+    }
+}
+
+fn take_reads<S: Source>(alloc: Global, source: &mut S, room: &mut [u8]) -> Result<Bytes, Ending>
+    requires { 0 < length room.old }
+    ensures ok { IfOk result (λ b. Consumes (S.left source.old) (S.left source.new) b × (length b ≤ MOST_MESSAGE) × IsAtEnd (S.left source.new)) }
+    ensures taken { OnErr result ((b : List ℕ) × Consumes (S.left source.old) (S.left source.new) b) }
+    ensures reason { IfErr result (λ e. Unread e (S.left source.old) (S.left source.new) (S.faults source.old) (S.faults source.new)) }
+{
+    let mut message = Bytes::new(alloc);
+    'turns: for _turn in 0..MOST_MESSAGE + 2 {
+        let count = match source.read(room) {
+            Ok(count) => count,
+            Err(_) => return Err(Ending::ReadFault),
+        };
+        if count == 0 {
+            return Ok(message);
+        }
+        if count as u64 > MOST_MESSAGE - message.len() as u64 {
+            return Err(Ending::TooLong);
+        }
+        match message.append(&room[..count]) {
+            Ok(()) => {}
+            Err(_) => return Err(Ending::NoMemory),
+        }
+    }
+    Err(Ending::TooLong)
+}
