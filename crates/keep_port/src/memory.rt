@@ -1,0 +1,155 @@
+// A keeper in memory, with lists of the calls that are to fail.
+ghost use Rattle.std.specs.Prelude.{◌≡◌, Some, IfOk};
+ghost use Rattle.keep_port.specs.declared.kept.Kept.{Kept};
+ghost use Rattle.keep_port.specs.Keeping.{IsCounted, IsTold, kept_after, with_row_if, whole_if, MayLeave};
+
+use crate::calls::Calls;
+use crate::{Keeper, Kept};
+use jm_base::{Bytes, Numbers, Rows, Sequence};
+use jm_edge::EdgeFault;
+use std::alloc::Global;
+
+/// Keeps rows in memory. It tells what it keeps, and what a crash may leave: what is kept, the same and the row of one
+/// refused `append`, or the whole of one refused `replace`, of those since the last call of either that was not refused.
+///
+/// The listed calls fail, counted from 1 for `load`, `append` and `replace` apart. A call that finds no memory changes
+/// nothing, and is not counted.
+#[derive(Drop)]
+pub struct MemoryKeeper {
+    kept: Kept,
+    refused_rows: Rows,
+    refused_wholes: Sequence<Kept>,
+    loads: Calls,
+    appends: Calls,
+    replaces: Calls,
+}
+
+impl MemoryKeeper {
+    ghost use Rattle.keep_port.specs.Keeping.{IsClean};
+    ghost use Rattle.keep_port.specs.Memory.{opened, may_be_left};
+    ghost use Rattle.std.specs.Prelude.{[]};
+
+    /// A keeper that keeps this and never fails.
+    pub fn new(alloc: Global, kept: Kept) -> MemoryKeeper
+        ensures opened { result ≡ opened kept [] [] [] }
+        ensures clean { IsClean (Some result.kept) (may_be_left result) }
+    {
+        let none = Numbers::new(alloc);
+        MemoryKeeper::failing(alloc, kept, none, Numbers::new(alloc), Numbers::new(alloc))
+    }
+
+    #[tactic(auto, using(crate::proofs::Left::nothing_refused))]
+    /// A keeper that keeps this, and fails at the listed calls of `load`, `append` and `replace`.
+    pub fn failing(
+        alloc: Global,
+        kept: Kept,
+        loads: Numbers,
+        appends: Numbers,
+        replaces: Numbers,
+    ) -> MemoryKeeper
+        ensures opened { result ≡ opened kept loads appends replaces }
+        ensures clean { IsClean (Some result.kept) (may_be_left result) }
+    {
+        MemoryKeeper {
+            kept,
+            refused_rows: Rows::new(alloc),
+            refused_wholes: Sequence::new(alloc),
+            loads: Calls::new(loads),
+            appends: Calls::new(appends),
+            replaces: Calls::new(replaces),
+        }
+    }
+
+    /// Lends what is kept.
+    pub fn kept(&self) -> &Kept
+        ensures { result.now ≡ self.now.kept }
+    {
+        &self.kept
+    }
+}
+
+impl Keeper for MemoryKeeper {
+    ghost use Rattle.keep_port.specs.Memory.{may_be_left, Loads, Appends, Replaces};
+
+    ghost kept = { λ m. Some m.kept };
+
+    ghost image = { may_be_left };
+
+    ghost load_faults = { λ m. m.loads.faults };
+
+    ghost append_faults = { λ m. m.appends.faults };
+
+    ghost replace_faults = { λ m. m.replaces.faults };
+
+    fn load(&mut self, alloc: Global) -> Result<Kept, EdgeFault>
+        ensures does { Loads self.old self.new result }
+        ensures loaded { IfOk result (IsTold (Some self.old.kept)) }
+        ensures kept { Some self.new.kept ≡ Some self.old.kept }
+        ensures image { (k : Kept) → may_be_left self.new k → may_be_left self.old k }
+        ensures cause { IsCounted self.old.loads.faults self.new.loads.faults result }
+        ensures append_count { self.new.appends.faults ≡ self.old.appends.faults }
+        ensures replace_count { self.new.replaces.faults ≡ self.old.replaces.faults }
+    {
+        if self.loads.fails_next() {
+            self.loads.fail();
+            return Err(EdgeFault::Failed);
+        }
+        let Ok(copy) = self.kept.copy(alloc) else {
+            return Err(EdgeFault::NoMemory);
+        };
+        self.loads.pass();
+        Ok(copy)
+    }
+
+    fn append(&mut self, alloc: Global, row: &[u8]) -> Result<(), EdgeFault>
+        ensures does { Appends row.now self.old self.new result }
+        ensures kept { Some self.new.kept ≡ kept_after result (with_row_if row.now (Some self.old.kept)) (Some self.old.kept) }
+        ensures image { MayLeave result (with_row_if row.now (Some self.old.kept)) (may_be_left self.old) (may_be_left self.new) }
+        ensures cause { IsCounted self.old.appends.faults self.new.appends.faults result }
+        ensures load_count { self.new.loads.faults ≡ self.old.loads.faults }
+        ensures replace_count { self.new.replaces.faults ≡ self.old.replaces.faults }
+    {
+        let Ok(copy) = Bytes::from_slice(alloc, row) else {
+            return Err(EdgeFault::NoMemory);
+        };
+        if self.appends.fails_next() {
+            if self.refused_rows.push(copy).is_err() {
+                return Err(EdgeFault::NoMemory);
+            }
+            self.appends.fail();
+            return Err(EdgeFault::Failed);
+        }
+        if self.kept.rows.push(copy).is_err() {
+            return Err(EdgeFault::NoMemory);
+        }
+        self.refused_rows = Rows::new(alloc);
+        self.refused_wholes = Sequence::new(alloc);
+        self.appends.pass();
+        Ok(())
+    }
+
+    fn replace(&mut self, alloc: Global, whole: &Kept) -> Result<(), EdgeFault>
+        ensures does { Replaces whole.now self.old self.new result }
+        ensures kept { Some self.new.kept ≡ kept_after result (whole_if whole.now (Some self.old.kept)) (Some self.old.kept) }
+        ensures image { MayLeave result (whole_if whole.now (Some self.old.kept)) (may_be_left self.old) (may_be_left self.new) }
+        ensures cause { IsCounted self.old.replaces.faults self.new.replaces.faults result }
+        ensures load_count { self.new.loads.faults ≡ self.old.loads.faults }
+        ensures append_count { self.new.appends.faults ≡ self.old.appends.faults }
+    {
+        let Ok(copy) = whole.copy(alloc) else {
+            return Err(EdgeFault::NoMemory);
+        };
+        if self.replaces.fails_next() {
+            if self.refused_wholes.push(copy).is_err() {
+                return Err(EdgeFault::NoMemory);
+            }
+            self.replaces.fail();
+            return Err(EdgeFault::Failed);
+        }
+        self.kept = copy;
+        self.refused_rows = Rows::new(alloc);
+        self.refused_wholes = Sequence::new(alloc);
+        self.replaces.pass();
+        Ok(())
+    }
+}
