@@ -1,0 +1,5 @@
+pub mod Forms
+pub mod Counts
+pub mod Tidy
+pub mod Views
+pub mod Derived

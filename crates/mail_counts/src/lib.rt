@@ -1,0 +1,18 @@
+//! What an account's records must be to be tidy, the counts of mailboxes, what a client is shown of a mailbox, and the
+//! plans of sets.
+//!
+//! When a content is tidy stands in `specs/Tidy.antt`, and a mailbox's counts in `specs/Counts.antt`. A call that sets
+//! records answers a [`SetPlan`] or a [`SetFault`].
+#![tactic(auto)]
+
+mod following;
+mod form;
+mod plan;
+#[cfg(test)]
+mod tests;
+mod view;
+
+pub use following::derived;
+pub use form::{is_name, is_role, is_sort_order};
+pub use plan::{SetFault, SetPlan};
+pub use view::{mailbox_rights, mailbox_view};

@@ -1,0 +1,86 @@
+// What a client is shown of a mailbox (RFC 8621, section 2).
+ghost use Rattle.std.specs.Prelude.{◌≡◌, min, IfOk, OnOk, OnErr};
+ghost use Rattle.jm_json.specs.Json.{tree_of};
+ghost use Rattle.jm_json.specs.Order.{put};
+ghost use Rattle.mail_counts.specs.Views.{count_tree, mailbox_id, mailbox_members, parent_tree, rights_members, rights_tree, role_tree};
+
+use jm_base::{Id, Kind, NoMemory, Text, id_text};
+use jm_json::{Json, Members};
+use mail_records::Mailbox;
+use std::alloc::Global;
+
+// The greatest number that JSON has here (RFC 8620, section 1.3).
+const GREATEST: u64 = (1 << 53) - 1;
+
+fn count(number: u64) -> Json
+    ensures { tree_of result ≡ count_tree number }
+{
+    Json::Int(number.min(GREATEST) as i64)
+}
+
+fn identifier(alloc: Global, number: u64) -> Result<Json, NoMemory>
+    ensures { IfOk result (λ t. tree_of t ≡ parent_tree (Some number)) }
+{
+    let kind = Kind::Mailbox;
+    Ok(Json::Text(id_text(alloc, &Id { kind, number })?))
+}
+
+fn parent(alloc: Global, parent: Option<u64>) -> Result<Json, NoMemory>
+    ensures { IfOk result (λ t. tree_of t ≡ parent_tree parent) }
+{
+    match parent {
+        Some(number) => identifier(alloc, number),
+        None => Ok(Json::Null),
+    }
+}
+
+fn role(role: &Option<Text>) -> Result<Json, NoMemory>
+    ensures { IfOk result (λ t. tree_of t ≡ role_tree role.now) }
+{
+    match role {
+        Some(text) => Ok(Json::Text(text.copy()?)),
+        None => Ok(Json::Null),
+    }
+}
+
+fn rights(alloc: Global, read_only: bool) -> Result<Members, NoMemory>
+    ensures { IfOk result (λ ms. ms ≡ rights_members read_only) }
+{
+    let mut rights = Members::with_room(alloc, 9)?;
+    rights.set(alloc, "mayAddItems", Json::Bool(!read_only))?;
+    rights.set(alloc, "mayCreateChild", Json::Bool(!read_only))?;
+    rights.set(alloc, "mayDelete", Json::Bool(!read_only))?;
+    rights.set(alloc, "mayReadItems", Json::Bool(true))?;
+    rights.set(alloc, "mayRemoveItems", Json::Bool(!read_only))?;
+    rights.set(alloc, "mayRename", Json::Bool(!read_only))?;
+    rights.set(alloc, "maySetKeywords", Json::Bool(!read_only))?;
+    rights.set(alloc, "maySetSeen", Json::Bool(!read_only))?;
+    rights.set(alloc, "maySubmit", Json::Bool(false))?;
+    Ok(rights)
+}
+
+/// The rights of a user on each mailbox of an account, which is read-only for the user or not.
+pub fn mailbox_rights(alloc: Global, read_only: bool) -> Result<Json, NoMemory>
+    ensures { IfOk result (λ t. tree_of t ≡ rights_tree read_only) }
+{
+    Ok(Json::Object(rights(alloc, read_only)?))
+}
+
+/// The members of a mailbox's object, in byte order of their names, for a user to whom the account is read-only or not.
+pub fn mailbox_view(alloc: Global, mailbox: &Mailbox, read_only: bool) -> Result<Members, NoMemory>
+    ensures { IfOk result (λ ms. ms ≡ mailbox_members read_only mailbox.now) }
+{
+    let mut view = Members::with_room(alloc, 11)?;
+    view.set(alloc, "id", identifier(alloc, mailbox.number)?)?;
+    view.set(alloc, "isSubscribed", Json::Bool(mailbox.subscribed))?;
+    view.set(alloc, "myRights", mailbox_rights(alloc, read_only)?)?;
+    view.set(alloc, "name", Json::Text(mailbox.name.copy()?))?;
+    view.set(alloc, "parentId", parent(alloc, mailbox.parent)?)?;
+    view.set(alloc, "role", role(&mailbox.role)?)?;
+    view.set(alloc, "sortOrder", count(mailbox.sort_order))?;
+    view.set(alloc, "totalEmails", count(mailbox.total_emails))?;
+    view.set(alloc, "totalThreads", count(mailbox.total_threads))?;
+    view.set(alloc, "unreadEmails", count(mailbox.unread_emails))?;
+    view.set(alloc, "unreadThreads", count(mailbox.unread_threads))?;
+    Ok(view)
+}
