@@ -1,10 +1,9 @@
 -- What is answered to the calls of a request, one after the other (RFC 8620, section 3.4).
 use Rattle.std.specs.Prelude.{◌≡◌, ◌⊎◌, ℕ, List, [], ◌∷◌, ◌++◌, take, Bool, cond, codes, bytes_eq}
-use Rattle.jm_json.specs.Tree.{text, object, fields_of}
 use Rattle.jm_json.specs.Call.{Call}
 use Rattle.jm_json.specs.declared.invocation.Created.{Created}
 use Rattle.jm_json.specs.declared.invocation.Replied.{Replied}
-use Rattle.method_batch.specs.Method.{is_allowed}
+use Rattle.method_batch.specs.Prepared.{Preparation, refused, ready, preparation}
 use Rattle.method_batch.specs.declared.progress.Progress.{Progress}
 
 -- a call that a port was asked, with what the request had made by then, and what it replied
@@ -22,17 +21,19 @@ Runs {S} answers s (a ∷ rest) s' = (m : S) × answers s a.call a.made a.replie
 abbrev pub is_echo : Call → Bool
 is_echo c = bytes_eq c.name (codes "Core/echo")
 
--- the response that says an error (RFC 8620, section 3.6.2)
-abbrev pub error_of : List ℕ → List ℕ → Call
-error_of kind id = record { name = codes "error"; args = object (fields_of ((codes "type", text kind) ∷ [])); id = id }
+-- the port was asked nothing, and the reply is this response alone
+abbrev pub RepliesAlone : Call → List Asked → Replied → Type 0
+RepliesAlone response asked replied = (asked ≡ []) × (replied ≡ record { responses = response ∷ []; made = [] })
 
--- What one call is replied, and what the port was asked for it: an unknown method is an error, an echo is the call itself,
--- and any other call is what the port replies.
-abbrev pub RepliesOne : Bool → Bool → Call → List Created → List Asked → Replied → Type 0
-RepliesOne core mail c made asked replied =
-    cond (is_allowed core mail c.name)
-    (cond (is_echo c) ((asked ≡ []) × (replied ≡ record { responses = c ∷ []; made = [] })) (asked ≡ record { call = c; made = made; replied = replied } ∷ []))
-    ((asked ≡ []) × (replied ≡ record { responses = error_of (codes "unknownMethod") c.id ∷ []; made = [] }))
+-- What a call is replied, and what the port was asked for it: a refused call is replied by its refusal, an echo by itself, and
+-- any other call is asked of the port, with its arguments resolved.
+abbrev pub RepliesPrepared : Preparation → List Created → List Asked → Replied → Type 0
+RepliesPrepared (refused response) made asked replied = RepliesAlone response asked replied
+RepliesPrepared (ready c) made asked replied = cond (is_echo c) (RepliesAlone c asked replied) (asked ≡ record { call = c; made = made; replied = replied } ∷ [])
+
+-- the same of a call of a request that has come so far
+abbrev pub RepliesOne : Bool → Bool → Call → Progress → List Asked → Replied → Type 0
+RepliesOne core mail c before asked replied = RepliesPrepared (preparation core mail c before.responses) before.made asked replied
 
 -- the progress after a reply
 abbrev pub after_reply : Progress → Replied → Progress
@@ -43,23 +44,20 @@ abbrev pub Answers : Bool → Bool → List Call → Progress → List Asked →
 Answers core mail [] before asked after = (asked ≡ []) × (after ≡ before)
 Answers core mail (c ∷ cs) before asked after =
     (first : List Asked) × (more : List Asked) × (replied : Replied) × (asked ≡ first ++ more)
-    × RepliesOne core mail c before.made first replied × Answers core mail cs (after_reply before replied) more after
-
--- at the beginning of a request
-abbrev pub no_progress : Progress
-no_progress = record { responses = []; made = [] }
+    × RepliesOne core mail c before first replied × Answers core mail cs (after_reply before replied) more after
 
 -- ---- of a port that goes from the state s to s' meanwhile
 
 -- one call was performed, from one progress to another
 abbrev pub HasPerformed : {S : Type 0} → (S → Call → List Created → Replied → S → Type 0) → S → S → Bool → Bool → Call → Progress → Progress → Type 0
 HasPerformed answers s s' core mail c before after =
-    (asked : List Asked) × (replied : Replied) × Runs answers s asked s' × RepliesOne core mail c before.made asked replied × (after ≡ after_reply before replied)
+    (asked : List Asked) × (replied : Replied) × Runs answers s asked s' × RepliesOne core mail c before asked replied × (after ≡ after_reply before replied)
 
 -- it was not, or it was
 abbrev pub MayHavePerformed : {S : Type 0} → (S → Call → List Created → Replied → S → Type 0) → S → S → Bool → Bool → Call → Progress → Type 0
 MayHavePerformed answers s s' core mail c before = (s' ≡ s) ⊎ ((after : Progress) × HasPerformed answers s s' core mail c before after)
 
 -- the first calls were performed, and no other
-abbrev pub HasBegunCalls : {S : Type 0} → (S → Call → List Created → Replied → S → Type 0) → S → S → Bool → Bool → List Call → Type 0
-HasBegunCalls answers s s' core mail cs = (n : ℕ) × (asked : List Asked) × (after : Progress) × Runs answers s asked s' × Answers core mail (take n cs) no_progress asked after
+abbrev pub HasBegunCalls : {S : Type 0} → (S → Call → List Created → Replied → S → Type 0) → S → S → Bool → Bool → List Call → Progress → Type 0
+HasBegunCalls answers s s' core mail cs before =
+    (n : ℕ) × (asked : List Asked) × (after : Progress) × Runs answers s asked s' × Answers core mail (take n cs) before asked after

@@ -1,4 +1,5 @@
 pub mod Method
 pub mod Request
+pub mod Prepared
 pub mod Answer
 pub mod Outcome

@@ -1,47 +1,102 @@
 -- What is answered to a request (RFC 8620, sections 3.4 and 3.6.1).
-use Rattle.std.specs.Prelude.{◌≡◌, ℕ, List, [], ◌∷◌, Option, Some, None, map, codes, pos, cond, nat_lt, length}
+use Rattle.std.specs.Prelude.{◌≡◌, ℕ, List, [], ◌∷◌, ◌++◌, Option, Some, None, Bool, true, false, is_some, unwrap_or, map, codes, pos, cond, nat_lt, length}
 use Rattle.jm_json.specs.Reading.{Reading, not_json, not_whole, whole, reading_of}
 use Rattle.jm_json.specs.Tree.{Tree, number, text, list, object, trees_of, fields_of}
+use Rattle.jm_json.specs.Order.{put}
 use Rattle.jm_json.specs.Call.{Call}
 use Rattle.jm_json.specs.Json.{tree_of}
 use Rattle.jm_json.specs.declared.invocation.Created.{Created}
 use Rattle.jm_json.specs.declared.invocation.Replied.{Replied}
-use Rattle.method_batch.specs.Request.{request_of}
-use Rattle.method_batch.specs.Answer.{Asked, Runs, Answers, no_progress, HasBegunCalls}
+use Rattle.method_batch.specs.Method.{core_capability, mail_capability}
+use Rattle.method_batch.specs.Request.{request_of, problem_in, uses}
+use Rattle.method_batch.specs.Answer.{Asked, Runs, Answers, HasBegunCalls}
 use Rattle.method_batch.specs.declared.progress.Progress.{Progress}
 use Rattle.method_batch.specs.declared.request.Request.{Request}
 use Rattle.method_batch.specs.declared.outcome.Outcome.{Outcome}
 use Rattle.method_batch.specs.declared.outcome.Problem.{Problem}
-use Rattle.method_batch.specs.declared.outcome.Problem.TheVariants.{NotJson, NotRequest}
+use Rattle.method_batch.specs.declared.outcome.Problem.TheVariants.{NotJson, NotRequest, UnknownCapability, TooManyCalls, TooLarge}
+
+-- ---- the Response
 
 -- a call or a response as it stands in a text
 abbrev pub call_tree : Call → Tree
 call_tree c = list (trees_of (text c.name ∷ c.args ∷ text c.id ∷ []))
 
--- the Response that has these method responses
-abbrev pub response_tree : List Call → Tree
-response_tree cs = object (fields_of ((codes "methodResponses", list (trees_of (map call_tree cs))) ∷ (codes "sessionState", text (codes "0")) ∷ []))
+-- the members for what was made, one after another put to those before: of a creation id that was made twice the last counts
+abbrev pub put_ids : List (List ℕ × Tree) → List Created → List (List ℕ × Tree)
+put_ids before [] = before
+put_ids before (c ∷ cs) = put_ids (put c.creation (text c.id) before) cs
+
+-- `createdIds`, where it is shown
+abbrev pub created_member : Bool → List Created → List (List ℕ × Tree)
+created_member false made = []
+created_member true made = (codes "createdIds", object (fields_of (put_ids [] made))) ∷ []
+
+-- the Response of a request that came so far; it shows what was created, or not
+abbrev pub response_tree : Bool → Progress → Tree
+response_tree shows p =
+    object (fields_of (created_member shows p.made ++ (codes "methodResponses", list (trees_of (map call_tree p.responses))) ∷ (codes "sessionState", text (codes "0")) ∷ []))
+
+-- ---- the problem details of a request that is refused as a whole (RFC 7807)
 
 abbrev pub problem_type : Problem → List ℕ
 problem_type NotJson = codes "urn:ietf:params:jmap:error:notJSON"
 problem_type NotRequest = codes "urn:ietf:params:jmap:error:notRequest"
+problem_type UnknownCapability = codes "urn:ietf:params:jmap:error:unknownCapability"
+problem_type TooManyCalls = codes "urn:ietf:params:jmap:error:limit"
+problem_type TooLarge = codes "urn:ietf:params:jmap:error:limit"
 
--- the problem details of a request that is refused (RFC 7807)
+-- the limit of the server that was passed
+abbrev pub problem_limit : Problem → Option (List ℕ)
+problem_limit NotJson = None
+problem_limit NotRequest = None
+problem_limit UnknownCapability = None
+problem_limit TooManyCalls = Some (codes "maxCallsInRequest")
+problem_limit TooLarge = Some (codes "maxSizeRequest")
+
+abbrev pub problem_status : Problem → ℕ
+problem_status NotJson = 400
+problem_status NotRequest = 400
+problem_status UnknownCapability = 400
+problem_status TooManyCalls = 400
+problem_status TooLarge = 413
+
+abbrev pub limit_member : Option (List ℕ) → List (List ℕ × Tree)
+limit_member None = []
+limit_member (Some name) = (codes "limit", text name) ∷ []
+
 abbrev pub problem_tree : Problem → Tree
-problem_tree p = object (fields_of ((codes "status", number (pos 400)) ∷ (codes "type", text (problem_type p)) ∷ []))
+problem_tree p =
+    object (fields_of (limit_member (problem_limit p) ++ (codes "status", number (pos (problem_status p))) ∷ (codes "type", text (problem_type p)) ∷ []))
+
+-- ---- the outcome
 
 abbrev pub IsReply : Outcome → ℕ → Tree → Type 0
 IsReply o status t = (o.status ≡ status) × (tree_of o.tree ≡ t)
 
 abbrev pub IsRefusal : Problem → Outcome → Type 0
-IsRefusal p o = IsReply o 400 (problem_tree p)
+IsRefusal p o = IsReply o (problem_status p) (problem_tree p)
 
--- ---- of a port that goes from the state s to s' meanwhile
+-- the progress at the beginning of a request: what it says was created counts as made
+abbrev pub beginning : Option (List Created) → Progress
+beginning created = record { responses = []; made = unwrap_or created [] }
+
+-- Here and below, of a port that goes from the state s to s' meanwhile: the calls of a request were answered. The Response shows
+-- what was created where the request itself did.
+abbrev pub IsResponse : {S : Type 0} → (S → Call → List Created → Replied → S → Type 0) → S → S → Request → Outcome → Type 0
+IsResponse answers s s' r o =
+    (asked : List Asked) × (after : Progress) × Runs answers s asked s'
+    × Answers (uses core_capability r.using) (uses mail_capability r.using) r.calls (beginning r.created) asked after
+    × IsReply o 200 (response_tree (is_some r.created) after)
+
+-- a request for which there is a problem is refused
+abbrev pub IsOutcomeUnless : {S : Type 0} → (S → Call → List Created → Replied → S → Type 0) → S → S → Request → Option Problem → Outcome → Type 0
+IsOutcomeUnless answers s s' r None o = IsResponse answers s s' r o
+IsOutcomeUnless answers s s' r (Some p) o = (s' ≡ s) × IsRefusal p o
 
 abbrev pub IsOutcomeBy : {S : Type 0} → (S → Call → List Created → Replied → S → Type 0) → S → S → Option Request → Outcome → Type 0
 IsOutcomeBy answers s s' None o = (s' ≡ s) × IsRefusal NotRequest o
-IsOutcomeBy answers s s' (Some r) o =
-    (asked : List Asked) × (after : Progress) × Runs answers s asked s' × Answers r.core r.mail r.calls no_progress asked after × IsReply o 200 (response_tree after.responses)
+IsOutcomeBy answers s s' (Some r) o = IsOutcomeUnless answers s s' r (problem_in r) o
 
 -- the outcome of a request's tree
 abbrev pub IsOutcome : {S : Type 0} → (S → Call → List Created → Replied → S → Type 0) → S → S → Tree → Outcome → Type 0
@@ -54,13 +109,20 @@ IsAnswerBy answers s s' (whole t) o = IsOutcome answers s s' t o
 
 -- the outcome of a request's bytes, of which there may be 10,000,000
 abbrev pub IsAnswer : {S : Type 0} → (S → Call → List Created → Replied → S → Type 0) → S → S → List ℕ → Outcome → Type 0
-IsAnswer answers s s' bytes o = cond (nat_lt 10000000 (length bytes)) ((s' ≡ s) × IsRefusal NotRequest o) (IsAnswerBy answers s s' (reading_of bytes) o)
+IsAnswer answers s s' bytes o = cond (nat_lt 10000000 (length bytes)) ((s' ≡ s) × IsRefusal TooLarge o) (IsAnswerBy answers s s' (reading_of bytes) o)
 
 -- ---- and of one that stopped early, for want of memory: the first calls were performed, and no other
 
+abbrev pub HasBegunRequest : {S : Type 0} → (S → Call → List Created → Replied → S → Type 0) → S → S → Request → Type 0
+HasBegunRequest answers s s' r = HasBegunCalls answers s s' (uses core_capability r.using) (uses mail_capability r.using) r.calls (beginning r.created)
+
+abbrev pub HasBegunUnless : {S : Type 0} → (S → Call → List Created → Replied → S → Type 0) → S → S → Request → Option Problem → Type 0
+HasBegunUnless answers s s' r None = HasBegunRequest answers s s' r
+HasBegunUnless answers s s' r (Some p) = s' ≡ s
+
 abbrev pub HasBegunBy : {S : Type 0} → (S → Call → List Created → Replied → S → Type 0) → S → S → Option Request → Type 0
 HasBegunBy answers s s' None = s' ≡ s
-HasBegunBy answers s s' (Some r) = HasBegunCalls answers s s' r.core r.mail r.calls
+HasBegunBy answers s s' (Some r) = HasBegunUnless answers s s' r (problem_in r)
 
 abbrev pub HasBegun : {S : Type 0} → (S → Call → List Created → Replied → S → Type 0) → S → S → Tree → Type 0
 HasBegun answers s s' t = HasBegunBy answers s s' (request_of t)

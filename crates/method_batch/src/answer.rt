@@ -1,13 +1,17 @@
-// The answer to a request: its calls in order, each by the text alone or by the port (RFC 8620, section 3.4).
+// The answer to a request: its calls in order, each by the text and the responses so far, or by the port (RFC 8620, section
+// 3.4).
 ghost use Rattle.std.specs.Prelude.{Some, IfOk, OnErr};
 ghost use Rattle.jm_json.specs.Json.{tree_of};
-ghost use Rattle.method_batch.specs.Outcome.{IsOutcome, IsOutcomeBy, IsAnswer, HasBegun, HasBegunBy, HasBegunAnswer};
+ghost use Rattle.method_batch.specs.Request.{problem_in};
+ghost use Rattle.method_batch.specs.Outcome.{IsOutcome, IsOutcomeBy, IsResponse, IsAnswer, HasBegun, HasBegunBy, HasBegunRequest, HasBegunAnswer};
 
+use crate::method::{CORE, MAIL};
 use crate::outcome::{Outcome, Problem};
 use crate::port::Port;
 use crate::progress::Progress;
 use crate::request::Request;
 use crate::response::response;
+use crate::using::uses;
 use jm_base::NoMemory;
 use jm_json::{Json, ReadFault, copy, read};
 use std::alloc::Global;
@@ -40,7 +44,7 @@ pub fn answer_request<P: Port>(
     ensures begun { OnErr result (HasBegunAnswer P.answers port.old port.new request.now) }
 {
     if request.len() > MOST_BYTES {
-        return Outcome::refusal(alloc, Problem::NotRequest);
+        return Outcome::refusal(alloc, Problem::TooLarge);
     }
     match read(alloc, request) {
         Ok(tree) => answer_moved(alloc, port, tree),
@@ -55,20 +59,38 @@ fn answer_moved<P: Port>(alloc: Global, port: &mut P, request: Json) -> Result<O
     ensures begun { OnErr result (HasBegun P.answers port.old port.new (tree_of request)) }
 {
     match Request::of_tree(alloc, request)? {
-        Some(request) => answer_calls(alloc, port, request),
+        Some(request) => answer_form(alloc, port, request),
         None => Outcome::refusal(alloc, Problem::NotRequest),
     }
 }
 
-fn answer_calls<P: Port>(alloc: Global, port: &mut P, request: Request) -> Result<Outcome, NoMemory>
+fn answer_form<P: Port>(alloc: Global, port: &mut P, request: Request) -> Result<Outcome, NoMemory>
     ensures outcome { IfOk result (λ o. IsOutcomeBy P.answers port.old port.new (Some request) o) }
     ensures begun { OnErr result (HasBegunBy P.answers port.old port.new (Some request)) }
 {
-    let Request { core, mail, calls } = request;
-    match Progress::of_calls(alloc, port, core, mail, calls) {
-        Ok(progress) => Ok(Outcome {
+    match request.problem() {
+        Some(problem) => Outcome::refusal(alloc, problem),
+        None => answer_calls(alloc, port, request),
+    }
+}
+
+fn answer_calls<P: Port>(alloc: Global, port: &mut P, request: Request) -> Result<Outcome, NoMemory>
+    ensures outcome { IfOk result (λ o. IsResponse P.answers port.old port.new request o) }
+    ensures begun { OnErr result (HasBegunRequest P.answers port.old port.new request) }
+{
+    let Request {
+        using,
+        calls,
+        created,
+    } = request;
+    let core = uses(using.as_slice(), CORE);
+    let mail = uses(using.as_slice(), MAIL);
+    let shows = created.is_some();
+    let begun = Progress::begin(alloc, created);
+    match begun.after_calls(alloc, port, core, mail, calls) {
+        Ok(after) => Ok(Outcome {
             status: 200,
-            tree: response(alloc, progress.responses)?,
+            tree: response(alloc, shows, after)?,
         }),
         Err(refused) => Err(refused),
     }

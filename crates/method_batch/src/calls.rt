@@ -1,44 +1,15 @@
 // The calls of a request (RFC 8620, section 3.2), moved out of its tree.
 ghost use Rattle.std.specs.Prelude.{◌≡◌, IfOk, option_map, option_and_then, map};
-ghost use Rattle.std.specs.List.{list_any};
-ghost use Rattle.jm_json.specs.Json.{tree_of, member_of};
+ghost use Rattle.jm_json.specs.Json.{tree_of};
 ghost use Rattle.jm_json.specs.Find.{as_text, as_list, as_object};
 ghost use Rattle.jm_json.specs.Invoked.{call_of};
-ghost use Rattle.method_batch.specs.Request.{begins_with_hash, call_from, call_of_items, call_of_parts, calls_from, has_reference, names_reference};
+ghost use Rattle.method_batch.specs.Request.{call_from, call_of_items, call_of_parts, calls_from};
 
-use jm_base::{NoMemory, Text};
-use jm_json::{Invocation, Invocations, Items, Json, Member, Members};
+use crate::parts::{into_items, into_text};
+use jm_base::NoMemory;
+use jm_json::{Invocation, Invocations, Items, Json};
 use std::alloc::Global;
 use std::collections::VecDeque;
-
-fn into_text(tree: Json) -> Option<Text>
-    ensures { result ≡ as_text (tree_of tree) }
-{
-    match tree {
-        Json::Text(text) => Some(text),
-        _ => None,
-    }
-}
-
-#[tactic(auto, using(jm_json::proofs::Lists::lists_back))]
-pub(crate) fn into_items(tree: Json) -> Option<Items>
-    ensures { result ≡ as_list (tree_of tree) }
-{
-    match tree {
-        Json::List(items) => Some(items),
-        _ => None,
-    }
-}
-
-#[tactic(auto, using(jm_json::proofs::Lists::lists_back))]
-pub(crate) fn into_members(tree: Json) -> Option<Members>
-    ensures { result ≡ as_object (tree_of tree) }
-{
-    match tree {
-        Json::Object(members) => Some(members),
-        _ => None,
-    }
-}
 
 /// The calls of a list all of whose items are calls.
 pub(crate) fn read_calls(alloc: Global, tree: Option<Json>) -> Result<Option<Invocations>, NoMemory>
@@ -109,42 +80,4 @@ fn read_three(name: Json, args: Json, id: Json) -> Option<Invocation>
         return None;
     };
     Some(Invocation { name, args, id })
-}
-
-/// Whether some call has an argument whose name begins with `#`.
-pub(crate) fn refer_to_results(calls: &[Invocation]) -> bool
-    ensures { result ≡ list_any has_reference (map call_of calls.now) }
-{
-    for call in calls {
-        if has_reference(call) {
-            return true;
-        }
-    }
-    false
-}
-
-fn has_reference(call: &Invocation) -> bool
-    ensures { result ≡ has_reference (call_of call.now) }
-{
-    match call.args.as_object() {
-        Some(members) => names_reference(members.as_slice()),
-        None => false,
-    }
-}
-
-fn names_reference(members: &[Member]) -> bool
-    ensures { result ≡ names_reference (map member_of members.now) }
-{
-    for member in members {
-        if begins_with_hash(member.name.as_bytes()) {
-            return true;
-        }
-    }
-    false
-}
-
-fn begins_with_hash(bytes: &[u8]) -> bool
-    ensures { result ≡ begins_with_hash bytes.now }
-{
-    !bytes.is_empty() && bytes[0] == b'#'
 }

@@ -3,9 +3,12 @@
 
 mod answer;
 mod calls;
+mod created;
 mod method;
 mod outcome;
+mod parts;
 mod port;
+mod prepare;
 mod progress;
 mod reply;
 mod request;

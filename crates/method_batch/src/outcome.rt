@@ -1,5 +1,5 @@
 // The outcome of a request, and the problems for which one is refused (RFC 8620, section 3.6.1; RFC 7807).
-ghost use Rattle.std.specs.Prelude.{◌≡◌, IfOk};
+ghost use Rattle.std.specs.Prelude.{◌≡◌, IfOk, option_map};
 
 use jm_base::{NoMemory, Text};
 use jm_json::{Json, Members};
@@ -12,22 +12,65 @@ pub struct Outcome {
     pub tree: Json,
 }
 
-/// Why a request is refused as a whole: it is no JSON, or it is not of a request's form.
+/// Why a request is refused as a whole (RFC 8620, section 3.6.1), each case where none before it in this order holds:
+/// it has too many bytes, it is no JSON, it is not of a request's form, it uses a capability that is not known, or it has too
+/// many calls.
 #[derive(Clone, Copy, Debug, PartialEq, Eq)]
 pub enum Problem {
+    TooLarge,
     NotJson,
     NotRequest,
+    UnknownCapability,
+    TooManyCalls,
 }
 
 impl Problem {
-    ghost use Rattle.method_batch.specs.Outcome.{problem_type};
+    ghost use Rattle.method_batch.specs.Outcome.{problem_type, problem_limit, problem_status, limit_member};
 
     fn name(self) -> &'static str
         ensures { result.now ≡ problem_type self }
     {
         match self {
+            Problem::TooLarge => "urn:ietf:params:jmap:error:limit",
             Problem::NotJson => "urn:ietf:params:jmap:error:notJSON",
             Problem::NotRequest => "urn:ietf:params:jmap:error:notRequest",
+            Problem::UnknownCapability => "urn:ietf:params:jmap:error:unknownCapability",
+            Problem::TooManyCalls => "urn:ietf:params:jmap:error:limit",
+        }
+    }
+
+    // The limit that was passed.
+    fn limit(self) -> Option<&'static str>
+        ensures { option_map (λ s. s.now) result ≡ problem_limit self }
+    {
+        match self {
+            Problem::TooLarge => Some("maxSizeRequest"),
+            Problem::TooManyCalls => Some("maxCallsInRequest"),
+            _ => None,
+        }
+    }
+
+    fn status(self) -> u16
+        ensures { result ≡ problem_status self }
+    {
+        match self {
+            Problem::TooLarge => 413,
+            _ => 400,
+        }
+    }
+
+    // The members of the problem's details that name a limit.
+    fn limit_members(self, alloc: Global) -> Result<Members, NoMemory>
+        ensures { IfOk result (λ ms. ms ≡ limit_member (problem_limit self)) }
+    {
+        let mut members = Members::new(alloc);
+        match self.limit() {
+            Some(limit) => {
+                let limit = Text::from_str(alloc, limit)?;
+                members.set(alloc, "limit", Json::Text(limit))?;
+                Ok(members)
+            }
+            None => Ok(members),
         }
     }
 }
@@ -39,12 +82,13 @@ impl Outcome {
     pub fn refusal(alloc: Global, problem: Problem) -> Result<Outcome, NoMemory>
         ensures { IfOk result (λ o. IsRefusal problem o) }
     {
-        let mut members = Members::new(alloc);
-        members.set(alloc, "status", Json::Int(400))?;
+        let status = problem.status();
+        let mut members = problem.limit_members(alloc)?;
+        members.set(alloc, "status", Json::Int(status as i64))?;
         let name = Text::from_str(alloc, problem.name())?;
         members.set(alloc, "type", Json::Text(name))?;
         Ok(Outcome {
-            status: 400,
+            status,
             tree: Json::Object(members),
         })
     }

@@ -9,7 +9,7 @@ use jm_json::{Invocation, Invocations, Made, Replied};
 use std::alloc::Global;
 use std::collections::VecDeque;
 
-/// The responses so far, and what the request has made so far.
+/// The responses so far, and what counts as made so far.
 #[derive(Drop)]
 pub struct Progress {
     pub responses: Invocations,
@@ -17,10 +17,22 @@ pub struct Progress {
 }
 
 impl Progress {
-    ghost use Rattle.method_batch.specs.Answer.{Asked, Runs, Answers, after_reply, no_progress, HasPerformed, MayHavePerformed, HasBegunCalls};
+    ghost use Rattle.method_batch.specs.Answer.{Asked, Runs, Answers, after_reply, HasPerformed, MayHavePerformed, HasBegunCalls};
+    ghost use Rattle.method_batch.specs.Outcome.{beginning};
+
+    /// The beginning of a request, which may say what was created before.
+    pub(crate) fn begin(alloc: Global, created: Option<Made>) -> Progress
+        ensures { result ≡ beginning created }
+    {
+        Progress {
+            responses: Invocations::new(alloc),
+            made: created.unwrap_or(Made::new(alloc)),
+        }
+    }
 
     /// Performs calls in order. After want of memory the first ones were performed, and no other.
-    pub(crate) fn of_calls<P: Port>(
+    pub(crate) fn after_calls<P: Port>(
+        self,
         alloc: Global,
         port: &mut P,
         core: bool,
@@ -28,13 +40,10 @@ impl Progress {
         calls: Invocations,
     ) -> Result<Progress, NoMemory>
         ensures done { IfOk result (λ after. (asked : List Asked) × Runs P.answers port.old asked port.new
-            × Answers core mail calls no_progress asked after) }
-        ensures begun { OnErr result (HasBegunCalls P.answers port.old port.new core mail calls) }
+            × Answers core mail calls self asked after) }
+        ensures begun { OnErr result (HasBegunCalls P.answers port.old port.new core mail calls self) }
     {
-        let mut progress = Progress {
-            responses: Invocations::new(alloc),
-            made: Made::new(alloc),
-        };
+        let mut progress = self;
         let mut rest = VecDeque::from_vec(calls.into_vec());
         while let Some(call) = rest.pop_front() {
             match progress.go_on(alloc, port, core, mail, call) {
@@ -56,7 +65,7 @@ impl Progress {
         ensures ok { OnOk result (HasPerformed P.answers port.old port.new core mail (call_of call) self.old self.new) }
         ensures err { OnErr result (MayHavePerformed P.answers port.old port.new core mail (call_of call) self.old) }
     {
-        match reply(alloc, port, core, mail, call, &self.made) {
+        match reply(alloc, port, core, mail, call, self) {
             Ok(replied) => self.take(replied),
             Err(refused) => Err(refused),
         }

@@ -1,32 +1,59 @@
-// The reply to one call: by its name alone, or by the port.
+// The reply to one call: by the responses so far, by its text alone, or by the port.
 ghost use Rattle.std.specs.Prelude.{◌≡◌, List, [], ◌∷◌, IfOk, OnErr};
 ghost use Rattle.jm_json.specs.Invoked.{call_of};
-ghost use Rattle.method_batch.specs.Answer.{Asked, Runs, RepliesOne, is_echo};
+ghost use Rattle.method_batch.specs.Prepared.{preparation_of, ready};
+ghost use Rattle.method_batch.specs.Answer.{Asked, Runs, RepliesOne, RepliesPrepared, is_echo};
 
-use crate::method::is_allowed;
 use crate::port::Port;
-use crate::response::error;
+use crate::prepare::Prepared;
+use crate::progress::Progress;
 use jm_base::NoMemory;
 use jm_json::{Invocation, Invocations, Made, Replied};
 use std::alloc::Global;
 
-/// The reply to a call of a request that uses the capabilities of the core and of mail, or not, and that has made this much
-/// so far.
+/// The reply to a call of a request that uses the capabilities of the core and of mail, or not, and that has come so far.
 pub(crate) fn reply<P: Port>(
     alloc: Global,
     port: &mut P,
     core: bool,
     mail: bool,
     call: Invocation,
+    before: &Progress,
+) -> Result<Replied, NoMemory>
+    ensures replied { IfOk result (λ r. (asked : List Asked) × Runs P.answers port.old asked port.new
+        × RepliesOne core mail (call_of call) before.now asked r) }
+    ensures same { OnErr result (port.new ≡ port.old) }
+{
+    let prepared = Prepared::of_call(alloc, core, mail, call, before.responses.as_slice())?;
+    reply_prepared(alloc, port, prepared, &before.made)
+}
+
+fn reply_prepared<P: Port>(
+    alloc: Global,
+    port: &mut P,
+    prepared: Prepared,
     made: &Made,
 ) -> Result<Replied, NoMemory>
     ensures replied { IfOk result (λ r. (asked : List Asked) × Runs P.answers port.old asked port.new
-        × RepliesOne core mail (call_of call) made.now asked r) }
+        × RepliesPrepared (preparation_of prepared) made.now asked r) }
     ensures same { OnErr result (port.new ≡ port.old) }
 {
-    if !is_allowed(core, mail, call.name.as_str()) {
-        return alone(alloc, error(alloc, "unknownMethod", call.id)?);
+    match prepared {
+        Prepared::Refused(response) => alone(alloc, response),
+        Prepared::Ready(call) => reply_ready(alloc, port, call, made),
     }
+}
+
+fn reply_ready<P: Port>(
+    alloc: Global,
+    port: &mut P,
+    call: Invocation,
+    made: &Made,
+) -> Result<Replied, NoMemory>
+    ensures replied { IfOk result (λ r. (asked : List Asked) × Runs P.answers port.old asked port.new
+        × RepliesPrepared (ready (call_of call)) made.now asked r) }
+    ensures same { OnErr result (port.new ≡ port.old) }
+{
     if is_echo(&call) {
         return alone(alloc, call);
     }

@@ -1,23 +1,28 @@
 // The form of a request (RFC 8620, section 3.3). What is taken from its tree is moved and not copied.
-ghost use Rattle.std.specs.Prelude.{◌≡◌, [], ◌∷◌, IfOk, option_map, option_and_then, map, codes};
+ghost use Rattle.std.specs.Prelude.{◌≡◌, [], ◌∷◌, IfOk, option_map, codes};
 ghost use Rattle.std.specs.Option.{option_or};
 ghost use Rattle.jm_json.specs.Json.{tree_of, member_of};
-ghost use Rattle.jm_json.specs.Find.{find, as_list};
+ghost use Rattle.jm_json.specs.Find.{find};
 
-use crate::calls::{into_items, into_members, read_calls, refer_to_results};
-use crate::method::{CORE, MAIL};
-use crate::using::{are_known, uses};
-use jm_base::NoMemory;
-use jm_json::{Invocations, Items, Json, Member, Members};
+use crate::calls::read_calls;
+use crate::created::read_created;
+use crate::outcome::Problem;
+use crate::parts::into_members;
+use crate::using::{are_known, read_texts};
+use jm_base::{NoMemory, Texts};
+use jm_json::{Invocations, Json, Made, Member, Members};
 use std::alloc::Global;
 use std::collections::VecDeque;
 
-/// A request: whether it uses the capabilities of the core and of mail, and its calls.
+// The calls that a request may have.
+const MOST_CALLS: usize = 16;
+
+/// A request: the capabilities that it uses, its calls, and what it says was created, where it says so.
 #[derive(Drop)]
 pub struct Request {
-    pub core: bool,
-    pub mail: bool,
+    pub using: Texts,
     pub calls: Invocations,
+    pub created: Option<Made>,
 }
 
 // The members of a request that count.
@@ -29,7 +34,7 @@ struct Parts {
 }
 
 impl Request {
-    ghost use Rattle.method_batch.specs.Request.{request_of, request_in, request_by};
+    ghost use Rattle.method_batch.specs.Request.{request_of, request_in, request_with, request_by, problem_in};
 
     /// The request that a tree is, and none where it is of another form.
     pub(crate) fn of_tree(alloc: Global, tree: Json) -> Result<Option<Request>, NoMemory>
@@ -45,49 +50,59 @@ impl Request {
         ensures { IfOk result (λ o. o ≡ request_in members) }
     {
         let parts = parts_of(members);
-        let created = parts.created.is_some();
+        let capabilities = read_texts(alloc, parts.using)?;
         let calls = read_calls(alloc, parts.calls)?;
-        Ok(Request::of_parts(created, list_of(parts.using), calls))
+        Request::with_created(alloc, parts.created, capabilities, calls)
+    }
+
+    fn with_created(
+        alloc: Global,
+        created: Option<Json>,
+        capabilities: Option<Texts>,
+        calls: Option<Invocations>,
+    ) -> Result<Option<Request>, NoMemory>
+        ensures { IfOk result (λ o. o ≡ request_with (option_map tree_of created) capabilities calls) }
+    {
+        match created {
+            Some(tree) => match read_created(alloc, tree)? {
+                Some(made) => Ok(Request::of_parts(capabilities, calls, Some(made))),
+                None => Ok(None),
+            },
+            None => Ok(Request::of_parts(capabilities, calls, None)),
+        }
     }
 
     fn of_parts(
-        created: bool,
-        capabilities: Option<Items>,
+        capabilities: Option<Texts>,
         calls: Option<Invocations>,
+        created: Option<Made>,
     ) -> Option<Request>
-        ensures { result ≡ request_by created capabilities calls }
+        ensures { result ≡ request_by capabilities calls created }
     {
         match capabilities {
-            Some(capabilities) => match calls {
-                Some(calls) => Request::of_lists(created, &capabilities, calls),
+            Some(using) => match calls {
+                Some(calls) => Some(Request {
+                    using,
+                    calls,
+                    created,
+                }),
                 None => None,
             },
             None => None,
         }
     }
 
-    fn of_lists(created: bool, capabilities: &Items, calls: Invocations) -> Option<Request>
-        ensures { result ≡ request_by created (Some capabilities.now) (Some calls) }
+    /// Why the request is refused, if it is: a capability is not known, or there are more than 16 calls.
+    pub(crate) fn problem(&self) -> Option<Problem>
+        ensures { result ≡ problem_in self.now }
     {
-        let known = are_known(capabilities.as_slice());
-        let few = calls.as_slice().len() <= 16;
-        if created || !known || !few || refer_to_results(calls.as_slice()) {
-            return None;
+        if !are_known(self.using.as_slice()) {
+            return Some(Problem::UnknownCapability);
         }
-        Some(Request {
-            core: uses(capabilities.as_slice(), CORE),
-            mail: uses(capabilities.as_slice(), MAIL),
-            calls,
-        })
-    }
-}
-
-fn list_of(tree: Option<Json>) -> Option<Items>
-    ensures { result ≡ option_and_then as_list (option_map tree_of tree) }
-{
-    match tree {
-        Some(tree) => into_items(tree),
-        None => None,
+        if self.calls.as_slice().len() > MOST_CALLS {
+            return Some(Problem::TooManyCalls);
+        }
+        None
     }
 }
 

@@ -1,12 +1,14 @@
 // The Response to a request as a tree (RFC 8620, section 3.4), and the response that says an error (section 3.6.2).
-ghost use Rattle.std.specs.Prelude.{◌≡◌, IfOk, map};
+ghost use Rattle.std.specs.Prelude.{◌≡◌, IfOk, List, Bool, map};
 ghost use Rattle.jm_json.specs.Json.{tree_of};
 ghost use Rattle.jm_json.specs.Invoked.{call_of};
-ghost use Rattle.method_batch.specs.Answer.{error_of};
-ghost use Rattle.method_batch.specs.Outcome.{call_tree, response_tree};
+ghost use Rattle.method_batch.specs.Prepared.{error_of};
+ghost use Rattle.method_batch.specs.Outcome.{call_tree, created_member, response_tree};
 
+use crate::created::id_members;
+use crate::progress::Progress;
 use jm_base::{NoMemory, Text};
-use jm_json::{Invocation, Invocations, Items, Json, Members};
+use jm_json::{Invocation, Invocations, Items, Json, Made, Members};
 use std::alloc::Global;
 use std::collections::VecDeque;
 
@@ -24,16 +26,30 @@ pub fn error(alloc: Global, kind: &str, id: Text) -> Result<Invocation, NoMemory
     })
 }
 
-/// The tree of the Response that has these method responses, which are moved into it.
-pub(crate) fn response(alloc: Global, responses: Invocations) -> Result<Json, NoMemory>
-    ensures { IfOk result (λ t. tree_of t ≡ response_tree responses) }
+/// The tree of the Response to a request that came so far, which is moved into it. It shows what was created where the request
+/// itself did.
+pub(crate) fn response(alloc: Global, shows: bool, after: Progress) -> Result<Json, NoMemory>
+    ensures { IfOk result (λ t. tree_of t ≡ response_tree shows after) }
 {
+    let Progress { responses, made } = after;
     let items = call_lists(alloc, responses)?;
-    let mut members = Members::new(alloc);
+    let mut members = created_members(alloc, shows, made)?;
     members.set(alloc, "methodResponses", Json::List(items))?;
     let state = Text::from_str(alloc, "0")?;
     members.set(alloc, "sessionState", Json::Text(state))?;
     Ok(Json::Object(members))
+}
+
+fn created_members(alloc: Global, shows: bool, made: Made) -> Result<Members, NoMemory>
+    ensures { IfOk result (λ ms. ms ≡ created_member shows made) }
+{
+    let mut members = Members::new(alloc);
+    if shows {
+        let ids = id_members(alloc, made)?;
+        members.set(alloc, "createdIds", Json::Object(ids))?;
+        return Ok(members);
+    }
+    Ok(members)
 }
 
 fn call_lists(alloc: Global, responses: Invocations) -> Result<Items, NoMemory>

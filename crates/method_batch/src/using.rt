@@ -1,51 +1,65 @@
 // The capabilities that a request uses (RFC 8620, sections 2 and 3.3).
-ghost use Rattle.std.specs.Prelude.{◌≡◌, map};
+ghost use Rattle.std.specs.Prelude.{◌≡◌, IfOk, option_map, option_and_then};
 ghost use Rattle.std.specs.List.{list_all};
 ghost use Rattle.jm_json.specs.Json.{tree_of};
-ghost use Rattle.jm_json.specs.Find.{as_text};
-ghost use Rattle.method_batch.specs.Request.{is_known, says, uses};
+ghost use Rattle.jm_json.specs.Find.{as_list};
+ghost use Rattle.method_batch.specs.Method.{is_capability};
+ghost use Rattle.method_batch.specs.Request.{texts_from, uses};
 
 use crate::method::is_capability;
-use jm_json::Json;
+use crate::parts::{into_items, into_text};
+use jm_base::{NoMemory, Text, Texts};
+use jm_json::{Items, Json};
+use std::alloc::Global;
+use std::collections::VecDeque;
 
-/// Whether each item is the text of a capability.
-pub(crate) fn are_known(items: &[Json]) -> bool
-    ensures { result ≡ list_all (λ t. is_known (as_text t)) (map tree_of items.now) }
+/// The texts of a list all of whose items are texts.
+pub(crate) fn read_texts(alloc: Global, tree: Option<Json>) -> Result<Option<Texts>, NoMemory>
+    ensures { IfOk result (λ o. o ≡ option_and_then texts_from (option_and_then as_list (option_map tree_of tree))) }
 {
-    for item in items {
-        if !is_known(item) {
+    match tree {
+        Some(tree) => match into_items(tree) {
+            Some(items) => read_items(alloc, items),
+            None => Ok(None),
+        },
+        None => Ok(None),
+    }
+}
+
+fn read_items(alloc: Global, items: Items) -> Result<Option<Texts>, NoMemory>
+    ensures { IfOk result (λ o. o ≡ texts_from items) }
+{
+    let mut texts = Texts::new(alloc);
+    let mut rest = VecDeque::from_vec(items.into_vec());
+    while let Some(item) = rest.pop_front() {
+        match into_text(item) {
+            Some(text) => texts.push(text)?,
+            None => return Ok(None),
+        }
+    }
+    Ok(Some(texts))
+}
+
+/// Whether each text is a capability.
+pub(crate) fn are_known(texts: &[Text]) -> bool
+    ensures { result ≡ list_all is_capability texts.now }
+{
+    for text in texts {
+        if !is_capability(text.as_str()) {
             return false;
         }
     }
     true
 }
 
-fn is_known(item: &Json) -> bool
-    ensures { result ≡ is_known (as_text (tree_of item.now)) }
+/// Whether some text is this capability.
+pub(crate) fn uses(texts: &[Text], capability: &str) -> bool
+    ensures { result ≡ uses capability.now texts.now }
 {
-    match item.as_text() {
-        Some(text) => is_capability(text.as_str()),
-        None => false,
-    }
-}
-
-/// Whether some item is the text of this capability.
-pub(crate) fn uses(items: &[Json], capability: &str) -> bool
-    ensures { result ≡ uses capability.now (map tree_of items.now) }
-{
-    for item in items {
-        if says(item, capability) {
+    for text in texts {
+        if text.as_str() == capability {
             return true;
         }
     }
     false
-}
-
-fn says(item: &Json, text: &str) -> bool
-    ensures { result ≡ says text.now (as_text (tree_of item.now)) }
-{
-    match item.as_text() {
-        Some(found) => found.as_str() == text,
-        None => false,
-    }
 }

@@ -1,9 +1,7 @@
-use Rattle.std.proofs.Common.{◌≡◌, map, drop}
+use Rattle.std.proofs.Common.{◌≡◌, drop}
 use Rattle.std.specs.List.{list_all}
-use Rattle.jm_json.specs.Json.{tree_of}
-use Rattle.jm_json.specs.Find.{as_text}
-use Rattle.method_batch.specs.Request.{is_known}
+use Rattle.method_batch.specs.Method.{is_capability}
 use Rattle.method_batch.proofs.using.are_known.Given as goal
 
-abbrev pub invariant-loop-item : goal.invariant-loop-item
-invariant-loop-item l = list_all (λ t. is_known (as_text t)) (map tree_of l.items) ≡ list_all (λ t. is_known (as_text t)) (map tree_of (drop l.item-index l.items))
+abbrev pub invariant-loop-text : goal.invariant-loop-text
+invariant-loop-text l = list_all is_capability l.texts ≡ list_all is_capability (drop l.text-index l.texts)

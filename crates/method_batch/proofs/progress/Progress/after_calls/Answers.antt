@@ -1,8 +1,7 @@
 use Rattle.std.proofs.Common.{[], ◌∷◌, ◌++◌, map}
 use Rattle.jm_json.specs.Invoked.{call_of}
-use Rattle.method_batch.specs.Answer.{no_progress}
 use Rattle.method_batch.proofs.Together.{runs_on, answers_on, next_call, begun}
-use Rattle.method_batch.proofs.progress.Progress.of_calls.Goals as goal
+use Rattle.method_batch.proofs.progress.Progress.after_calls.Goals as goal
 
 pub loop-call-preserved : goal.loop-call-preserved
 loop-call-preserved g c =
@@ -13,11 +12,11 @@ loop-call-preserved g c =
       l.invariant.1 ++ one.0,
       next_call c.args.calls l.invariant.0 l.rest.items c.pop_front.new.self.items c.in-Some.call l.invariant.2 c.in-Some.ensures.items,
       runs_on g.P.Port.answers c.args.port.now l.port c.go_on.new.port l.invariant.1 one.0 l.invariant.3 one.2,
-      answers_on c.args.core c.args.mail l.invariant.0 call l.invariant.1 one.0 no_progress l.progress c.go_on.new.self one.1 l.invariant.4 one.3 one.4,
+      answers_on c.args.core c.args.mail l.invariant.0 call l.invariant.1 one.0 c.args.self l.progress c.go_on.new.self one.1 l.invariant.4 one.3 one.4,
     )
 
 pub returns-in-Err-clause-begun : goal.returns-in-Err-clause-begun
 returns-in-Err-clause-begun g c =
     let l = c.loop-call in
-    begun g.P.Port.answers c.args.port.now l.port c.go_on.new.port c.args.core c.args.mail c.args.calls l.invariant.0 (map call_of c.pop_front.new.self.items) (call_of c.in-Some.call) l.invariant.1 l.progress
+    begun g.P.Port.answers c.args.port.now l.port c.go_on.new.port c.args.core c.args.mail c.args.calls l.invariant.0 (map call_of c.pop_front.new.self.items) (call_of c.in-Some.call) l.invariant.1 c.args.self l.progress
     (next_call c.args.calls l.invariant.0 l.rest.items c.pop_front.new.self.items c.in-Some.call l.invariant.2 c.in-Some.ensures.items) l.invariant.3 l.invariant.4 c.in-Err.ensures.err

@@ -1,14 +1,14 @@
 use Rattle.std.proofs.Common.{◌≡◌, List, map, ◌++◌, length}
 use Rattle.jm_json.specs.Call.{Call}
 use Rattle.jm_json.specs.Invoked.{call_of}
-use Rattle.method_batch.specs.Answer.{Asked, Runs, Answers, no_progress}
-use Rattle.method_batch.proofs.progress.Progress.of_calls.Given as goal
+use Rattle.method_batch.specs.Answer.{Asked, Runs, Answers}
+use Rattle.method_batch.proofs.progress.Progress.after_calls.Given as goal
 
 -- the calls before the rest are answered
 abbrev pub invariant-loop-call : goal.invariant-loop-call
 invariant-loop-call g l =
     (done : List Call) × (asked : List Asked) × (l.fn.calls ≡ done ++ map call_of l.rest.items)
-    × Runs g.P.Port.answers l.fn.port asked l.port × Answers l.core l.mail done no_progress asked l.progress
+    × Runs g.P.Port.answers l.fn.port asked l.port × Answers l.core l.mail done l.fn.self asked l.progress
 
 abbrev pub decreases-loop-call : goal.decreases-loop-call
 decreases-loop-call g l = length l.rest.items

@@ -1,0 +1,52 @@
+// What a request says was created before (RFC 8620, section 3.3), moved out of its tree; and what a Response says was, moved
+// into its tree (section 3.4).
+ghost use Rattle.std.specs.Prelude.{◌≡◌, [], IfOk, option_and_then, map};
+ghost use Rattle.jm_json.specs.Json.{tree_of, member_of};
+ghost use Rattle.jm_json.specs.Find.{as_object};
+ghost use Rattle.method_batch.specs.Request.{created_from};
+ghost use Rattle.method_batch.specs.Outcome.{put_ids};
+
+use crate::parts::{into_members, into_text};
+use jm_base::NoMemory;
+use jm_json::{Created, Json, Made, Members};
+use std::alloc::Global;
+use std::collections::VecDeque;
+
+/// What an object of texts says was created, in the order of its creation ids.
+pub(crate) fn read_created(alloc: Global, tree: Json) -> Result<Option<Made>, NoMemory>
+    ensures { IfOk result (λ o. o ≡ option_and_then created_from (as_object (tree_of tree))) }
+{
+    match into_members(tree) {
+        Some(members) => read_pairs(alloc, members),
+        None => Ok(None),
+    }
+}
+
+fn read_pairs(alloc: Global, members: Members) -> Result<Option<Made>, NoMemory>
+    ensures { IfOk result (λ o. o ≡ created_from members) }
+{
+    let mut made = Made::new(alloc);
+    let mut rest = VecDeque::from_vec(members.into_vec());
+    while let Some(member) = rest.pop_front() {
+        match into_text(member.value) {
+            Some(id) => made.push(Created {
+                creation: member.name,
+                id,
+            })?,
+            None => return Ok(None),
+        }
+    }
+    Ok(Some(made))
+}
+
+/// The members for what was made: of a creation id that was made twice the last counts.
+pub(crate) fn id_members(alloc: Global, made: Made) -> Result<Members, NoMemory>
+    ensures { IfOk result (λ ms. ms ≡ put_ids [] made) }
+{
+    let mut members = Members::new(alloc);
+    let mut rest = VecDeque::from_vec(made.into_vec());
+    while let Some(created) = rest.pop_front() {
+        members.put(created.creation, Json::Text(created.id))?;
+    }
+    Ok(members)
+}

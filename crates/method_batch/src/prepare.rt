@@ -1,0 +1,102 @@
+// A call before it is performed: its name is looked up, and its arguments are resolved (RFC 8620, sections 3.6.2 and 3.7).
+ghost use Rattle.std.specs.Prelude.{◌≡◌, false, List, map, IfOk};
+ghost use Rattle.std.specs.List.{list_any};
+ghost use Rattle.jm_json.specs.Json.{tree_of, member_of};
+ghost use Rattle.jm_json.specs.Call.{Call};
+ghost use Rattle.jm_json.specs.Invoked.{call_of};
+ghost use Rattle.result_refs.specs.References.{resolution, resolved, is_marked};
+ghost use Rattle.method_batch.specs.Prepared.{has_reference};
+
+use crate::method::is_allowed;
+use crate::response::error;
+use jm_base::{NoMemory, Text};
+use jm_json::{Invocation, Json, Member};
+use result_refs::{RefFault, resolve};
+use std::alloc::Global;
+
+/// A call that is refused, by this response, or one that is ready, with its arguments resolved.
+#[derive(Drop)]
+pub(crate) enum Prepared {
+    Refused(Invocation),
+    Ready(Invocation),
+}
+
+impl Prepared {
+    ghost use Rattle.method_batch.specs.Prepared.{preparation, preparation_of, by_resolution, refused, error_of};
+
+    /// What a call comes to behind these responses, in a request that uses the capabilities of the core and of mail, or not.
+    pub(crate) fn of_call(
+        alloc: Global,
+        core: bool,
+        mail: bool,
+        call: Invocation,
+        responses: &[Invocation],
+    ) -> Result<Prepared, NoMemory>
+        ensures { IfOk result (λ p. preparation_of p ≡ preparation core mail (call_of call) (map call_of responses.now)) }
+    {
+        if !is_allowed(core, mail, call.name.as_str()) {
+            return Prepared::refusal(alloc, "unknownMethod", call.id);
+        }
+        Prepared::of_known(alloc, call, responses)
+    }
+
+    // Arguments without a reference are moved as they are.
+    fn of_known(
+        alloc: Global,
+        call: Invocation,
+        responses: &[Invocation],
+    ) -> Result<Prepared, NoMemory>
+        ensures { IfOk result (λ p. preparation_of p
+            ≡ by_resolution (call_of call) (resolution (call_of call).args (map call_of responses.now))) }
+    {
+        if has_reference(&call.args) {
+            return Prepared::resolved(alloc, call, responses);
+        }
+        Ok(Prepared::Ready(call))
+    }
+
+    fn resolved(
+        alloc: Global,
+        call: Invocation,
+        responses: &[Invocation],
+    ) -> Result<Prepared, NoMemory>
+        ensures { IfOk result (λ p. preparation_of p
+            ≡ by_resolution (call_of call) (resolution (call_of call).args (map call_of responses.now))) }
+    {
+        let Invocation { name, args, id } = call;
+        match resolve(alloc, &args, responses) {
+            Ok(args) => Ok(Prepared::Ready(Invocation { name, args, id })),
+            Err(RefFault::BadReference) => Prepared::refusal(alloc, "invalidResultReference", id),
+            Err(RefFault::Both) => Prepared::refusal(alloc, "invalidArguments", id),
+            Err(RefFault::NoMemory) => Err(NoMemory),
+        }
+    }
+
+    fn refusal(alloc: Global, kind: &str, id: Text) -> Result<Prepared, NoMemory>
+        ensures { IfOk result (λ p. preparation_of p ≡ refused (error_of kind.now id)) }
+    {
+        Ok(Prepared::Refused(error(alloc, kind, id)?))
+    }
+}
+
+/// Whether some argument's name begins with `#`. Where none does, the arguments are the resolved ones.
+fn has_reference(args: &Json) -> bool
+    ensures exact { result ≡ has_reference (tree_of args.now) }
+    ensures plain { result ≡ false → (cs : List Call) → resolution (tree_of args.now) cs ≡ resolved (tree_of args.now) }
+{
+    match args.as_object() {
+        Some(members) => has_marks(members.as_slice()),
+        None => false,
+    }
+}
+
+fn has_marks(members: &[Member]) -> bool
+    ensures { result ≡ list_any (λ m. is_marked m.0) (map member_of members.now) }
+{
+    for member in members {
+        if member.name.as_str().starts_with('#') {
+            return true;
+        }
+    }
+    false
+}
