@@ -4,7 +4,7 @@ use Rattle.std.proofs.lemmas.List.{take_all}
 use Rattle.std.proofs.lemmas.Bool.{lt-ltb, ltb-true, ltb-false}
 use Rattle.jm_json.specs.Reading.{reading_of}
 use Rattle.method_batch.specs.Outcome.{problem_tree}
-use Rattle.method_batch.specs.declared.outcome.Problem.TheVariants.{NotJson, NotRequest}
+use Rattle.method_batch.specs.declared.outcome.Problem.TheVariants.{TooLarge, NotJson}
 use Rattle.jmap_main.specs.Lines.{lines_of, onto_first, IsOneLine}
 use Rattle.jmap_main.specs.Batch.{begins_with_plus, line_tree, tree_to, reply_or_none, line_text, batch_out, Done}
 
@@ -19,8 +19,8 @@ long_same (x ∷ xs) [] h k e = absurd (omega arith)
 long_same (x ∷ xs) (y ∷ ys) h k e =
     let a : nat_lt 10000000 (length (x ∷ xs)) ≡ true = lt-ltb 10000000 (length (x ∷ xs)) h in
     let b : nat_lt 10000000 (length (y ∷ ys)) ≡ true = lt-ltb 10000000 (length (y ∷ ys)) k in
-    ap line_text (ap₂ (λ (p q : Bool). cond p (problem_tree NotJson) (cond q (problem_tree NotRequest) (tree_to (reading_of (x ∷ xs))))) e a
-    ∙ sym (ap (λ q. cond (y == 43) (problem_tree NotJson) (cond q (problem_tree NotRequest) (tree_to (reading_of (y ∷ ys))))) b))
+    ap line_text (ap₂ (λ (p q : Bool). cond p (problem_tree NotJson) (cond q (problem_tree TooLarge) (tree_to (reading_of (x ∷ xs))))) e a
+    ∙ sym (ap (λ q. cond (y == 43) (problem_tree NotJson) (cond q (problem_tree TooLarge) (tree_to (reading_of (y ∷ ys))))) b))
 
 begins_alike : (line more f : List ℕ) (n : ℕ) → 0 < n ⊎ (0 < length line) → begins_with_plus ((line ++ take n more) ++ f) ≡ begins_with_plus ((line ++ more) ++ f)
 begins_alike (x ∷ line) more f n h = refl

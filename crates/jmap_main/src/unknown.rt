@@ -1,6 +1,6 @@
 // The port of a program that has no methods yet.
 ghost use Rattle.std.specs.Prelude.{◌≡◌, [], ◌∷◌, codes};
-ghost use Rattle.method_batch.specs.Answer.{error_of};
+ghost use Rattle.method_batch.specs.Prepared.{error_of};
 
 use jm_base::NoMemory;
 use jm_json::{Invocation, Invocations, Made, Replied};
