@@ -1,5 +1,5 @@
 -- The lines that end in a piece, and what is put of their replies.
-use Rattle.std.proofs.Common.{◌≡◌, ℕ, List, [], ◌∷◌, ◌++◌, take, length, Option, Result, Ok, Err, OnOk, OnErr, IfErr, refl, sym, ap, ◌∙◌, subst, append_assoc, append-nil, ◌≤◌, ◌+◌, arith, length-append}
+use Rattle.std.proofs.Common.{◌≡◌, ℕ, List, [], ◌∷◌, ◌++◌, take, length, Option, Result, Ok, Err, OnOk, OnErr, sym, ap, ◌∙◌, subst, append_assoc, append-nil, arith}
 use Rattle.std.proofs.Math.Seq.{take-append_seam}
 use Rattle.std.proofs.lemmas.List.{take_all}
 use Rattle.std.specs.Io.KnownBytes.{Appends}
@@ -7,7 +7,7 @@ use Rattle.jm_base.specs.declared.memory.NoMemory.{NoMemory}
 use Rattle.jmap_main.specs.Lines.{IsOneLine}
 use Rattle.jmap_main.specs.Batch.{batch_out, reply_or_none, Done, IsFrontFor}
 use Rattle.jmap_main.specs.declared.ending.Ending.{Ending}
-use Rattle.jmap_main.proofs.Lines.{done_none, done_on, done_line, done_front, front_on, front_wider, line_front, shorter_front, both_lines, front_line}
+use Rattle.jmap_main.proofs.Lines.{done_on, done_line, done_front, front_on, front_wider, line_front, shorter_front, both_lines, front_line}
 use Rattle.jmap_main.proofs.Held.{held, done_hold, reply_of_held}
 
 abbrev Kept : Type 0

@@ -1,12 +1,12 @@
 -- A line that is held only as far as it counts is answered as the whole line.
-use Rattle.std.proofs.Common.{◌≡◌, ◌⊎◌, inl, inr, ℕ, zero, suc, ◌+◌, ◌-◌, ◌<◌, ◌≤◌, List, [], ◌∷◌, ◌++◌, ◌==◌, Bool, true, false, cond, nat_lt, flat_map, take, length, refl, sym, ap, ap₂, ◌∙◌, subst, append_assoc, append-nil, arith, length-append, length-take-le}
+use Rattle.std.proofs.Common.{◌≡◌, ◌⊎◌, inl, inr, ℕ, zero, suc, ◌-◌, ◌<◌, List, [], ◌∷◌, ◌++◌, ◌==◌, Bool, true, false, cond, nat_lt, flat_map, take, length, refl, sym, ap, ap₂, ◌∙◌, append-nil, arith, length-append, length-take-le}
 use Rattle.std.proofs.lemmas.List.{take_all}
 use Rattle.std.proofs.lemmas.Bool.{lt-ltb, ltb-true, ltb-false}
 use Rattle.jm_json.specs.Reading.{reading_of}
 use Rattle.method_batch.specs.Outcome.{problem_tree}
 use Rattle.method_batch.specs.declared.outcome.Problem.TheVariants.{TooLarge, NotJson}
 use Rattle.jmap_main.specs.Lines.{lines_of, onto_first, IsOneLine}
-use Rattle.jmap_main.specs.Batch.{begins_with_plus, line_tree, tree_to, reply_or_none, line_text, batch_out, Done}
+use Rattle.jmap_main.specs.Batch.{begins_with_plus, tree_to, reply_or_none, line_text, Done}
 
 -- the bytes of a line that count
 abbrev pub held : List ℕ → List ℕ → List ℕ

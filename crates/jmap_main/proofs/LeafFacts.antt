@@ -1,7 +1,7 @@
 -- The leaves of parts one after another.
-use Rattle.std.proofs.Common.{◌≡◌, ℕ, zero, suc, ◌+◌, ◌*◌, ◌<◌, ◌≤◌, List, [], ◌∷◌, ◌++◌, drop, length, get_or, refl, sym, ap, ◌∙◌, append_assoc, append-nil, arith}
+use Rattle.std.proofs.Common.{◌≡◌, ℕ, zero, suc, ◌<◌, ◌≤◌, List, [], ◌∷◌, ◌++◌, length, get_or, sym, ap, ◌∙◌, append_assoc, append-nil, arith}
 use Rattle.jm_json.specs.Tree.{Tree}
-use Rattle.mime_type.specs.Forest.{Forest, none, part, forest_size}
+use Rattle.mime_type.specs.Forest.{Forest, none, forest_size}
 use Rattle.mime_type.specs.Joined.{tree_of, joined, node_of}
 use Rattle.mime_type.specs.declared.part.Part.{Part}
 use Rattle.mime_tree.specs.Places.{AllPlaced}

@@ -1,7 +1,7 @@
 -- What is written, line by line.
-use Rattle.std.proofs.Common.{◌≡◌, ℕ, zero, suc, List, [], ◌∷◌, ◌++◌, ◌==◌, Bool, true, false, flat_map, take, drop, length, get_or, ◌<◌, ◌≤◌, ◌+◌, refl, sym, ap, ◌∙◌, append_assoc, append-nil, arith}
+use Rattle.std.proofs.Common.{◌≡◌, ℕ, zero, suc, List, [], ◌∷◌, ◌++◌, ◌==◌, false, flat_map, take, drop, length, get_or, ◌<◌, ◌≤◌, refl, sym, ap, ◌∙◌, append_assoc, append-nil, arith}
 use Rattle.std.proofs.lemmas.List.{take-append-drop}
-use Rattle.jmap_main.specs.Lines.{lines_of, onto_first, IsOneLine}
+use Rattle.jmap_main.specs.Lines.{lines_of, IsOneLine}
 use Rattle.jmap_main.specs.Batch.{reply_or_none, batch_out, Done, IsFrontFor}
 
 ended : (line rest : List ℕ) → IsOneLine line → lines_of (line ++ 10 ∷ rest) ≡ line ∷ lines_of rest

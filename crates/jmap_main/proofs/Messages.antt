@@ -1,22 +1,26 @@
 -- What a run of `read` has done once its message is taken.
-use Rattle.std.proofs.Common.{◌≡◌, ℕ, ◌≤◌, List, [], ◌++◌, Option, take, drop, length, refl, sym, ◌∙◌, append-nil}
+use Rattle.std.proofs.Common.{inl, inr, ℕ, ◌≤◌, List, [], ◌++◌, Option, take, drop, length, refl, sym, append-nil}
 use Rattle.std.proofs.lemmas.List.{take-append-drop}
 use Rattle.std.specs.Io.KnownBytes.{Consumes, Appends, IsAtEnd}
-use Rattle.jmap_main.specs.Words.{out_of, most_of}
+use Rattle.jmap_main.specs.Words.{most_of}
 use Rattle.jmap_main.specs.Read.{read_out}
-use Rattle.jmap_main.specs.Run.{HasBegun, HasAnswered}
+use Rattle.jmap_main.specs.Run.{HasBegun}
 use Rattle.jmap_main.specs.Ended.{Seen, Explains, Unread, Written}
 use Rattle.jmap_main.specs.declared.words.Command.TheVariants.{Read}
 use Rattle.jmap_main.specs.declared.ending.Ending.{Ending}
 use Rattle.jmap_main.specs.declared.ending.Ending.TheVariants.{Done, Usage, ReadFault, WriteFault, NoMemory, TooLong}
 
-pub written_begun : (e : Ending) (l m h k : Option (List ℕ)) (f g : ℕ) (taken : List ℕ) → Consumes l m taken → Written e h k f g (read_out taken) → HasBegun Read l m h k
-written_begun Done l m h k f g taken c w = (taken, read_out taken, c, w, [], sym (append-nil (read_out taken)))
-written_begun Usage l m h k f g taken c w = absurd w
-written_begun ReadFault l m h k f g taken c w = absurd w
-written_begun WriteFault l m h k f g taken c w = (taken, take w.1.0 (read_out taken), c, w.1.1, drop w.1.0 (read_out taken), sym (take-append-drop w.1.0 (read_out taken)))
-written_begun NoMemory l m h k f g taken c w = (taken, [], c, w, read_out taken, refl)
-written_begun TooLong l m h k f g taken c w = absurd w
+-- nothing was written
+pub begun_untold : (l m h k : Option (List ℕ)) (taken : List ℕ) → Consumes l m taken → Appends h k [] → HasBegun Read l m h k
+begun_untold l m h k taken c w = (taken, [], c, w, inl (λ rest. (read_out (taken ++ rest), refl)))
+
+pub written_begun : (e : Ending) (l m h k : Option (List ℕ)) (f g : ℕ) (taken : List ℕ) → Consumes l m taken → IsAtEnd m → Written e h k f g (read_out taken) → HasBegun Read l m h k
+written_begun Done l m h k f g taken c end w = (taken, read_out taken, c, w, inr (end, ([], sym (append-nil (read_out taken)))))
+written_begun Usage l m h k f g taken c end w = absurd w
+written_begun ReadFault l m h k f g taken c end w = absurd w
+written_begun WriteFault l m h k f g taken c end w = (taken, take w.1.0 (read_out taken), c, w.1.1, inr (end, (drop w.1.0 (read_out taken), sym (take-append-drop w.1.0 (read_out taken)))))
+written_begun NoMemory l m h k f g taken c end w = begun_untold l m h k taken c w
+written_begun TooLong l m h k f g taken c end w = absurd w
 
 pub written_cause : (e : Ending) (s : Seen) (taken : List ℕ) → Consumes s.left s.left_after taken → length taken ≤ most_of Read → IsAtEnd s.left_after → Written e s.held s.held_after s.writes s.writes_after (read_out taken) → Explains Read e s
 written_cause Done s taken c small end w = (taken, c, small, end, w)

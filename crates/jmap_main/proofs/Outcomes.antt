@@ -1,5 +1,5 @@
 -- Over a port that knows no method, the outcome of a line is the one that `batch` writes.
-use Rattle.std.proofs.Common.{Result, Ok, Err, IfOk, ◌≡◌, ℕ, List, [], ◌∷◌, ◌++◌, Bool, true, false, cond, codes, Option, Some, None, is_some, nat_lt, length, refl, ap, ◌∙◌, subst}
+use Rattle.std.proofs.Common.{Result, Ok, Err, IfOk, ◌≡◌, ℕ, List, [], ◌∷◌, ◌++◌, Bool, true, false, cond, codes, Option, Some, None, is_some, nat_lt, length, ap, ◌∙◌, subst}
 use Rattle.std.specs.List.{AllByRecursion}
 use Rattle.jm_json.specs.Call.{Call}
 use Rattle.jm_json.specs.Json.{tree_of}

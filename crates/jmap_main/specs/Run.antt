@@ -1,5 +1,5 @@
 -- What a run of a command has done.
-use Rattle.std.specs.Prelude.{◌≡◌, ℕ, ◌<◌, ◌≤◌, List, [], ◌++◌, length, Option, None, Some}
+use Rattle.std.specs.Prelude.{◌≡◌, ◌⊎◌, ℕ, ◌<◌, ◌≤◌, List, [], ◌++◌, length, Option, None, Some}
 use Rattle.std.specs.Io.KnownBytes.{Consumes, Appends, IsAtEnd}
 use Rattle.jmap_main.specs.Lines.{IsOneLine}
 use Rattle.jmap_main.specs.Batch.{Done}
@@ -10,10 +10,15 @@ use Rattle.jmap_main.specs.declared.words.Command.{Command}
 abbrev pub HasAnswered : Command → Option (List ℕ) → Option (List ℕ) → Option (List ℕ) → Option (List ℕ) → Type 0
 HasAnswered c left left' held held' = (taken : List ℕ) × Consumes left left' taken × (length taken ≤ most_of c) × IsAtEnd left' × Appends held held' (out_of c taken)
 
--- what it wrote is a front of what is written for the bytes read
+-- What was written is a front of what the command writes for the bytes read, however the input goes on; or the input was
+-- read to its end, and it is a front of what the command writes for it.
+abbrev pub IsFront : Command → List ℕ → List ℕ → Option (List ℕ) → Type 0
+IsFront c taken written left' =
+    ((rest : List ℕ) → (more : List ℕ) × (out_of c (taken ++ rest) ≡ written ++ more)) ⊎ (IsAtEnd left' × ((more : List ℕ) × (out_of c taken ≡ written ++ more)))
+
+-- it read these bytes, and what it wrote is a front for them
 abbrev pub HasBegun : Command → Option (List ℕ) → Option (List ℕ) → Option (List ℕ) → Option (List ℕ) → Type 0
-HasBegun c left left' held held' =
-    (taken : List ℕ) × (written : List ℕ) × Consumes left left' taken × Appends held held' written × (more : List ℕ) × (out_of c taken ≡ written ++ more)
+HasBegun c left left' held held' = (taken : List ℕ) × (written : List ℕ) × Consumes left left' taken × Appends held held' written × IsFront c taken written left'
 
 -- more bytes came than an input may have
 abbrev pub IsTooLong : Command → Option (List ℕ) → Option (List ℕ) → Type 0

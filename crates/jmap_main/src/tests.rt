@@ -10,7 +10,7 @@ use std::test::Fail;
 use std::thread::Threads;
 
 const ECHO: &str =
-    "{\"using\":[\"urn:ietf:params:jmap:core\"],\"methodCalls\":[[\"Core/echo\",{},\"a\"]]}";
+    "{\"using\":[\"urn:ietf:params:jmap:core\",\"urn:ietf:params:jmap:mail\"],\"methodCalls\":[[\"Core/echo\",{},\"a\"]]}";
 
 const ECHOED: &str = "{\"methodResponses\":[[\"Core/echo\",{},\"a\"]],\"sessionState\":\"0\"}\n";
 
@@ -113,6 +113,10 @@ fn answers_each_line_with_a_line(rt: HostRuntime) -> Result<(), Fail> {
             "{\"methodResponses\":[[\"error\",{\"type\":\"unknownMethod\"},\"0\"]],\"sessionState\":\"0\"}\n",
         ),
         (
+            "{\"using\":[\"urn:ietf:params:jmap:mail\"],\"methodCalls\":[[\"Mailbox/get\",{},\"0\"]]}",
+            "{\"methodResponses\":[[\"error\",{\"type\":\"unknownMethod\"},\"0\"]],\"sessionState\":\"0\"}\n",
+        ),
+        (
             "{\"using\":[\"urn:ietf:params:jmap:core\"],\"methodCalls\":[[\"Core/echo\",{\"b\":1,\"a\":\"\\u00e9\"},\"0\"],[\"No/such\",{},\"1\"]]}",
             "{\"methodResponses\":[[\"Core/echo\",{\"a\":\"\u{e9}\",\"b\":1},\"0\"],[\"error\",{\"type\":\"unknownMethod\"},\"1\"]],\"sessionState\":\"0\"}\n",
         ),
@@ -137,7 +141,8 @@ fn answers_each_line_with_a_line(rt: HostRuntime) -> Result<(), Fail> {
 // What references name: the first call, the path of three references to it, and their arguments.
 #[test]
 fn resolves_references_to_earlier_calls(rt: HostRuntime) -> Result<(), Fail> {
-    let first = "[\"Core/echo\",{\"a/b\":7,\"list\":[{\"k\":[\"x\",\"y\"],\"threadId\":\"a\"},{\"k\":[\"z\"],\"threadId\":\"b\"}]},\"0\"]";
+    let first =
+        "[\"Core/echo\",{\"a/b\":7,\"list\":[{\"k\":[\"x\",\"y\"],\"threadId\":\"a\"},{\"k\":[\"z\"],\"threadId\":\"b\"}]},\"0\"]";
     let rows = [
         ("/list/*/threadId", "[\"a\",\"b\"]"),
         ("/list/*/k", "[\"x\",\"y\",\"z\"]"),
@@ -168,8 +173,10 @@ fn resolves_references_to_earlier_calls(rt: HostRuntime) -> Result<(), Fail> {
 // An argument that is given with and without the mark, and a reference to the error.
 #[test]
 fn refuses_an_argument_given_twice(rt: HostRuntime) -> Result<(), Fail> {
-    let line = "{\"using\":[\"urn:ietf:params:jmap:core\",\"urn:ietf:params:jmap:mail\"],\"methodCalls\":[[\"Core/echo\",{\"v\":1},\"0\"],[\"Core/echo\",{\"x\":1,\"#x\":{\"resultOf\":\"0\",\"name\":\"Core/echo\",\"path\":\"/v\"}},\"1\"],[\"Core/echo\",{\"#x\":{\"resultOf\":\"1\",\"name\":\"Core/echo\",\"path\":\"/x\"}},\"2\"]]}";
-    let reply = "{\"methodResponses\":[[\"Core/echo\",{\"v\":1},\"0\"],[\"error\",{\"type\":\"invalidArguments\"},\"1\"],[\"error\",{\"type\":\"invalidResultReference\"},\"2\"]],\"sessionState\":\"0\"}\n";
+    let line =
+        "{\"using\":[\"urn:ietf:params:jmap:core\",\"urn:ietf:params:jmap:mail\"],\"methodCalls\":[[\"Core/echo\",{\"v\":1},\"0\"],[\"Core/echo\",{\"x\":1,\"#x\":{\"resultOf\":\"0\",\"name\":\"Core/echo\",\"path\":\"/v\"}},\"1\"],[\"Core/echo\",{\"#x\":{\"resultOf\":\"1\",\"name\":\"Core/echo\",\"path\":\"/x\"}},\"2\"]]}";
+    let reply =
+        "{\"methodResponses\":[[\"Core/echo\",{\"v\":1},\"0\"],[\"error\",{\"type\":\"invalidArguments\"},\"1\"],[\"error\",{\"type\":\"invalidResultReference\"},\"2\"]],\"sessionState\":\"0\"}\n";
     let done = answer(
         &rt,
         rt.alloc(),

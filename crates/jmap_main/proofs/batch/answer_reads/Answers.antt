@@ -1,4 +1,4 @@
-use Rattle.std.proofs.Common.{◌≡◌, ◌≤◌, ◌<◌, ◌+◌, ◌-◌, ◌^◌, min, [], ℕ, List, take, length, arith, ◌∙◌, sym}
+use Rattle.std.proofs.Common.{◌≡◌, [], take, length, arith, sym}
 use Rattle.std.specs.Io.KnownBytes.{Consumes}
 use Rattle.jmap_main.proofs.Runs.{begun_kept, begun_more, long_more, way_on, begun_on, all_answered, begun_answered, begun_last}
 use Rattle.jmap_main.proofs.batch.answer_reads.Goals as goal
@@ -22,7 +22,7 @@ returns-in-Err-last_line-clause-begun g c =
     let none : Consumes (g.S.Source.left c.turns.source) (g.S.Source.left c.read.new.self) [] = rw c.if-count-eq0.true at c.in-Ok.ensures.bytes.0 in
     let e = c.in-Err-last_line.ensures.err in
     begun_last (g.S.Source.left c.args.source.now) (g.S.Source.left c.turns.source) (g.S.Source.left c.read.new.self) (g.O.Sink.held c.args.out.now) (g.O.Sink.held c.turns.out) (g.O.Sink.held c.last_line.new.out)
-    c.turns.line e.0 c.turns.total c.turns.invariant.way none e.1
+    c.turns.line e.0 c.turns.total c.turns.invariant.way none (c.in-Ok.ensures.bytes.1 c.if-count-eq0.true (grind arith)) e.1
 
 pub returns-then-total-gt-MOST_INPUT-clause-cause : goal.returns-then-total-gt-MOST_INPUT-clause-cause
 returns-then-total-gt-MOST_INPUT-clause-cause g c =

@@ -1,5 +1,4 @@
-use Rattle.std.proofs.Common.{sym, arith, rules}
-use Rattle.mime_type.specs.Forest.{none}
+use Rattle.std.proofs.Common.{sym, arith}
 use Rattle.jmap_main.proofs.LeafFacts.{part_size, placed_part}
 use Rattle.jmap_main.proofs.leaves.+leaves.Goals as goal
 

@@ -1,5 +1,4 @@
-use Rattle.std.proofs.Common.{◌≡◌, ◌≤◌, ◌<◌, ◌+◌, ◌++◌, take, length, arith, sym, length-append}
-use Rattle.std.specs.Io.KnownBytes.{Consumes}
+use Rattle.std.proofs.Common.{◌≡◌, ◌+◌, ◌++◌, take, length, arith, sym, length-append}
 use Rattle.jm_edge.proofs.Known.{consumes_on}
 use Rattle.jmap_main.proofs.read.take_reads.Goals as goal
 
