@@ -1,0 +1,5 @@
+pub mod Places
+pub mod Entries
+pub mod Turning
+pub mod Naming
+pub mod Closing
