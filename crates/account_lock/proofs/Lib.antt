@@ -3,3 +3,4 @@ pub mod Entries
 pub mod Turning
 pub mod Naming
 pub mod Closing
+pub mod Diaries

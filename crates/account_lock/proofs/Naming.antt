@@ -93,6 +93,7 @@ module _ {Y : Type 0} (shows : Y → List Entry) (origin : Y → Origin) where
       record {
         drawn = r.drawn;
         served = r.served;
+        parked = r.parked;
         given = r.given + 1;
         start = r.start;
         log = r.log;
@@ -237,6 +238,7 @@ module _ {Y : Type 0} (shows : Y → List Entry) (origin : Y → Origin) where
       record {
         drawn = r.drawn;
         served = r.served;
+        parked = r.parked;
         given = r.given;
         start = r.start;
         log = r.log;
@@ -265,11 +267,12 @@ module _ {Y : Type 0} (shows : Y → List Entry) (origin : Y → Origin) where
       }
 
   -- the rule at the start
-  pub opens : (y : Y) (n : Origin) → shows y ≡ [] → origin y ≡ n → Rule (opening (0 ∷ 0 ∷ []) (Some y ∷ []) (rooted n))
+  pub opens : (y : Y) (n : Origin) → shows y ≡ [] → origin y ≡ n → Rule (opening (0 ∷ 0 ∷ 0 ∷ []) (Some y ∷ []) (rooted n))
   opens y n none_yet same =
       let one : (j : ℕ) (d : View) → get_elem? (rooted n ∷ []) j ≡ some d → (j ≡ 0) × (rooted n ≡ d) = at_one (rooted n) in record {
         drawn = 0;
         served = 0;
+        parked = 0;
         given = 0;
         start = n;
         log = [];

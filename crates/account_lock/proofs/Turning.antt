@@ -12,7 +12,7 @@ use Rattle.mail_records.specs.Histories.{Entry}
 use Rattle.account_lock.specs.Entries.{under, AreUnder, StartsWith}
 use Rattle.account_lock.specs.Views.{Origin, View, HasName}
 use Rattle.account_lock.specs.Rule.{Fits, IsKept, Knows, weight}
-use Rattle.account_lock.specs.Steps.{looked_back, drew, watched, left_empty, took_empty, passed_on}
+use Rattle.account_lock.specs.Steps.{unchanged, looked_back, drew, watched, left_empty, took_empty, passed_on}
 use Rattle.account_lock.proofs.Places.{not_true, same_at, set_at, zero_or, views_stay, pairs_stay, waiting_set, waiting_le, names_set, names_one, cover_stays}
 use Rattle.account_lock.proofs.Entries.{under_stays, starts_here, starts_longer, starts_trans}
 
@@ -64,6 +64,32 @@ module _ {Y : Type 0} (shows : Y → List Entry) (origin : Y → Origin) where
   unmoved : (s : St) (i me : ℕ) (cs : List (ℕ × Option Y)) (v : View) → get_elem? s.views me ≡ some v → Rule s → Rule (stepped s i (get_or s.words i 0) me cs v keeps)
   unmoved s i me cs v at r = subst Rule (λ k. record { words = sym (set-get_or s.words i 0) k; homes = s.homes; views = sym (set_again s.views me v at) k }) r
 
+  -- a step on the word of parked threads
+  pub counts_parked : (slots me : ℕ) (m : Me (Option Y) View) (f : ℕ → ℕ) → Allows Rule slots me m 2 f (unchanged m)
+  counts_parked slots me m f s r deep at fits =
+      let ws : List ℕ = set s.words 2 (f (get_or s.words 2 0)) in
+      let same : Rule record { words = ws; homes = s.homes; views = s.views } = record {
+        drawn = r.drawn;
+        served = r.served;
+        parked = f (get_or s.words 2 0);
+        given = r.given;
+        start = r.start;
+        log = r.log;
+        words = ap (λ (xs : List ℕ). set xs 2 (f (get_or s.words 2 0))) r.words;
+        deep = r.deep;
+        tickets = r.tickets;
+        many = r.many;
+        few = r.few;
+        each = r.each;
+        apart = r.apart;
+        named = r.named;
+        home = r.home;
+        counted = r.counted;
+        covered = r.covered;
+        strangers = r.strangers;
+      } in
+      (m.0, keeps, tt, subst (λ (vs : List View). Rule record { words = ws; homes = s.homes; views = vs }) (sym (set_again s.views me m.0 at)) same, refl)
+
   -- in a fuller history of tickets, another view fits as before
   later_ticket : (s : St) (r : Rule s) (j : ℕ) (d : View) → Fits r.drawn r.served r.given r.start r.log s.homes j d → Fits (r.drawn + 1) r.served r.given r.start r.log s.homes j d
   later_ticket s r j d g = record {
@@ -93,10 +119,11 @@ module _ {Y : Type 0} (shows : Y → List Entry) (origin : Y → Origin) where
         record {
           drawn = r.drawn + 1;
           served = r.served;
+          parked = r.parked;
           given = r.given;
           start = r.start;
           log = r.log;
-          words = ap (λ (ws : List ℕ). set ws 0 ((get_or ws 0 0 + 1) % 2 ^ 64)) r.words ∙ ap (λ (n : ℕ). n ∷ r.served % 2 ^ 64 ∷ []) (mod-add-mod r.drawn (2 ^ 64) 1);
+          words = ap (λ (ws : List ℕ). set ws 0 ((get_or ws 0 0 + 1) % 2 ^ 64)) r.words ∙ ap (λ (n : ℕ). n ∷ r.served % 2 ^ 64 ∷ r.parked ∷ []) (mod-add-mod r.drawn (2 ^ 64) 1);
           deep = r.deep;
           tickets = omega arith;
           many = length-set s.views me w ∙ r.many;
@@ -157,6 +184,7 @@ module _ {Y : Type 0} (shows : Y → List Entry) (origin : Y → Origin) where
         record {
           drawn = r.drawn;
           served = r.served;
+          parked = r.parked;
           given = r.given;
           start = r.start;
           log = r.log;
@@ -219,6 +247,7 @@ module _ {Y : Type 0} (shows : Y → List Entry) (origin : Y → Origin) where
       let more = r.tickets in record {
         drawn = r.drawn;
         served = r.served;
+        parked = r.parked;
         given = r.given;
         start = r.start;
         log = r.log;
@@ -296,10 +325,11 @@ module _ {Y : Type 0} (shows : Y → List Entry) (origin : Y → Origin) where
         record {
           drawn = r.drawn;
           served = r.served + 1;
+          parked = r.parked;
           given = r.given;
           start = r.start;
           log = shows y;
-          words = ap (λ (ws : List ℕ). set ws 1 ((get_or ws 1 0 + 1) % 2 ^ 64)) r.words ∙ ap (λ (n : ℕ). r.drawn % 2 ^ 64 ∷ n ∷ []) (mod-add-mod r.served (2 ^ 64) 1);
+          words = ap (λ (ws : List ℕ). set ws 1 ((get_or ws 1 0 + 1) % 2 ^ 64)) r.words ∙ ap (λ (n : ℕ). r.drawn % 2 ^ 64 ∷ n ∷ r.parked ∷ []) (mod-add-mod r.served (2 ^ 64) 1);
           deep = length-set s.homes 0 _ ∙ r.deep;
           tickets = omega arith;
           many = length-set s.views me w ∙ r.many;

@@ -1,8 +1,9 @@
--- The rule of the lock: what holds of the two words, the slot and all views between any two steps of whatever threads.
+-- The rule of the lock: what holds of the words, the slot and all views between any two steps of whatever threads.
 --
 -- The lock is a ticket lock. Whoever wants a turn adds one to the ticket word and has drawn the number that stood there. The turn is that
 -- of the ticket which the serving word shows. Who ends a turn adds one to the serving word, which passes the turn on.
 -- The words are numbers below 2^64. The rule counts tickets without end: `drawn` and `served` are those counts, and a word holds the rest.
+-- A third word counts the threads that are parked, so that nobody is woken where nobody sleeps. The rule says nothing of it.
 use Rattle.std.specs.Prelude.{◌≡◌, ◌≢◌, ◌⊎◌, ℕ, ◌+◌, ◌%◌, ◌^◌, ◌<◌, ◌≤◌, Bool, true, false, List, [], ◌∷◌, length, min, Option, Some, None}
 use mathlib.Core.Option.{some}
 use mathlib.Core.Option as maybe
@@ -58,14 +59,15 @@ pub record Fits {Y : Type 0} (drawn served given : ℕ) (start : Origin) (log : 
 -- `shows` is the list of entries that a value shows, `origin` what of it never changes
 module _ {Y : Type 0} (shows : Y → List Entry) (origin : Y → Origin) where
   pub record IsKept (s : State (Option Y) View) : Type 0 where
-    -- how many tickets were drawn, how many turns are over, how many names were given
+    -- how many tickets were drawn, how many turns are over, what the word of parked threads shows, how many names were given
     pub drawn : ℕ
     pub served : ℕ
+    pub parked : ℕ
     pub given : ℕ
     pub start : Origin
     -- the history: what the value shows at home, and while it is out what the view with the turn has seen
     pub log : List Entry
-    pub words : s.words ≡ drawn % 2 ^ 64 ∷ served % 2 ^ 64 ∷ []
+    pub words : s.words ≡ drawn % 2 ^ 64 ∷ served % 2 ^ 64 ∷ parked ∷ []
     pub deep : length s.homes ≡ 1
     -- the tickets from `served` to below `drawn` are out, one with each view that waits
     pub tickets : drawn ≡ served + waiting s.views

@@ -8,9 +8,9 @@ use Rattle.account_lock.specs.Entries.{under, StartsWith}
 use Rattle.account_lock.specs.Views.{Origin, View}
 use Rattle.account_lock.specs.Rule.{Knows}
 
--- the table of a lock has two words and one slot
+-- the table of a lock has three words and one slot
 abbrev pub IsLockTable : TableId → Type 0
-IsLockTable z = (z.words ≡ 2) × (z.slots ≡ 1)
+IsLockTable z = (z.words ≡ 3) × (z.slots ≡ 1)
 
 abbrev pub SeatOf : Type 0 → Type 0
 SeatOf Y = Me (Option Y) View
@@ -27,6 +27,10 @@ module _ {Y : Type 0} where
   -- the empty slot was taken, for the value to be laid in
   abbrev pub took_empty : SeatOf Y → ℕ → SeatOf Y → Type 0
   took_empty m n m' = m' ≡ (record m.0 { away = false }, (0, None) ∷ [])
+
+  -- a thread was counted among the parked ones, or no longer: nothing that the view knows changed
+  abbrev pub unchanged : SeatOf Y → ℕ → SeatOf Y → Type 0
+  unchanged m n m' = m' ≡ m
 
   -- nothing changed. What was seen begins with what the pass that was joined had seen, and no more names ended than the root gave
   abbrev pub looked_back : SeatOf Y → ℕ → SeatOf Y → Type 0

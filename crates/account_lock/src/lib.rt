@@ -6,6 +6,7 @@
 //! and under the names of passes that were joined with it, are exactly those that were given under them.
 #![tactic(auto)]
 
+mod diary;
 mod lock;
 mod rule;
 mod standing;
@@ -14,6 +15,7 @@ mod steps;
 mod tests;
 mod view;
 
+pub use diary::{Diary, enter_in_turn};
 pub use lock::{AccountLock, Pass};
 pub use rule::Turns;
 pub use standing::Standing;

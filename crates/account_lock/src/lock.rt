@@ -80,7 +80,7 @@ impl<B: Standing> AccountLock<B> {
     {
         let about = Snapshot::of(&value);
         let slots = one_slot(alloc, value)?;
-        match Table::new(alloc, &[0, 0], slots, &about) {
+        match Table::new(alloc, &[0, 0, 0], slots, &about) {
             Ok((table, seat)) => Ok((
                 AccountLock { table },
                 Pass {

@@ -1,6 +1,6 @@
 // The rule of the table under a lock, and what each of its steps tells the thread that makes it.
 //
-// The rule is a fact about the two words, the slot and the views of all passes. The table keeps it between any two steps, and each step
+// The rule is a fact about the words, the slot and the views of all passes. The table keeps it between any two steps, and each step
 // is proved to keep it. So a thread can rely on it whatever the others do.
 use crate::standing::Standing;
 use crate::view::PassView;
@@ -81,6 +81,15 @@ impl<B: Standing> Play<Option<Box<B>>, PassView> for PassTurn<B> {
     ghost use Rattle.account_lock.specs.Steps.{passed_on};
 
     ghost then = { λ _. passed_on (λ b. B.entries b.value) };
+}
+
+// The number of parked threads changes, and nothing else.
+pub(crate) struct CountParked;
+
+impl<B: Standing> Play<Option<Box<B>>, PassView> for CountParked {
+    ghost use Rattle.account_lock.specs.Steps.{unchanged};
+
+    ghost then = { λ _. unchanged };
 }
 
 // Nothing changes. It tells what follows from the rule once a pass was joined.

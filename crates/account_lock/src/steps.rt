@@ -4,7 +4,7 @@ ghost use Rattle.account_lock.specs.Entries.{StartsWith, ExtendsUnder, under};
 ghost use Rattle.account_lock.specs.Steps.{IsLockTable, Got};
 
 use crate::rule::{
-    DrawTicket, LeaveEmpty, LookBack, PassTurn, Place, TakeEmpty, WatchServing, Words,
+    CountParked, DrawTicket, LeaveEmpty, LookBack, PassTurn, Place, TakeEmpty, WatchServing, Words,
 };
 use crate::standing::Standing;
 use std::hint;
@@ -15,6 +15,9 @@ const TICKET: usize = 0;
 
 // The word that shows the ticket which is served.
 const SERVING: usize = 1;
+
+// The word that counts the threads which are parked, or are about to park.
+const PARKED: usize = 2;
 
 // How often a waiter looks at the serving word before it parks.
 const LOOKS: u32 = 1000;
@@ -52,10 +55,21 @@ pub(crate) fn await_turn<B: Standing, R: Wait>(
             looks += 1;
             hint::spin_loop();
         } else {
-            words.park(rt, SERVING, (found % (1 << 32)) as u32);
+            park(rt, words, place, found);
         }
     }
     unreachable!()
+}
+
+// Parks while the serving word is as it was found, until somebody passes a turn on. It counts itself as parked first. So whoever
+// passes a turn on and then finds nobody parked did so before the count rose, and the thread won't park over the new turn.
+fn park<B: Standing, R: Wait>(rt: &R, words: &Words<B>, place: &mut Place<B>, found: u64)
+    requires table { (place.old.table_id ≡ words.now.table_id) × IsLockTable words.now.table_id }
+    ensures { (place.new.table_id ≡ place.old.table_id) × (place.new.me ≡ place.old.me) }
+{
+    words.fetch_add::<CountParked>(place, PARKED, 1);
+    words.park(rt, SERVING, (found % (1 << 32)) as u32);
+    words.fetch_sub::<CountParked>(place, PARKED, 1);
 }
 
 // Takes the value out of the slot, once the turn has come.
@@ -71,8 +85,7 @@ pub(crate) fn lift<B: Standing>(words: &Words<B>, place: &mut Place<B>) -> Box<B
     value
 }
 
-// Lays the value back into the slot, and passes the turn on. Only where another ticket is out can anybody be waiting: whoever draws
-// one later finds the new turn. So others are woken only then.
+// Lays the value back into the slot, and passes the turn on. Parked threads are woken, all of them, since only one has the next ticket.
 pub(crate) fn lay_back<B: Standing>(words: &Words<B>, place: &mut Place<B>, value: Box<B>)
     requires table { (place.old.table_id ≡ words.now.table_id) × IsLockTable words.now.table_id }
     requires ready { (place.old.me.0.away ≡ true) × (place.old.me.0.turn ≡ true) × (place.old.me.1 ≡ []) }
@@ -87,8 +100,8 @@ pub(crate) fn lay_back<B: Standing>(words: &Words<B>, place: &mut Place<B>, valu
         None => {}
         Some(_) => unreachable!(),
     }
-    let served = words.fetch_add::<PassTurn<B>>(place, SERVING, 1);
-    if words.peek(TICKET) != served.wrapping_add(1) {
+    words.fetch_add::<PassTurn<B>>(place, SERVING, 1);
+    if words.peek(PARKED) > 0 {
         words.wake_all(SERVING);
     }
 }

@@ -1,12 +1,9 @@
 // Threads that take turns at a small value, and a waiter that parks.
 ghost use Rattle.std.specs.Prelude.{◌≡◌, ◌+◌, ◌<◌, ◌^◌, [], true, false, length, IfOk, IfSome, OnOk, ◌++◌, ◌∷◌};
-ghost use Rattle.mail_records.specs.Histories.{Refused};
-ghost use Rattle.account_lock.specs.Entries.{ExtendsUnder};
 
-use crate::{AccountLock, Pass, Standing};
+use crate::{AccountLock, Diary, Pass, enter_in_turn};
+use jm_base::NoMemory;
 use mail_records::Stamp;
-use std::alloc::{AllocError, Global};
-use std::marker::Model;
 use std::sync::Wait;
 use std::sync::atomic::{AtomicBool, Ordering};
 use std::test::*;
@@ -21,80 +18,18 @@ const LOOKS: u64 = 1_000_000;
 // How often a holder yields while the other thread parks.
 const PAUSE: u64 = 5_000;
 
-// The stamps of refused changes, in order.
-#[derive(Drop)]
-struct Diary {
-    stamps: Vec<Stamp>,
-}
-
-impl Model for Diary {
-    ghost use Rattle.std.specs.Prelude.{List, map};
-    ghost use Rattle.mail_records.specs.Histories.{Entry, Refused};
-
-    ghost Value = { List Entry };
-
-    ghost view = { λ d. map Refused d.stamps.items };
-}
-
-impl Standing for Diary {
-    ghost use Rattle.mail_records.specs.Histories.{empty_history};
-
-    ghost entries = { λ d. d };
-
-    ghost before = { λ d. 0 };
-
-    ghost opening = { λ d. empty_history };
-}
-
-impl Diary {
-    fn new(alloc: Global) -> Diary
-        ensures { result ≡ [] }
-    {
-        Diary {
-            stamps: Vec::new(alloc),
-        }
-    }
-
-    fn enter(&mut self, stamp: Stamp) -> Result<(), AllocError>
-        ensures entered { OnOk result (self.new ≡ self.old ++ Refused stamp ∷ []) }
-        ensures under { ExtendsUnder stamp.pass self.old self.new }
-    {
-        self.stamps.push(stamp)?;
-        Ok(())
-    }
-}
-
-// One turn: enters a stamp of the pass's name.
-fn turn<R: Wait>(
-    rt: &R,
-    lock: &AccountLock<Diary>,
-    pass: &mut Pass,
-    serial: u64,
-) -> Result<(), AllocError>
-    requires lock { pass.old.lock ≡ lock.now }
-    requires free { (pass.old.root ≡ false) × (pass.old.holds ≡ false) }
-    ensures { pass.new ≡ record pass.old { seen = pass.new.seen; own = pass.new.own } }
-{
-    let mut diary = lock.take(rt, pass);
-    let name = pass.name();
-    let stamp = Stamp { pass: name, serial };
-    let entered = diary.enter(stamp);
-    lock.give(pass, diary);
-    entered
-}
-
 fn turns<R: Wait>(
     rt: &R,
     lock: &AccountLock<Diary>,
     mut pass: Pass,
     count: u64,
-) -> Result<Pass, AllocError>
+) -> Result<Pass, NoMemory>
     requires lock { pass.lock ≡ lock.now }
     requires free { (pass.root ≡ false) × (pass.holds ≡ false) }
     ensures { IfOk result (λ p. p ≡ record pass { seen = p.seen; own = p.own }) }
 {
     for serial in 0..count {
-        turn(rt, lock, &mut pass, serial)?;
+        enter_in_turn(rt, lock, &mut pass, serial)?;
     }
     Ok(pass)
 }
@@ -105,7 +40,7 @@ fn two_at_once<R: Threads + Wait + Sync>(
     lock: &AccountLock<Diary>,
     first: Pass,
     second: Pass,
-) -> Result<(Pass, Pass), AllocError>
+) -> Result<(Pass, Pass), NoMemory>
     requires lock { (first.lock ≡ lock.now) × (second.lock ≡ lock.now) }
     requires free { (first.root ≡ false) × (first.holds ≡ false) × (second.root ≡ false) × (second.holds ≡ false) }
     ensures first { IfOk result (λ r. r.0 ≡ record first { seen = r.0.seen; own = r.0.own }) }
@@ -113,11 +48,11 @@ fn two_at_once<R: Threads + Wait + Sync>(
 {
     let (a, b) = join(
         rt,
-        || -> Result<Pass, AllocError>
+        || -> Result<Pass, NoMemory>
             requires { (first.lock ≡ lock.now) × (first.root ≡ false) × (first.holds ≡ false) }
             ensures { IfOk result (λ p. p ≡ record first { seen = p.seen; own = p.own }) }
         { turns(rt, lock, first, TURNS) },
-        || -> Result<Pass, AllocError>
+        || -> Result<Pass, NoMemory>
             requires { (second.lock ≡ lock.now) × (second.root ≡ false) × (second.holds ≡ false) }
             ensures { IfOk result (λ p. p ≡ record second { seen = p.seen; own = p.own }) }
         { turns(rt, lock, second, TURNS) },
@@ -140,7 +75,7 @@ fn by_four<R: Threads + Wait + Sync>(
     rt: &R,
     lock: AccountLock<Diary>,
     mut root: Pass,
-) -> Result<Box<Diary>, AllocError>
+) -> Result<Box<Diary>, NoMemory>
     requires lock { root.lock ≡ lock }
     requires root { (root.root ≡ true) × (root.given ≡ 0) × (root.ended ≡ []) }
 {
@@ -150,15 +85,15 @@ fn by_four<R: Threads + Wait + Sync>(
         lock.split(&mut root),
         lock.split(&mut root),
     ) else {
-        return Err(AllocError);
+        return Err(NoMemory);
     };
     let (low, high) = join(
         rt,
-        || -> Result<(Pass, Pass), AllocError>
+        || -> Result<(Pass, Pass), NoMemory>
             requires { (a.lock ≡ lock) × (a.root ≡ false) × (a.holds ≡ false) × (b.lock ≡ lock) × (b.root ≡ false) × (b.holds ≡ false) }
             ensures { IfOk result (λ r. (r.0 ≡ record a { seen = r.0.seen; own = r.0.own }) × (r.1 ≡ record b { seen = r.1.seen; own = r.1.own })) }
         { two_at_once(rt, &lock, a, b) },
-        || -> Result<(Pass, Pass), AllocError>
+        || -> Result<(Pass, Pass), NoMemory>
             requires { (c.lock ≡ lock) × (c.root ≡ false) × (c.holds ≡ false) × (d.lock ≡ lock) × (d.root ≡ false) × (d.holds ≡ false) }
             ensures { IfOk result (λ r. (r.0 ≡ record c { seen = r.0.seen; own = r.0.own }) × (r.1 ≡ record d { seen = r.1.seen; own = r.1.own })) }
         { two_at_once(rt, &lock, c, d) },
@@ -177,13 +112,13 @@ fn four_threads_enter_each_stamp_once_and_in_order(rt: HostRuntime) -> Result<()
     let alloc = rt.alloc();
     let diary = Box::new(alloc, Diary::new(alloc))?;
     let Ok((lock, root)) = AccountLock::build(alloc, diary) else {
-        return Err(Fail::from(AllocError));
+        return Err(Fail::from(std::alloc::AllocError));
     };
     let diary = by_four(&rt, lock, root)?;
     let mut next = [0u64; 5];
-    for stamp in &diary.stamps {
+    for stamp in diary.stamps() {
         let Some(serial) = next.get_mut(stamp.pass as usize) else {
-            return Err(Fail::from(AllocError));
+            return Err(Fail::from(std::alloc::AllocError));
         };
         assert_eq!(rt; stamp.serial, *serial);
         *serial = serial.wrapping_add(1);
@@ -203,7 +138,7 @@ fn look_for(flag: &AtomicBool) -> bool {
     false
 }
 
-// Takes the turn, waits until the other thread comes, lets it wait for a while, and then enters a stamp.
+// Takes the turn, waits until the other thread comes, and lets it wait for a while.
 fn hold<R: Wait>(
     rt: &R,
     lock: &AccountLock<Diary>,
@@ -215,25 +150,20 @@ fn hold<R: Wait>(
     requires free { (pass.root ≡ false) × (pass.holds ≡ false) }
     ensures { IfSome result (λ p. p ≡ record pass { seen = p.seen; own = p.own }) }
 {
-    let mut diary = lock.take(rt, &mut pass);
+    let diary = lock.take(rt, &mut pass);
     held.store(true, Ordering::SeqCst);
     let came = look_for(coming);
     for _ in 0..PAUSE {
         yield_now();
     }
-    let stamp = Stamp {
-        pass: pass.name(),
-        serial: 0,
-    };
-    let entered = diary.enter(stamp);
     lock.give(&mut pass, diary);
-    if came && entered.is_ok() {
+    if came {
         return Some(pass);
     }
     None
 }
 
-// Comes once the turn is taken, and takes the next one.
+// Comes once the turn is taken, and enters a stamp in the next one.
 fn come<R: Wait>(
     rt: &R,
     lock: &AccountLock<Diary>,
@@ -247,7 +177,7 @@ fn come<R: Wait>(
 {
     let found = look_for(held);
     coming.store(true, Ordering::SeqCst);
-    let entered = turn(rt, lock, &mut pass, 0);
+    let entered = enter_in_turn(rt, lock, &mut pass, 7);
     if found && entered.is_ok() {
         return Some(pass);
     }
@@ -289,14 +219,13 @@ fn a_waiter_that_parks_is_woken(rt: HostRuntime) -> Result<(), Fail> {
     let alloc = rt.alloc();
     let diary = Box::new(alloc, Diary::new(alloc))?;
     let Ok((lock, root)) = AccountLock::build(alloc, diary) else {
-        return Err(Fail::from(AllocError));
+        return Err(Fail::from(std::alloc::AllocError));
     };
     let diary = hold_and_come(&rt, lock, root);
     assert!(rt; diary.is_some(), "a thread gave up");
     if let Some(diary) = diary {
-        let mine = Stamp { pass: 1, serial: 0 };
-        let theirs = Stamp { pass: 2, serial: 0 };
-        assert_eq!(rt; diary.stamps.as_slice(), [mine, theirs].as_slice());
+        let stamp = Stamp { pass: 2, serial: 7 };
+        assert_eq!(rt; diary.stamps(), [stamp].as_slice());
     }
     Ok(())
 }
