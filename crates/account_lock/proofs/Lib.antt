@@ -1,0 +1,6 @@
+pub mod Places
+pub mod Entries
+pub mod Turning
+pub mod Naming
+pub mod Closing
+pub mod Diaries

@@ -1,0 +1,20 @@
+use Rattle.std.proofs.Common.{rules, ◌≡◌, ◌++◌, ◌∷◌, [], ℕ, ap, ◌∙◌, subst, OnOk}
+use Rattle.mail_records.specs.Histories.{Refused}
+use Rattle.account_lock.specs.Entries.{under}
+use Rattle.account_lock.specs.Passes.{PassFacts}
+use Rattle.account_lock.proofs.Diaries.{extends, one_more}
+use Rattle.account_lock.proofs.diary.enter_in_turn.Goals as goal
+
+pub give-requires-clause-entries : goal.give-requires-clause-entries
+give-requires-clause-entries g c =
+    let more = extends c.enter-entered.result _ _ _ _ c.name-name.ensures c.enter-entered.ensures.ok c.enter-entered.ensures.err in (more.0, search rules, search rules)
+
+pub returns-clause-ok : goal.returns-clause-ok
+returns-clause-ok g c =
+    let name : c.name-name.result ≡ c.args.pass.now.name = c.name-name.ensures ∙ ap (λ (k : PassFacts). k.name) c.take-diary.ensures.pass in
+    let same : c.deref_mut.result.now ≡ c.take-diary.result.value = search rules in
+    let was : under c.args.pass.now.name c.deref_mut.result.now ≡ c.args.pass.now.own = ap (under c.args.pass.now.name) same ∙ c.take-diary.ensures.own in
+    let own : c.give.new.pass.own ≡ under c.args.pass.now.name c.enter-entered.new.self =
+    ap (λ (k : PassFacts). k.own) c.give.ensures ∙ ap (λ (k : PassFacts). under k.name c.enter-entered.new.self) c.take-diary.ensures.pass in
+    subst (λ (n : ℕ). OnOk c.enter-entered.result (c.give.new.pass.own ≡ c.args.pass.now.own ++ Refused record { pass = n; serial = c.args.serial } ∷ [])) name
+    (one_more c.enter-entered.result _ _ _ _ _ _ name was own c.enter-entered.ensures.ok)

@@ -1,0 +1,85 @@
+// The simplest value with a history, and one turn at it. It shows how a holder uses the lock, and serves tests and measurements.
+ghost use Rattle.std.specs.Prelude.{◌≡◌, ◌++◌, ◌∷◌, [], true, false, OnOk, OnErr, map};
+ghost use Rattle.mail_records.specs.Histories.{Refused};
+
+use crate::lock::{AccountLock, Pass};
+use crate::standing::Standing;
+use jm_base::NoMemory;
+use mail_records::Stamp;
+use std::alloc::Global;
+use std::marker::Model;
+use std::sync::Wait;
+
+/// A list of stamps, each of which stands for a refused change. It has no entries before its start.
+#[derive(Drop)]
+pub struct Diary {
+    stamps: Vec<Stamp>,
+}
+
+impl Model for Diary {
+    ghost use Rattle.std.specs.Prelude.{List, map};
+    ghost use Rattle.mail_records.specs.Histories.{Entry, Refused};
+
+    ghost Value = { List Entry };
+
+    ghost view = { λ d. map Refused d.stamps.items };
+}
+
+impl Standing for Diary {
+    ghost use Rattle.mail_records.specs.Histories.{empty_history};
+
+    ghost entries = { λ d. d };
+
+    ghost before = { λ d. 0 };
+
+    ghost opening = { λ d. empty_history };
+}
+
+impl Diary {
+    /// With no entry.
+    pub fn new(alloc: Global) -> Diary
+        ensures { result ≡ [] }
+    {
+        Diary {
+            stamps: Vec::new(alloc),
+        }
+    }
+
+    /// Its stamps, in order.
+    pub fn stamps(&self) -> &[Stamp]
+        ensures { map Refused result.now ≡ self.now }
+    {
+        self.stamps.as_slice()
+    }
+
+    // Adds an entry with this stamp.
+    fn enter(&mut self, stamp: Stamp) -> Result<(), NoMemory>
+        ensures ok { OnOk result (self.new ≡ self.old ++ Refused stamp ∷ []) }
+        ensures err { OnErr result (self.new ≡ self.old) }
+    {
+        self.stamps.reserve(1)?;
+        self.stamps.push_reserved(stamp);
+        Ok(())
+    }
+}
+
+/// One turn: waits for the diary, enters a stamp of the pass's name with this serial number, and gives the diary back. The pass has then
+/// given one entry more. Where no memory is left it has given none.
+pub fn enter_in_turn<R: Wait>(
+    rt: &R,
+    lock: &AccountLock<Diary>,
+    pass: &mut Pass,
+    serial: u64,
+) -> Result<(), NoMemory>
+    requires lock { pass.old.lock ≡ lock.now }
+    requires free { (pass.old.root ≡ false) × (pass.old.holds ≡ false) }
+    ensures same { pass.new ≡ record pass.old { seen = pass.new.seen; own = pass.new.own } }
+    ensures ok { OnOk result (pass.new.own ≡ pass.old.own ++ Refused record { pass = pass.old.name; serial = serial } ∷ []) }
+    ensures err { OnErr result (pass.new.own ≡ pass.old.own) }
+{
+    let mut diary = lock.take(rt, pass);
+    let name = pass.name();
+    let entered = diary.enter(Stamp { pass: name, serial });
+    lock.give(pass, diary);
+    entered
+}

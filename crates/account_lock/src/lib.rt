@@ -1,0 +1,22 @@
+//! A lock round the value of one account. Whoever shares the account takes turns, and each turn sees all that earlier turns added.
+//!
+//! It is a ticket lock: one word counts the tickets that were drawn, another shows the ticket that is served, and the value lies in a slot
+//! that only the holder of that ticket touches. Each thread has a [`Pass`], under whose name its entries stand in the value's history.
+//! The contracts say what the holder of a pass may know of that history: it never gets shorter, and the entries under the pass's own name,
+//! and under the names of passes that were joined with it, are exactly those that were given under them.
+#![tactic(auto)]
+
+mod diary;
+mod lock;
+mod rule;
+mod standing;
+mod steps;
+#[cfg(test)]
+mod tests;
+mod view;
+
+pub use diary::{Diary, enter_in_turn};
+pub use lock::{AccountLock, Pass};
+pub use rule::Turns;
+pub use standing::Standing;
+pub use view::PassView;

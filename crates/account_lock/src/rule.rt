@@ -1,0 +1,121 @@
+// The rule of the table under a lock, and what each of its steps tells the thread that makes it.
+//
+// The rule is a fact about the words, the slot and the views of all passes. The table keeps it between any two steps, and each step
+// is proved to keep it. So a thread can rely on it whatever the others do.
+use crate::standing::Standing;
+use crate::view::PassView;
+use atomic_table::{Join, Play, Seat, Shared, Split, TableRule};
+use std::marker::PhantomData;
+use std::snapshot::Snapshot;
+
+/// The rule of a lock round a `B`. No value of it is made.
+pub struct Turns<B> {
+    of: PhantomData<B>,
+}
+
+impl<B: Standing> TableRule<Option<Box<B>>, PassView, Snapshot<Box<B>>> for Turns<B> {
+    ghost use Rattle.account_lock.specs.Rule.{IsKept};
+    ghost use Rattle.account_lock.specs.Views.{rooted};
+
+    ghost holds = { λ _. IsKept (λ b. B.entries b.value) (λ b. record { before = B.before b.value; opening = B.opening b.value }) };
+
+    ghost first = { λ key. rooted record { before = B.before key.value.value; opening = B.opening key.value.value } };
+}
+
+/// The words and the slot of a lock, as threads share them.
+pub(crate) type Words<B> = Shared<Option<Box<B>>, PassView, Snapshot<Box<B>>, Turns<B>>;
+
+/// What one thread makes its steps with: its view, and the slot while that is in its hands.
+pub(crate) type Place<B> = Seat<Option<Box<B>>, PassView>;
+
+// A ticket is drawn.
+pub(crate) struct DrawTicket<B> {
+    of: PhantomData<B>,
+}
+
+impl<B: Standing> Play<Option<Box<B>>, PassView> for DrawTicket<B> {
+    ghost use Rattle.account_lock.specs.Steps.{drew};
+
+    ghost then = { λ _. drew };
+}
+
+// The serving word is watched. Where it shows the ticket, the turn has come and the slot is in hand.
+pub(crate) struct WatchServing<B> {
+    of: PhantomData<B>,
+}
+
+impl<B: Standing> Play<Option<Box<B>>, PassView> for WatchServing<B> {
+    ghost use Rattle.account_lock.specs.Steps.{watched};
+
+    ghost then = { λ _. watched (λ b. B.entries b.value) (λ b. record { before = B.before b.value; opening = B.opening b.value }) };
+}
+
+// The slot goes home empty, while the value is with the caller.
+pub(crate) struct LeaveEmpty<B> {
+    of: PhantomData<B>,
+}
+
+impl<B: Standing> Play<Option<Box<B>>, PassView> for LeaveEmpty<B> {
+    ghost use Rattle.account_lock.specs.Steps.{left_empty};
+
+    ghost then = { λ _. left_empty };
+}
+
+// The empty slot is taken again, for the value to be laid in.
+pub(crate) struct TakeEmpty<B> {
+    of: PhantomData<B>,
+}
+
+impl<B: Standing> Play<Option<Box<B>>, PassView> for TakeEmpty<B> {
+    ghost use Rattle.account_lock.specs.Steps.{took_empty};
+
+    ghost then = { λ _. took_empty };
+}
+
+// The value goes home, and the turn to the next ticket.
+pub(crate) struct PassTurn<B> {
+    of: PhantomData<B>,
+}
+
+impl<B: Standing> Play<Option<Box<B>>, PassView> for PassTurn<B> {
+    ghost use Rattle.account_lock.specs.Steps.{passed_on};
+
+    ghost then = { λ _. passed_on (λ b. B.entries b.value) };
+}
+
+// The number of parked threads changes, and nothing else.
+pub(crate) struct CountParked;
+
+impl<B: Standing> Play<Option<Box<B>>, PassView> for CountParked {
+    ghost use Rattle.account_lock.specs.Steps.{unchanged};
+
+    ghost then = { λ _. unchanged };
+}
+
+// Nothing changes. It tells what follows from the rule once a pass was joined.
+pub(crate) struct LookBack;
+
+impl<B: Standing> Play<Option<Box<B>>, PassView> for LookBack {
+    ghost use Rattle.account_lock.specs.Steps.{looked_back};
+
+    ghost then = { λ _. looked_back };
+}
+
+// How a root gives a name, and how a pass takes in those of another.
+pub(crate) struct Naming;
+
+impl Split<PassView> for Naming {
+    ghost use Rattle.account_lock.specs.Views.{one_given, newcomer};
+
+    ghost left = { one_given };
+
+    ghost right = { newcomer };
+}
+
+impl Join<PassView> for Naming {
+    ghost use Rattle.account_lock.specs.Views.{joined, spent};
+
+    ghost both = { joined };
+
+    ghost spent = { spent };
+}

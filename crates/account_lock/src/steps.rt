@@ -1,0 +1,117 @@
+// The steps of a turn on the words and the slot.
+ghost use Rattle.std.specs.Prelude.{◌≡◌, ◌%◌, ◌^◌, ◌<◌, ◌∷◌, true, false, [], Some, length, ◌≤◌};
+ghost use Rattle.account_lock.specs.Entries.{StartsWith, ExtendsUnder, under};
+ghost use Rattle.account_lock.specs.Steps.{IsLockTable, Got};
+
+use crate::rule::{
+    CountParked, DrawTicket, LeaveEmpty, LookBack, PassTurn, Place, TakeEmpty, WatchServing, Words,
+};
+use crate::standing::Standing;
+use std::hint;
+use std::sync::Wait;
+
+// The word that counts the tickets drawn.
+const TICKET: usize = 0;
+
+// The word that shows the ticket which is served.
+const SERVING: usize = 1;
+
+// The word that counts the threads which are parked, or are about to park.
+const PARKED: usize = 2;
+
+// How often a waiter looks at the serving word before it parks.
+const LOOKS: u32 = 1000;
+
+// Draws a ticket, and answers what the ticket word showed.
+pub(crate) fn draw_ticket<B: Standing>(words: &Words<B>, place: &mut Place<B>) -> u64
+    requires table { (place.old.table_id ≡ words.now.table_id) × IsLockTable words.now.table_id }
+    requires ready { (place.old.me.0.waits ≡ false) × (0 < place.old.me.0.name) }
+    ensures table { place.new.table_id ≡ place.old.table_id }
+    ensures ticket { (k : _) × (place.new.me ≡ (record place.old.me.0 { waits = true; ticket = k }, place.old.me.1)) × (result ≡ k % 2 ^ 64) }
+{
+    words.fetch_add::<DrawTicket<B>>(place, TICKET, 1)
+}
+
+// Waits until the ticket is served. The slot is then in hand, with the value in it. A waiter looks at the serving word some
+// thousand times, since most turns are short, and then parks until somebody passes a turn on.
+pub(crate) fn await_turn<B: Standing, R: Wait>(
+    rt: &R,
+    words: &Words<B>,
+    place: &mut Place<B>,
+    ticket: u64,
+)
+    requires table { (place.old.table_id ≡ words.now.table_id) × IsLockTable words.now.table_id }
+    requires ready { (place.old.me.0.waits ≡ true) × (place.old.me.0.turn ≡ false) × (ticket ≡ place.old.me.0.ticket % 2 ^ 64) }
+    ensures table { place.new.table_id ≡ place.old.table_id }
+    ensures got { Got (λ b. B.entries b.value) (λ b. record { before = B.before b.value; opening = B.opening b.value }) place.old.me place.new.me }
+{
+    let mut looks = 0;
+    for _ in rt.forever() {
+        let found = words.load::<WatchServing<B>>(place, SERVING);
+        if found == ticket {
+            return;
+        }
+        if looks < LOOKS {
+            looks += 1;
+            hint::spin_loop();
+        } else {
+            park(rt, words, place, found);
+        }
+    }
+    unreachable!()
+}
+
+// Parks while the serving word is as it was found, until somebody passes a turn on. It counts itself as parked first. So whoever
+// passes a turn on and then finds nobody parked did so before the count rose, and the thread won't park over the new turn.
+fn park<B: Standing, R: Wait>(rt: &R, words: &Words<B>, place: &mut Place<B>, found: u64)
+    requires table { (place.old.table_id ≡ words.now.table_id) × IsLockTable words.now.table_id }
+    ensures { (place.new.table_id ≡ place.old.table_id) × (place.new.me ≡ place.old.me) }
+{
+    words.fetch_add::<CountParked>(place, PARKED, 1);
+    words.park(rt, SERVING, (found % (1 << 32)) as u32);
+    words.fetch_sub::<CountParked>(place, PARKED, 1);
+}
+
+// Takes the value out of the slot, once the turn has come.
+pub(crate) fn lift<B: Standing>(words: &Words<B>, place: &mut Place<B>) -> Box<B>
+    requires table { (place.old.table_id ≡ words.now.table_id) × IsLockTable words.now.table_id }
+    requires ready { (place.old.me.0.turn ≡ true) × ((y : _) × (place.old.me.1 ≡ (0, Some y) ∷ [])) }
+    ensures table { place.new.table_id ≡ place.old.table_id }
+    ensures value { place.old.me.1 ≡ (0, Some result) ∷ [] }
+    ensures view { place.new.me ≡ (record place.old.me.0 { away = true }, []) }
+{
+    let value = words.exchange(place, 0, None).unwrap();
+    words.load::<LeaveEmpty<B>>(place, SERVING);
+    value
+}
+
+// Lays the value back into the slot, and passes the turn on. Parked threads are woken, all of them, since only one has the next ticket.
+pub(crate) fn lay_back<B: Standing>(words: &Words<B>, place: &mut Place<B>, value: Box<B>)
+    requires table { (place.old.table_id ≡ words.now.table_id) × IsLockTable words.now.table_id }
+    requires ready { (place.old.me.0.away ≡ true) × (place.old.me.0.turn ≡ true) × (place.old.me.1 ≡ []) }
+    requires value { ExtendsUnder place.old.me.0.name place.old.me.0.seen (B.entries value.value) }
+    requires origin { record { before = B.before value.value; opening = B.opening value.value } ≡ place.old.me.0.origin }
+    ensures table { place.new.table_id ≡ place.old.table_id }
+    ensures view { place.new.me ≡ (record place.old.me.0 { away = false; waits = false; turn = false; seen = B.entries value.value; own = under place.old.me.0.name (B.entries value.value) }, []) }
+{
+    words.load::<TakeEmpty<B>>(place, SERVING);
+    let empty = words.exchange(place, 0, Some(value));
+    match empty {
+        None => {}
+        Some(_) => unreachable!(),
+    }
+    words.fetch_add::<PassTurn<B>>(place, SERVING, 1);
+    if words.peek(PARKED) > 0 {
+        words.wake_all(SERVING);
+    }
+}
+
+// Looks at a word once a pass was joined, for what the rule says then.
+pub(crate) fn look_back<B: Standing>(words: &Words<B>, place: &mut Place<B>)
+    requires table { (place.old.table_id ≡ words.now.table_id) × IsLockTable words.now.table_id }
+    ensures place { (place.new.table_id ≡ place.old.table_id) × (place.new.me ≡ place.old.me) }
+    ensures heard { StartsWith place.old.me.0.seen place.old.me.0.heard }
+    ensures count { place.old.me.0.root ≡ true → length place.old.me.0.ended ≤ place.old.me.0.given }
+{
+    words.load::<LookBack>(place, SERVING);
+}
