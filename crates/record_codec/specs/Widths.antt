@@ -1,5 +1,5 @@
 -- The range of the numbers in a commit. A commit in memory is always in it.
-use Rattle.std.specs.Prelude.{ℕ, ◌<◌, ◌^◌, List, length, ⊤}
+use Rattle.std.specs.Prelude.{ℕ, ◌<◌, ◌^◌, List, length}
 use Rattle.std.specs.List.{AllByRecursion}
 use Rattle.std.specs.Option.{ForSome}
 use Rattle.mail_records.specs.declared.records.Summary.{Summary}

@@ -1,6 +1,6 @@
 use Rattle.std.proofs.Common.{◌≡◌, ◌++◌, length, take}
 use Rattle.std.specs.List.{flat_map}
-use Rattle.record_codec.specs.Spelling.{number, blob}
+use Rattle.record_codec.specs.Spelling.{number}
 use Rattle.record_codec.proofs.fields.put_numbers.Given as goal
 
 abbrev pub invariant-loop-value : goal.invariant-loop-value
