@@ -65,7 +65,7 @@ module _ {Y : Type 0} (shows : Y → List Entry) (origin : Y → Origin) where
     pub parked : ℕ
     pub given : ℕ
     pub start : Origin
-    -- the history: what the value shows at home, and while it is out what the view with the turn has seen
+    -- the history: while a view has the turn what that view has seen, and else what the value shows
     pub log : List Entry
     pub words : s.words ≡ drawn % 2 ^ 64 ∷ served % 2 ^ 64 ∷ parked ∷ []
     pub deep : length s.homes ≡ 1

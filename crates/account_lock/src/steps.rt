@@ -81,6 +81,7 @@ pub(crate) fn lift<B: Standing>(words: &Words<B>, place: &mut Place<B>) -> Box<B
     ensures view { place.new.me ≡ (record place.old.me.0 { away = true }, []) }
 {
     let value = words.exchange(place, 0, None).unwrap();
+    // This load does nothing but let the rule hold with the slot empty at home: a pass keeps no slot between its calls.
     words.load::<LeaveEmpty<B>>(place, SERVING);
     value
 }
@@ -94,6 +95,7 @@ pub(crate) fn lay_back<B: Standing>(words: &Words<B>, place: &mut Place<B>, valu
     ensures table { place.new.table_id ≡ place.old.table_id }
     ensures view { place.new.me ≡ (record place.old.me.0 { away = false; waits = false; turn = false; seen = B.entries value.value; own = under place.old.me.0.name (B.entries value.value) }, []) }
 {
+    // So does this one, the other way: the empty slot is the place's again.
     words.load::<TakeEmpty<B>>(place, SERVING);
     let empty = words.exchange(place, 0, Some(value));
     match empty {
@@ -113,5 +115,6 @@ pub(crate) fn look_back<B: Standing>(words: &Words<B>, place: &mut Place<B>)
     ensures heard { StartsWith place.old.me.0.seen place.old.me.0.heard }
     ensures count { place.old.me.0.root ≡ true → length place.old.me.0.ended ≤ place.old.me.0.given }
 {
+    // What it shows isn't used: the rule holds at the load, and that is what is learnt.
     words.load::<LookBack>(place, SERVING);
 }

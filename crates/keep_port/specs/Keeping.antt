@@ -5,10 +5,10 @@ use Rattle.jm_edge.specs.declared.fault.EdgeFault.{EdgeFault}
 use Rattle.jm_edge.specs.declared.fault.EdgeFault.TheVariants.{Failed, NoMemory}
 use Rattle.keep_port.specs.declared.kept.Kept.{Kept}
 
--- the count of faults did not fall, and it rose where the call failed
+-- the count of faults did not fall, it rose where the call failed, and for want of memory it is as it was
 abbrev pub IsCounted : {T : Type 0} → ℕ → ℕ → Result T EdgeFault → Type 0
 IsCounted before now (Err Failed) = Rose before now
-IsCounted before now (Err NoMemory) = before ≤ now
+IsCounted before now (Err NoMemory) = now ≡ before
 IsCounted before now (Ok _) = before ≤ now
 
 -- this is what is kept, where that is told
