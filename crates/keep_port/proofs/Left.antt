@@ -1,5 +1,5 @@
 -- What a refused call adds to what a crash may leave.
-use Rattle.std.proofs.Common.{◌≡◌, ℕ, List, [], ◌∷◌, ◌++◌, ◌⊎◌, inl, inr, Some, sym, ap, ◌∙◌, ⊎_elim}
+use Rattle.std.proofs.Common.{◌≡◌, ℕ, List, [], ◌∷◌, ◌++◌, ◌⊎◌, inl, inr, Option, Some, None, refl, sym, ap, ◌∙◌, ⊎_elim, subst}
 use Rattle.keep_port.specs.declared.calls.Calls.{Calls}
 use Rattle.keep_port.specs.declared.kept.Kept.{Kept}
 use Rattle.keep_port.specs.declared.memory.MemoryKeeper.{MemoryKeeper}
@@ -35,3 +35,36 @@ pub nothing_refused : (kept : Kept) (loads appends replaces : List ℕ) (k : Kep
 nothing_refused kept loads appends replaces k (inl e) = ap Some (sym e)
 nothing_refused kept loads appends replaces k (inr (inl (r, h, e))) = absurd h
 nothing_refused kept loads appends replaces k (inr (inr w)) = absurd w
+
+-- ---- the other way: what must be counted with
+
+IsOneOf-old : {A : Type 0} (xs : List A) (y x : A) → IsOneOf xs x → IsOneOf (xs ++ y ∷ []) x
+IsOneOf-old [] y x h = absurd h
+IsOneOf-old (z ∷ zs) y x (inl e) = inl e
+IsOneOf-old (z ∷ zs) y x (inr h) = inr (IsOneOf-old zs y x h)
+
+IsOneOf-last : {A : Type 0} (xs : List A) (y : A) → IsOneOf (xs ++ y ∷ []) y
+IsOneOf-last [] y = inl refl
+IsOneOf-last (z ∷ zs) y = inr (IsOneOf-last zs y)
+
+abbrev kept_or : Kept → Option Kept → Kept
+kept_or d None = d
+kept_or d (Some k) = k
+
+-- after Ok
+pub kept_is_left : (m : MemoryKeeper) (k : Kept) → Some m.kept ≡ Some k → may_be_left m k
+kept_is_left m k s = inl (sym (ap (kept_or m.kept) s))
+
+-- after a refused row
+pub row_is_left : (m : MemoryKeeper) (row : List ℕ) (calls : Calls) (k : Kept) → may_be_left m k ⊎ (Some (with_row row m.kept) ≡ Some k) → may_be_left (record m { refused_rows = m.refused_rows ++ row ∷ []; appends = calls }) k
+row_is_left m row calls k (inl (inl e)) = inl e
+row_is_left m row calls k (inl (inr (inl (r, h, e)))) = inr (inl (r, IsOneOf-old m.refused_rows row r h, e))
+row_is_left m row calls k (inl (inr (inr w))) = inr (inr w)
+row_is_left m row calls k (inr s) = inr (inl (row, IsOneOf-last m.refused_rows row, sym (ap (kept_or m.kept) s)))
+
+-- after a refused whole
+pub whole_is_left : (m : MemoryKeeper) (whole : Kept) (calls : Calls) (k : Kept) → may_be_left m k ⊎ (Some whole ≡ Some k) → may_be_left (record m { refused_wholes = m.refused_wholes ++ whole ∷ []; replaces = calls }) k
+whole_is_left m whole calls k (inl (inl e)) = inl e
+whole_is_left m whole calls k (inl (inr (inl r))) = inr (inl r)
+whole_is_left m whole calls k (inl (inr (inr w))) = inr (inr (IsOneOf-old m.refused_wholes whole k w))
+whole_is_left m whole calls k (inr s) = inr (inr (subst (IsOneOf (m.refused_wholes ++ whole ∷ [])) (ap (kept_or whole) s) (IsOneOf-last m.refused_wholes whole)))

@@ -40,6 +40,13 @@ abbrev pub MayLeave : {T : Type 0} → Result T EdgeFault → Option Kept → (K
 MayLeave (Ok _) next old new = (k : Kept) → new k → next ≡ Some k
 MayLeave (Err _) next old new = (k : Kept) → new k → old k ⊎ (next ≡ Some k)
 
+-- And what it must count with then, so that no keeper that tells leaves a case out: after Ok that one, after a call that failed
+-- what it might have left before and also `next`, after want of memory what it might have left before.
+abbrev pub MustLeave : {T : Type 0} → Result T EdgeFault → Option Kept → (Kept → Type 0) → (Kept → Type 0) → Type 0
+MustLeave (Ok _) next old new = (k : Kept) → next ≡ Some k → new k
+MustLeave (Err Failed) next old new = (k : Kept) → old k ⊎ (next ≡ Some k) → new k
+MustLeave (Err NoMemory) next old new = (k : Kept) → old k → new k
+
 -- a crash leaves what is kept, and nothing else
 abbrev pub IsClean : Option Kept → (Kept → Type 0) → Type 0
 IsClean kept image = (k : Kept) → image k → kept ≡ Some k

@@ -1,7 +1,7 @@
 // The port to what keeps the rows of an account.
 ghost use Rattle.std.specs.Prelude.{◌≡◌, ℕ, Option, IfOk};
 ghost use Rattle.keep_port.specs.declared.kept.Kept.{Kept};
-ghost use Rattle.keep_port.specs.Keeping.{IsCounted, IsTold, kept_after, with_row_if, whole_if, MayLeave};
+ghost use Rattle.keep_port.specs.Keeping.{IsCounted, IsTold, kept_after, with_row_if, whole_if, MayLeave, MustLeave};
 
 use crate::Kept;
 use jm_edge::EdgeFault;
@@ -32,6 +32,7 @@ pub trait Keeper: Drop + Send {
         ensures loaded { IfOk result (IsTold (kept self.old)) }
         ensures kept { kept self.new ≡ kept self.old }
         ensures image { (k : Kept) → image self.new k → image self.old k }
+        ensures cases { (k : Kept) → image self.old k → image self.new k }
         ensures cause { IsCounted (load_faults self.old) (load_faults self.new) result }
         ensures append_count { append_faults self.new ≡ append_faults self.old }
         ensures replace_count { replace_faults self.new ≡ replace_faults self.old };
@@ -41,6 +42,7 @@ pub trait Keeper: Drop + Send {
     fn append(&mut self, alloc: Global, row: &[u8]) -> Result<(), EdgeFault>
         ensures kept { kept self.new ≡ kept_after result (with_row_if row.now (kept self.old)) (kept self.old) }
         ensures image { MayLeave result (with_row_if row.now (kept self.old)) (image self.old) (image self.new) }
+        ensures cases { MustLeave result (with_row_if row.now (kept self.old)) (image self.old) (image self.new) }
         ensures cause { IsCounted (append_faults self.old) (append_faults self.new) result }
         ensures load_count { load_faults self.new ≡ load_faults self.old }
         ensures replace_count { replace_faults self.new ≡ replace_faults self.old };
@@ -50,6 +52,7 @@ pub trait Keeper: Drop + Send {
     fn replace(&mut self, alloc: Global, whole: &Kept) -> Result<(), EdgeFault>
         ensures kept { kept self.new ≡ kept_after result (whole_if whole.now (kept self.old)) (kept self.old) }
         ensures image { MayLeave result (whole_if whole.now (kept self.old)) (image self.old) (image self.new) }
+        ensures cases { MustLeave result (whole_if whole.now (kept self.old)) (image self.old) (image self.new) }
         ensures cause { IsCounted (replace_faults self.old) (replace_faults self.new) result }
         ensures load_count { load_faults self.new ≡ load_faults self.old }
         ensures append_count { append_faults self.new ≡ append_faults self.old };

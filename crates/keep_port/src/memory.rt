@@ -1,7 +1,7 @@
 // A keeper in memory, with lists of the calls that are to fail.
 ghost use Rattle.std.specs.Prelude.{◌≡◌, Some, IfOk};
 ghost use Rattle.keep_port.specs.declared.kept.Kept.{Kept};
-ghost use Rattle.keep_port.specs.Keeping.{IsCounted, IsTold, kept_after, with_row_if, whole_if, MayLeave};
+ghost use Rattle.keep_port.specs.Keeping.{IsCounted, IsTold, kept_after, with_row_if, whole_if, MayLeave, MustLeave};
 
 use crate::calls::Calls;
 use crate::{Keeper, Kept};
@@ -86,6 +86,7 @@ impl Keeper for MemoryKeeper {
         ensures loaded { IfOk result (IsTold (Some self.old.kept)) }
         ensures kept { Some self.new.kept ≡ Some self.old.kept }
         ensures image { (k : Kept) → may_be_left self.new k → may_be_left self.old k }
+        ensures cases { (k : Kept) → may_be_left self.old k → may_be_left self.new k }
         ensures cause { IsCounted self.old.loads.faults self.new.loads.faults result }
         ensures append_count { self.new.appends.faults ≡ self.old.appends.faults }
         ensures replace_count { self.new.replaces.faults ≡ self.old.replaces.faults }
@@ -105,6 +106,7 @@ impl Keeper for MemoryKeeper {
         ensures does { Appends row.now self.old self.new result }
         ensures kept { Some self.new.kept ≡ kept_after result (with_row_if row.now (Some self.old.kept)) (Some self.old.kept) }
         ensures image { MayLeave result (with_row_if row.now (Some self.old.kept)) (may_be_left self.old) (may_be_left self.new) }
+        ensures cases { MustLeave result (with_row_if row.now (Some self.old.kept)) (may_be_left self.old) (may_be_left self.new) }
         ensures cause { IsCounted self.old.appends.faults self.new.appends.faults result }
         ensures load_count { self.new.loads.faults ≡ self.old.loads.faults }
         ensures replace_count { self.new.replaces.faults ≡ self.old.replaces.faults }
@@ -132,6 +134,7 @@ impl Keeper for MemoryKeeper {
         ensures does { Replaces whole.now self.old self.new result }
         ensures kept { Some self.new.kept ≡ kept_after result (whole_if whole.now (Some self.old.kept)) (Some self.old.kept) }
         ensures image { MayLeave result (whole_if whole.now (Some self.old.kept)) (may_be_left self.old) (may_be_left self.new) }
+        ensures cases { MustLeave result (whole_if whole.now (Some self.old.kept)) (may_be_left self.old) (may_be_left self.new) }
         ensures cause { IsCounted self.old.replaces.faults self.new.replaces.faults result }
         ensures load_count { self.new.loads.faults ≡ self.old.loads.faults }
         ensures append_count { self.new.appends.faults ≡ self.old.appends.faults }
