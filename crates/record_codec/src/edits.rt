@@ -76,6 +76,7 @@ fn put_edit(out: &mut Vec<u8>, change: &Edit) -> Result<(), NoMemory>
     }
 }
 
+/// A list of edits, put behind the bytes: its count, and each edit with its tag.
 pub fn put_edits(out: &mut Vec<u8>, edits: &[Edit]) -> Result<(), NoMemory>
     requires { AllByRecursion IsFormedEdit edits.now }
     ensures { OnOk result (out.new.items ≡ out.old.items ++ listed edit edits.now) }

@@ -10,6 +10,7 @@ use jm_base::{Bytes, NoMemory, Text, UtcDate};
 const YEARS_BEFORE_1970: i64 = 62135596800;
 
 #[tactic(auto, unfolding(crate::specs::Spelling::number))]
+/// A number, put behind the bytes: 8 of them, the big end first.
 pub fn put_number(out: &mut Vec<u8>, value: u64) -> Result<(), NoMemory>
     ensures { OnOk result (out.new.items ≡ out.old.items ++ number value) }
 {
@@ -17,6 +18,7 @@ pub fn put_number(out: &mut Vec<u8>, value: u64) -> Result<(), NoMemory>
     Ok(())
 }
 
+/// A text or a blob, put behind the bytes: its length, and its bytes.
 pub fn put_blob(out: &mut Vec<u8>, bytes: &[u8]) -> Result<(), NoMemory>
     ensures { OnOk result (out.new.items ≡ out.old.items ++ blob bytes.now) }
 {
@@ -25,6 +27,7 @@ pub fn put_blob(out: &mut Vec<u8>, bytes: &[u8]) -> Result<(), NoMemory>
     Ok(())
 }
 
+/// A truth value, put behind the bytes: the byte 0 or 1.
 pub fn put_truth(out: &mut Vec<u8>, value: bool) -> Result<(), NoMemory>
     ensures { OnOk result (out.new.items ≡ out.old.items ++ truth value) }
 {
@@ -36,6 +39,7 @@ pub fn put_truth(out: &mut Vec<u8>, value: bool) -> Result<(), NoMemory>
     Ok(())
 }
 
+/// A date, put behind the bytes: its seconds from the beginning of the year 1, as a number.
 pub fn put_date(out: &mut Vec<u8>, value: &UtcDate) -> Result<(), NoMemory>
     requires { IsMoment value.now }
     ensures { OnOk result (out.new.items ≡ out.old.items ++ date value.now) }
@@ -44,6 +48,7 @@ pub fn put_date(out: &mut Vec<u8>, value: &UtcDate) -> Result<(), NoMemory>
     put_number(out, seconds as u64)
 }
 
+/// A number or none, put behind the bytes: the byte 0, or 1 and the number.
 pub fn put_optional_number(out: &mut Vec<u8>, value: Option<u64>) -> Result<(), NoMemory>
     ensures { OnOk result (out.new.items ≡ out.old.items ++ optional number value) }
 {
@@ -59,6 +64,7 @@ pub fn put_optional_number(out: &mut Vec<u8>, value: Option<u64>) -> Result<(), 
     }
 }
 
+/// A text or none, put behind the bytes: the byte 0, or 1 and the text.
 pub fn put_optional_text(out: &mut Vec<u8>, value: &Option<Text>) -> Result<(), NoMemory>
     ensures { OnOk result (out.new.items ≡ out.old.items ++ optional blob value.now) }
 {
@@ -74,6 +80,7 @@ pub fn put_optional_text(out: &mut Vec<u8>, value: &Option<Text>) -> Result<(), 
     }
 }
 
+/// A date or none, put behind the bytes: the byte 0, or 1 and the date.
 pub fn put_optional_date(out: &mut Vec<u8>, value: &Option<UtcDate>) -> Result<(), NoMemory>
     requires { ForSome value.now IsMoment }
     ensures { OnOk result (out.new.items ≡ out.old.items ++ optional date value.now) }
@@ -90,6 +97,7 @@ pub fn put_optional_date(out: &mut Vec<u8>, value: &Option<UtcDate>) -> Result<(
     }
 }
 
+/// A list of numbers, put behind the bytes: its count, and each number.
 pub fn put_numbers(out: &mut Vec<u8>, numbers: &[u64]) -> Result<(), NoMemory>
     ensures { OnOk result (out.new.items ≡ out.old.items ++ listed number numbers.now) }
 {
@@ -100,6 +108,7 @@ pub fn put_numbers(out: &mut Vec<u8>, numbers: &[u64]) -> Result<(), NoMemory>
     Ok(())
 }
 
+/// A list of texts, put behind the bytes: its count, and each text.
 pub fn put_texts(out: &mut Vec<u8>, texts: &[Text]) -> Result<(), NoMemory>
     ensures { OnOk result (out.new.items ≡ out.old.items ++ listed blob texts.now) }
 {
@@ -110,6 +119,7 @@ pub fn put_texts(out: &mut Vec<u8>, texts: &[Text]) -> Result<(), NoMemory>
     Ok(())
 }
 
+/// A list of blobs, put behind the bytes: its count, and each blob.
 pub fn put_blobs(out: &mut Vec<u8>, blobs: &[Bytes]) -> Result<(), NoMemory>
     ensures { OnOk result (out.new.items ≡ out.old.items ++ listed blob blobs.now) }
 {

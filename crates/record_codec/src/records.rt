@@ -34,6 +34,7 @@ fn put_standing(out: &mut Vec<u8>, m: &Mailbox) -> Result<(), NoMemory>
     put_number(out, m.unread_threads)
 }
 
+/// A mailbox, put behind the bytes: its fields in their order (RFC 8621, section 2).
 pub fn put_mailbox(out: &mut Vec<u8>, m: &Mailbox) -> Result<(), NoMemory>
     ensures { OnOk result (out.new.items ≡ out.old.items ++ mailbox m.now) }
 {
@@ -54,6 +55,7 @@ fn put_message(out: &mut Vec<u8>, e: &Email) -> Result<(), NoMemory>
     put_summary(out, &e.summary)
 }
 
+/// An email, put behind the bytes: its fields in their order (RFC 8621, section 4).
 pub fn put_email(out: &mut Vec<u8>, e: &Email) -> Result<(), NoMemory>
     requires { IsFormedEmail e.now }
     ensures { OnOk result (out.new.items ≡ out.old.items ++ email e.now) }
@@ -66,6 +68,7 @@ pub fn put_email(out: &mut Vec<u8>, e: &Email) -> Result<(), NoMemory>
     put_message(out, e)
 }
 
+/// A thread, put behind the bytes: its number, and the list of its emails (RFC 8621, section 3).
 pub fn put_thread(out: &mut Vec<u8>, t: &Thread) -> Result<(), NoMemory>
     ensures { OnOk result (out.new.items ≡ out.old.items ++ thread t.now) }
 {
