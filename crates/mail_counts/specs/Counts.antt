@@ -40,3 +40,17 @@ pub record HasCounts (emails : List Email) (m : Mailbox) : Type 0 where
   pub unread_emails : m.unread_emails ≡ length (filter is_unread (emails_in m.number emails))
   pub total_threads : m.total_threads ≡ length (threads_in m.number emails)
   pub unread_threads : m.unread_threads ≡ length (filter (is_unread_thread emails) (threads_in m.number emails))
+
+-- The four counts are 0, as they are of a mailbox without emails.
+pub record HasNoCounts (m : Mailbox) : Type 0 where
+  pub total_emails : m.total_emails ≡ 0
+  pub unread_emails : m.unread_emails ≡ 0
+  pub total_threads : m.total_threads ≡ 0
+  pub unread_threads : m.unread_threads ≡ 0
+
+-- Two mailboxes have the same four counts.
+pub record SameCounts (m n : Mailbox) : Type 0 where
+  pub total_emails : m.total_emails ≡ n.total_emails
+  pub unread_emails : m.unread_emails ≡ n.unread_emails
+  pub total_threads : m.total_threads ≡ n.total_threads
+  pub unread_threads : m.unread_threads ≡ n.unread_threads

@@ -1,6 +1,6 @@
 -- When a content is tidy: all that is asked of an account's records by themselves, without blobs and without its history.
 use Rattle.std.specs.Prelude.{◌≡◌, ℕ, zero, suc, ◌≤◌, List, length, map, filter, Bool, true, false, ◌&&◌, ◌==◌, Option, Some, None, is_some, option_and_then, bytes_eq, IsPermutation}
-use Rattle.std.specs.List.{AllByRecursion, IsDistinct}
+use Rattle.std.specs.List.{AllByRecursion, IsDistinct, list_any}
 use Rattle.std.specs.List.Sorted.{IsStrictlySortedBy}
 use Rattle.std.specs.Option.{ForSome}
 use Rattle.std.specs.Ordering.{nat_cmp, int_cmp, match_ordering}
@@ -13,7 +13,7 @@ use Rattle.mail_records.specs.declared.records.Mailbox.{Mailbox}
 use Rattle.mail_records.specs.declared.records.Email.{Email}
 use Rattle.mail_records.specs.declared.records.Thread.{Thread}
 use Rattle.mail_counts.specs.Forms.{is_name, is_role, is_sort_order, is_keyword}
-use Rattle.mail_counts.specs.Counts.{HasCounts}
+use Rattle.mail_counts.specs.Counts.{HasCounts, HasNoCounts}
 
 -- ---- mailboxes (RFC 8621, 2)
 
@@ -74,6 +74,16 @@ pub record AreMailboxesTidy (c : Content) : Type 0 where
   pub placed : AllByRecursion (IsPlaced c) c.mailboxes
   pub names : IsDistinct share_name c.mailboxes
   pub roles : IsDistinct share_role c.mailboxes
+
+-- A mailbox may stand in a content as a new one: it has the next number, its form is right, its parent is there, no mailbox
+-- of that parent has its name and none its role, and its counts are 0.
+pub record IsNewMailbox (c : Content) (m : Mailbox) : Type 0 where
+  pub number : m.number ≡ c.next_mailbox
+  pub form : IsWellFormed m
+  pub parent : ForSome m.parent (IsThere c)
+  pub name_free : list_any (is_sibling m.parent m.name) c.mailboxes ≡ false
+  pub role_free : list_any (λ (n : Mailbox). same_role n.role m.role) c.mailboxes ≡ false
+  pub counts : HasNoCounts m
 
 -- ---- emails (RFC 8621, 4)
 

@@ -15,7 +15,7 @@ use Rattle.mail_records.specs.declared.edits.Edit.TheVariants.{PutMailbox, DropM
 use Rattle.mail_records.proofs.Tables.{All-put, All-kept, IsTable-put, IsTable-without}
 
 -- what holds of each record holds of the one that is looked up, which has its number
-found : {R : Type 0} (P : R → Type 0) (number : R → ℕ) (n : ℕ) (x : R) (xs : List R) → AllByRecursion P xs → lookup number n xs ≡ Some x → P x × (number x ≡ n)
+pub found : {R : Type 0} (P : R → Type 0) (number : R → ℕ) (n : ℕ) (x : R) (xs : List R) → AllByRecursion P xs → lookup number n xs ≡ Some x → P x × (number x ≡ n)
 found P number n x [] all is = absurd (none-some x is)
 found P number n x (y ∷ ys) all is =
     ⊎_elim
@@ -29,7 +29,8 @@ there : {R : Type 0} (o : Option R) → is_some o ≡ true → (x : R) × (o ≡
 there None h = absurd (false≢true h)
 there (Some x) h = (x, refl)
 
-all_map : {R : Type 0} (P Q : R → Type 0) (xs : List R) → ((x : R) → P x → Q x) → AllByRecursion P xs → AllByRecursion Q xs
+-- what follows from what holds of each record
+pub all_map : {R : Type 0} (P Q : R → Type 0) (xs : List R) → ((x : R) → P x → Q x) → AllByRecursion P xs → AllByRecursion Q xs
 all_map P Q [] f all = tt
 all_map P Q (x ∷ xs) f all = (f x all.0, all_map P Q xs f all.1)
 
