@@ -11,6 +11,7 @@ use crate::line::{cut_line, end_line, hold};
 use crate::words::Command;
 use jm_base::{Bytes, NoMemory};
 use jm_edge::{Sink, Source, put_all};
+use jm_json::Scratch;
 use std::alloc::Global;
 
 // The bytes that an input may have.
@@ -58,6 +59,7 @@ fn answer_reads<S: Source, O: Sink>(
     }) }
     ensures begun { HasBegun Command.Batch (S.left source.old) (S.left source.new) (O.held out.old) (O.held out.new) }
 {
+    let mut scratch = Scratch::new(alloc);
     let mut line = Bytes::new(alloc);
     let mut replies = Bytes::new(alloc);
     let mut total = 0u64;
@@ -67,7 +69,7 @@ fn answer_reads<S: Source, O: Sink>(
             Err(_) => return Ending::ReadFault,
         };
         if count == 0 {
-            match last_line(alloc, &mut line, &mut replies, out) {
+            match last_line(alloc, &mut scratch, &mut line, &mut replies, out) {
                 Ok(()) => return Ending::Done,
                 Err(ending) => return ending,
             }
@@ -76,7 +78,14 @@ fn answer_reads<S: Source, O: Sink>(
         if total > MOST_INPUT {
             return Ending::TooLong;
         }
-        match answer_piece(alloc, &mut line, &room[..count], &mut replies, out) {
+        match answer_piece(
+            alloc,
+            &mut scratch,
+            &mut line,
+            &room[..count],
+            &mut replies,
+            out,
+        ) {
             Ok(()) => {}
             Err(ending) => return ending,
         }
@@ -87,6 +96,7 @@ fn answer_reads<S: Source, O: Sink>(
 // Answers the lines that end in a piece, and puts their replies.
 fn answer_piece<O: Sink>(
     alloc: Global,
+    scratch: &mut Scratch,
     line: &mut Bytes,
     piece: &[u8],
     replies: &mut Bytes,
@@ -99,13 +109,14 @@ fn answer_piece<O: Sink>(
     ensures reason { IfErr result (λ e. StopsFor e (O.faults out.old) (O.faults out.new)) }
 {
     replies.clear();
-    let fed = feed(alloc, line, piece, replies);
+    let fed = feed(alloc, scratch, line, piece, replies);
     settle(fed, replies, out)
 }
 
 // Answers the line that the input's end ends.
 fn last_line<O: Sink>(
     alloc: Global,
+    scratch: &mut Scratch,
     line: &mut Bytes,
     replies: &mut Bytes,
     out: &mut O,
@@ -116,7 +127,7 @@ fn last_line<O: Sink>(
     ensures reason { IfErr result (λ e. StopsFor e (O.faults out.old) (O.faults out.new)) }
 {
     replies.clear();
-    let ended = end_line(alloc, line, &[], replies);
+    let ended = end_line(alloc, scratch, line, &[], replies);
     settle(ended, replies, out)
 }
 
@@ -137,14 +148,20 @@ fn settle<O: Sink>(fed: Result<(), NoMemory>, replies: &Bytes, out: &mut O) -> R
 }
 
 // Takes a piece, and answers each line that ends in it.
-fn feed(alloc: Global, line: &mut Bytes, piece: &[u8], replies: &mut Bytes) -> Result<(), NoMemory>
+fn feed(
+    alloc: Global,
+    scratch: &mut Scratch,
+    line: &mut Bytes,
+    piece: &[u8],
+    replies: &mut Bytes,
+) -> Result<(), NoMemory>
     requires { IsOneLine line.old }
     ensures ok { OnOk result ((w : List ℕ) × (replies.new ≡ replies.old ++ w) × Done (line.old ++ piece.now) w line.new × IsOneLine line.new) }
     ensures err { OnErr result ((w : List ℕ) × (replies.new ≡ replies.old ++ w) × IsFrontFor w (line.old ++ piece.now)) }
 {
     let mut rest = piece;
     'lines: while let Some(cut) = cut_line(rest) {
-        match end_line(alloc, line, cut.line, replies) {
+        match end_line(alloc, scratch, line, cut.line, replies) {
             Ok(()) => rest = cut.rest,
             Err(refused) => return Err(refused),
         }

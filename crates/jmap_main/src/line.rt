@@ -6,9 +6,9 @@ ghost use Rattle.jmap_main.specs.Batch.{begins_with_plus, line_text, line_tree, 
 
 use crate::unknown::UnknownPort;
 use jm_base::{Bytes, NoMemory};
-use jm_json::write_after;
+use jm_json::{Scratch, write_after};
 use memchr::memchr;
-use method_batch::{Outcome, Problem, answer_request};
+use method_batch::{Outcome, Problem, answer_request_with};
 use std::alloc::Global;
 
 // No line is held further than this: it is longer than one that is answered, so its answer is settled.
@@ -51,6 +51,7 @@ pub(crate) fn hold(line: &mut Bytes, more: &[u8]) -> Result<(), NoMemory>
 /// may stand there.
 pub(crate) fn end_line(
     alloc: Global,
+    scratch: &mut Scratch,
     line: &mut Bytes,
     last: &[u8],
     replies: &mut Bytes,
@@ -60,20 +61,25 @@ pub(crate) fn end_line(
     ensures err { OnErr result ((n : ℕ) × (replies.new ≡ replies.old ++ take n (reply_or_none (line.old ++ last.now)))) }
 {
     if line.is_empty() {
-        return answer_line(alloc, last, replies);
+        return answer_line(alloc, scratch, last, replies);
     }
     match hold(line, last) {
-        Ok(()) => answer_held(alloc, line, replies),
+        Ok(()) => answer_held(alloc, scratch, line, replies),
         Err(refused) => Err(refused),
     }
 }
 
-fn answer_held(alloc: Global, line: &mut Bytes, replies: &mut Bytes) -> Result<(), NoMemory>
+fn answer_held(
+    alloc: Global,
+    scratch: &mut Scratch,
+    line: &mut Bytes,
+    replies: &mut Bytes,
+) -> Result<(), NoMemory>
     ensures ok { OnOk result (replies.new ≡ replies.old ++ reply_or_none line.old) }
     ensures begun { OnOk result (line.new ≡ []) }
     ensures err { OnErr result ((n : ℕ) × (replies.new ≡ replies.old ++ take n (reply_or_none line.old))) }
 {
-    match answer_line(alloc, line.as_slice(), replies) {
+    match answer_line(alloc, scratch, line.as_slice(), replies) {
         Ok(()) => {
             line.clear();
             Ok(())
@@ -82,14 +88,19 @@ fn answer_held(alloc: Global, line: &mut Bytes, replies: &mut Bytes) -> Result<(
     }
 }
 
-fn answer_line(alloc: Global, line: &[u8], replies: &mut Bytes) -> Result<(), NoMemory>
+fn answer_line(
+    alloc: Global,
+    scratch: &mut Scratch,
+    line: &[u8],
+    replies: &mut Bytes,
+) -> Result<(), NoMemory>
     ensures ok { OnOk result (replies.new ≡ replies.old ++ reply_or_none line.now) }
     ensures err { OnErr result ((n : ℕ) × (replies.new ≡ replies.old ++ take n (reply_or_none line.now))) }
 {
     if line.is_empty() {
         return Ok(());
     }
-    match outcome_of(alloc, line) {
+    match outcome_of(alloc, scratch, line) {
         Ok(outcome) => write_line(alloc, &outcome, replies),
         Err(refused) => Err(refused),
     }
@@ -106,13 +117,13 @@ fn write_line(alloc: Global, outcome: &Outcome, replies: &mut Bytes) -> Result<(
     }
 }
 
-fn outcome_of(alloc: Global, line: &[u8]) -> Result<Outcome, NoMemory>
+fn outcome_of(alloc: Global, scratch: &mut Scratch, line: &[u8]) -> Result<Outcome, NoMemory>
     ensures { IfOk result (λ o. tree_of o.tree ≡ line_tree line.now) }
 {
     if begins_with_plus(line) {
         return Outcome::refusal(alloc, Problem::NotJson);
     }
-    answer_request(alloc, &mut UnknownPort, line)
+    answer_request_with(alloc, scratch, &mut UnknownPort, line)
 }
 
 fn begins_with_plus(line: &[u8]) -> bool
