@@ -1,0 +1,13 @@
+//! What a get of records is answered (RFC 8620, section 5.1). Mailboxes are built.
+//!
+//! The answer to any arguments stands in `specs/Get.antt`. A get that is refused answers a [`GetFault`].
+#![tactic(auto)]
+
+mod arguments;
+mod fault;
+mod get;
+mod objects;
+mod properties;
+
+pub use fault::GetFault;
+pub use get::get_mailboxes;
