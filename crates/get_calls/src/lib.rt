@@ -8,6 +8,8 @@ mod fault;
 mod get;
 mod objects;
 mod properties;
+#[cfg(test)]
+mod tests;
 
 pub use fault::GetFault;
 pub use get::get_mailboxes;
