@@ -3,7 +3,10 @@ use Rattle.std.specs.Prelude.{ℕ, List, [], ◌∷◌, Bool, nat_lt, if◌then�
 use Rattle.jm_base.specs.Ids.{state_text}
 use Rattle.jm_json.specs.Tree.{Tree, text, list, object, trees_of, fields_of}
 use Rattle.jm_json.specs.Find.{as_object}
+use Rattle.jm_base.specs.declared.identifiers.Kind.TheVariants.{Mailbox as OfMailbox}
 use Rattle.mail_records.specs.Contents.{Content}
+use Rattle.mail_records.specs.Histories.{History, content_of}
+use Rattle.mail_records.specs.States.{state_of}
 use Rattle.mail_records.specs.declared.records.Mailbox.{Mailbox}
 use Rattle.get_calls.specs.Arguments.{account_in, ids_in, names_in, bad_argument}
 use Rattle.get_calls.specs.Mailboxes.{asked_mailboxes, unknown_ids, mailbox_properties, shown_mailbox}
@@ -55,3 +58,7 @@ get_by (Some args) mailboxes state read_only = get_unless (bad_argument mailbox_
 -- the answer to these arguments of a user to whom the account, with this content and state of its mailboxes, is read-only or not
 abbrev pub get_mailboxes : Content → ℕ → Tree → Bool → Got
 get_mailboxes c state args read_only = get_by (as_object args) c.mailboxes state read_only
+
+-- the answer of an account with this history, by its mailboxes and their state at the end
+abbrev pub get_in : History → Tree → Bool → Got
+get_in h args read_only = get_mailboxes (content_of h) (state_of h OfMailbox) args read_only

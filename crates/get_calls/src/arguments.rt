@@ -58,7 +58,7 @@ pub(crate) fn selection<'a>(
     match given(args, name) {
         Some(tree) => match tree.as_list() {
             Some(items) => match texts(alloc, items.as_slice())? {
-                Some(texts) => Ok(Some(texts)),
+                Some(found) => Ok(Some(found)),
                 None => Err(invalid(alloc, name)),
             },
             None => Err(invalid(alloc, name)),

@@ -3,7 +3,7 @@ ghost use Rattle.std.specs.Prelude.{◌≡◌, Some, IfOk, IfErr, nat_lt, option
 ghost use Rattle.jm_json.specs.Json.{tree_of};
 ghost use Rattle.jm_json.specs.Tree.{text};
 ghost use Rattle.get_calls.specs.Explained.{Explains};
-ghost use Rattle.get_calls.specs.Get.{asked_count, get_by, get_mailboxes, got, reply_tree};
+ghost use Rattle.get_calls.specs.Get.{asked_count, get_by, get_in, get_mailboxes, got};
 ghost use Rattle.get_calls.specs.Parts.{reply_of};
 
 use crate::GetFault;
@@ -11,7 +11,8 @@ use crate::arguments::{account, selection};
 use crate::fault::invalid;
 use crate::objects::{Found, find};
 use crate::properties::left_out;
-use jm_base::{NoMemory, Text, state_text};
+use account_book::Account;
+use jm_base::{Kind, NoMemory, Text, state_text};
 use jm_json::{Json, Members};
 use mail_records::Content;
 use std::alloc::Global;
@@ -66,8 +67,8 @@ fn answer(
     Ok(reply(alloc, account, found, state)?)
 }
 
-/// The answer to a get of mailboxes with these arguments, by a user to whom the account is read-only or not; `content` is what
-/// the account holds, and `state` the state of its mailboxes.
+/// The answer to a get of mailboxes with these arguments (RFC 8621, section 2.1), by a user to whom the account is read-only or
+/// not. `content` is what the account holds, and `state` the state of its mailboxes.
 pub fn get_mailboxes(
     alloc: Global,
     content: &Content,
@@ -82,4 +83,21 @@ pub fn get_mailboxes(
         Some(args) => answer(alloc, content, state, args, read_only),
         None => Err(invalid(alloc, "")),
     }
+}
+
+/// The answer to a get of records of a kind with these arguments, by a user to whom the account is read-only or not. Mailboxes are
+/// built.
+pub fn get(
+    alloc: Global,
+    kind: Kind,
+    account: &Account,
+    args: &Json,
+    read_only: bool,
+) -> Result<Json, GetFault>
+    requires built { kind ≡ Kind.Mailbox }
+    ensures ok { IfOk result (λ t. get_in account.now.history (tree_of args.now) read_only ≡ got (tree_of t)) }
+    ensures err { IfErr result (λ fault. Explains fault (get_in account.now.history (tree_of args.now) read_only)) }
+{
+    let state = account.log().state_of(kind);
+    get_mailboxes(alloc, account.content(), state, args, read_only)
 }

@@ -1,6 +1,6 @@
 //! What a get of records is answered (RFC 8620, section 5.1). Mailboxes are built.
 //!
-//! The answer to any arguments stands in `specs/Get.antt`. A get that is refused answers a [`GetFault`].
+//! The answer of an account to any arguments stands in `specs/Get.antt`. A get that is refused answers a [`GetFault`].
 #![tactic(auto)]
 
 mod arguments;
@@ -12,4 +12,4 @@ mod properties;
 mod tests;
 
 pub use fault::GetFault;
-pub use get::get_mailboxes;
+pub use get::{get, get_mailboxes};

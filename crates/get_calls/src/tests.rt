@@ -2,7 +2,7 @@
 use crate::{GetFault, get_mailboxes};
 use jm_base::{NoMemory, Text};
 use jm_json::{read, write};
-use mail_records::{Content, Edit, Mailbox, apply_fitting};
+use mail_records::{Applied, Content, Edit, Mailbox, apply_fitting};
 use std::alloc::Global;
 use std::process::Abort;
 use std::test::Fail;
@@ -18,7 +18,7 @@ fn content(rt: &impl Abort, alloc: Global, count: u64) -> Result<Content, NoMemo
     }
     assert!(rt; edits.len() < 1000);
     match apply_fitting(alloc, Content::new(alloc), edits.as_slice())? {
-        Some(content) => Ok(content),
+        Some(Applied { content, .. }) => Ok(content),
         None => panic!(rt; "the edits fit"),
     }
 }

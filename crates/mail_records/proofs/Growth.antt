@@ -1,14 +1,14 @@
 -- What edits that fit keep of a content, and what stays of a history as it grows.
-use Rattle.std.proofs.Common.{◌≡◌, ℕ, ◌+◌, ◌-◌, ◌<◌, ◌≤◌, Bool, true, false, not, cond, eqb, List, [], ◌∷◌, ◌++◌, take, flat_map, Option, Some, None, is_some, refl, sym, ap, ◌∙◌, subst, arith, ⊎_elim, eq-eqb, ne_eqb, eqb-true}
+use Rattle.std.proofs.Common.{◌≡◌, ℕ, ◌+◌, ◌-◌, ◌<◌, ◌≤◌, Bool, true, false, not, cond, eqb, List, [], ◌∷◌, ◌++◌, take, flat_map, length, Option, Some, None, is_some, refl, sym, ap, ◌∙◌, subst, arith, ⊎_elim, eq-eqb, ne_eqb, eqb-true}
 use Rattle.std.specs.List.{AllByRecursion}
 use Rattle.std.proofs.lemmas.Bool.{cases_Bool, false≢true}
 use Rattle.std.proofs.lemmas.Option.{none-some, same_Some}
 use Rattle.std.proofs.lemmas.List.{take-append-le}
 use Rattle.std.proofs.lemmas.List.Concat.{flat_map-append}
 use Rattle.mail_records.specs.Tables.{IsTable, IsNumbered, lookup, put, without}
-use Rattle.mail_records.specs.Contents.{Content, AreTables, AreNumbered, mailbox_number, email_number, thread_number, email_at}
+use Rattle.mail_records.specs.Contents.{Content, AreTables, AreNumbered, NextAtMost, mailbox_number, email_number, thread_number, mailbox_at, email_at, thread_at}
 use Rattle.mail_records.specs.Edits.{after_edit, after_edits, Fits, AllFit, PutFits, next_after, KeepsThread, AllKeepThread}
-use Rattle.mail_records.specs.Histories.{History, Entry, entry_edits, edits_of, end_of, content_at, grown_by, NamesThread, IsSound, IsFounded}
+use Rattle.mail_records.specs.Histories.{History, Entry, entry_edits, edits_of, end_of, content_at, content_of, grown_by, NamesThread, IsSound, IsFounded}
 use Rattle.mail_records.specs.declared.records.Email.{Email}
 use Rattle.mail_records.specs.declared.edits.Edit.{Edit}
 use Rattle.mail_records.specs.declared.edits.Edit.TheVariants.{PutMailbox, DropMailbox, PutEmail, DropEmail, PutThread, DropThread}
@@ -96,6 +96,38 @@ pub AreNumbered-after_edits : (es : List Edit) (c : Content) → AllFit c es →
 AreNumbered-after_edits [] c fit n = n
 AreNumbered-after_edits (e ∷ es) c fit n = AreNumbered-after_edits es (after_edit c e) fit.1 (AreNumbered-after_edit c e fit.0 n)
 
+next_put : (present was : Bool) (number next n : ℕ) → PutFits present was number next → next ≤ n → next_after was number next ≤ n + 1
+next_put present true number next n fit le = omega arith
+next_put present false number next n fit le = let is : number ≡ next = fit.1 refl in omega arith
+
+-- an edit that fits raises each next number by at most 1
+pub NextAtMost-after_edit : (n : ℕ) (c : Content) (e : Edit) → Fits c e → NextAtMost n c → NextAtMost (n + 1) (after_edit c e)
+NextAtMost-after_edit n c (PutMailbox item was counts) fit most =
+    let mailbox = next_put (is_some (mailbox_at c item.number)) was item.number c.next_mailbox n fit most.mailbox in
+    record { mailbox = mailbox; email = omega (arith, most.email); thread = omega (arith, most.thread) }
+NextAtMost-after_edit n c (DropMailbox number) fit most = record { mailbox = omega (arith, most.mailbox); email = omega (arith, most.email); thread = omega (arith, most.thread) }
+NextAtMost-after_edit n c (PutEmail item was) fit most =
+    let email = next_put (is_some (email_at c item.number)) was item.number c.next_email n fit most.email in
+    record { mailbox = omega (arith, most.mailbox); email = email; thread = omega (arith, most.thread) }
+NextAtMost-after_edit n c (DropEmail number thread) fit most = record { mailbox = omega (arith, most.mailbox); email = omega (arith, most.email); thread = omega (arith, most.thread) }
+NextAtMost-after_edit n c (PutThread item was) fit most =
+    let thread = next_put (is_some (thread_at c item.number)) was item.number c.next_thread n fit most.thread in
+    record { mailbox = omega (arith, most.mailbox); email = omega (arith, most.email); thread = thread }
+NextAtMost-after_edit n c (DropThread number) fit most = record { mailbox = omega (arith, most.mailbox); email = omega (arith, most.email); thread = omega (arith, most.thread) }
+
+-- edits that fit raise each next number by at most their count
+pub NextAtMost-after_edits : (es : List Edit) (n : ℕ) (c : Content) → AllFit c es → NextAtMost n c → NextAtMost (n + length es) (after_edits c es)
+NextAtMost-after_edits [] n c fit most = subst (λ k. NextAtMost k c) (let e : n ≡ n + length {A = Edit} [] = omega arith in e) most
+NextAtMost-after_edits (e ∷ es) n c fit most =
+    subst (λ k. NextAtMost k (after_edits (after_edit c e) es)) (let sum : n + 1 + length es ≡ n + length (e ∷ es) = omega arith in sum)
+    (NextAtMost-after_edits es (n + 1) (after_edit c e) fit.1 (NextAtMost-after_edit n c e fit.0 most))
+
+-- each next number is at most the last position plus 1
+pub NextAtMost-founded : (h : History) → IsFounded h → AllFit h.base (edits_of h) → NextAtMost (end_of h + 1) (content_of h)
+NextAtMost-founded h founded fit =
+    subst (λ k. NextAtMost k (content_of h)) (let sum : h.floor + 1 + length (edits_of h) ≡ end_of h + 1 = omega arith in sum)
+    (NextAtMost-after_edits (edits_of h) (h.floor + 1) h.base fit founded.next)
+
 -- edits one after the other
 pub after_edits-append : (es more : List Edit) (c : Content) → after_edits c (es ++ more) ≡ after_edits (after_edits c es) more
 after_edits-append [] more c = refl
@@ -104,6 +136,10 @@ after_edits-append (e ∷ es) more c = after_edits-append es more (after_edit c 
 pub AllFit-append : (es more : List Edit) (c : Content) → AllFit c es → AllFit (after_edits c es) more → AllFit c (es ++ more)
 AllFit-append [] more c a b = b
 AllFit-append (e ∷ es) more c a b = (a.0, AllFit-append es more (after_edit c e) a.1 b)
+
+pub AllKeepThread-append : (es more : List Edit) (c : Content) → AllKeepThread c es → AllKeepThread (after_edits c es) more → AllKeepThread c (es ++ more)
+AllKeepThread-append [] more c a b = b
+AllKeepThread-append (e ∷ es) more c a b = (a.0, AllKeepThread-append es more (after_edit c e) a.1 b)
 
 -- the edits of a history with more entries
 pub edits_of-grown_by : (h : History) (more : List Entry) → edits_of (grown_by h more) ≡ edits_of h ++ flat_map entry_edits more
@@ -211,11 +247,12 @@ owned_in (x ∷ xs) table = (
       (owned_in xs table.1) table.0,
 )
 
--- a history whose edits fit and keep threads, one after the other, is sound
-pub IsSound-from_steps : (h : History) → IsFounded h → AllFit h.base (edits_of h) → AllKeepThread h.base (edits_of h) → IsSound h
-IsSound-from_steps h founded fit keep =
-    let own = owned_in h.base.emails founded.tables.emails in
-    let numbered = founded.numbered.emails.below_next in
+-- A history is sound exactly where its edits fit and keep the threads of their emails, one after the other: this way where
+-- the base is in number order with each number below its kind's next one.
+pub IsSound-from_tables : (h : History) → AreTables h.base → AreNumbered h.base → AllFit h.base (edits_of h) → AllKeepThread h.base (edits_of h) → IsSound h
+IsSound-from_tables h tables below fit keep =
+    let own = owned_in h.base.emails tables.emails in
+    let numbered = below.emails.below_next in
     let a = owners (edits_of h) h.base (thread_in h.base.emails) own numbered fit keep in
     record {
       fits = fit;
@@ -229,3 +266,26 @@ IsSound-from_steps h founded fit keep =
         },
       );
     }
+
+pub IsSound-from_steps : (h : History) → IsFounded h → AllFit h.base (edits_of h) → AllKeepThread h.base (edits_of h) → IsSound h
+IsSound-from_steps h founded fit keep = IsSound-from_tables h founded.tables founded.numbered fit keep
+
+-- edits that name the thread of each email keep it
+keeps_owner : (es : List Edit) (c : Content) (f : ℕ → ℕ) → AllByRecursion (Owned f) c.emails → AllByRecursion (NamesThread f) es → AllKeepThread c es
+keeps_owner [] c f owned named = tt
+keeps_owner (PutMailbox item was counts ∷ es) c f owned named = (tt, keeps_owner es (after_edit c (PutMailbox item was counts)) f owned named.1)
+keeps_owner (DropMailbox number ∷ es) c f owned named = (tt, keeps_owner es (after_edit c (DropMailbox number)) f owned named.1)
+keeps_owner (PutEmail item was ∷ es) c f owned named = (
+  (λ (x : Email) (is : email_at c item.number ≡ Some x).
+      let mine = found (Owned f) email_number item.number x c.emails owned is in sym mine.0 ∙ (ap f mine.1 ∙ named.0)),
+  keeps_owner es (after_edit c (PutEmail item was)) f (All-put (Owned f) email_number item named.0 c.emails owned) named.1,
+)
+keeps_owner (DropEmail number thread ∷ es) c f owned named =
+    (tt, keeps_owner es (after_edit c (DropEmail number thread)) f (All-kept (Owned f) (λ x. not (eqb x.number number)) c.emails owned) named.1)
+keeps_owner (PutThread item was ∷ es) c f owned named = (tt, keeps_owner es (after_edit c (PutThread item was)) f owned named.1)
+keeps_owner (DropThread number ∷ es) c f owned named = (tt, keeps_owner es (after_edit c (DropThread number)) f owned named.1)
+
+-- and the other way
+pub AllKeepThread-sound : (h : History) → IsSound h → AllKeepThread h.base (edits_of h)
+AllKeepThread-sound h sound =
+    let one = sound.one_thread in keeps_owner (edits_of h) h.base one.0 one.1.in_base one.1.in_edits

@@ -80,7 +80,7 @@ with_some false None n most h e = absurd (cc)
 with_some b (Some m) n most h e = let more : m + 1 ≡ n = cc in let le = h m refl in (omega arith, omega arith)
 
 -- a last place is from 1 to the length
-place_bounds : {A : Type 0} (test : A → Bool) (xs : List A) (n : ℕ) → last_place test xs ≡ Some n → (1 ≤ n) × (n ≤ length xs)
+pub place_bounds : {A : Type 0} (test : A → Bool) (xs : List A) (n : ℕ) → last_place test xs ≡ Some n → (1 ≤ n) × (n ≤ length xs)
 place_bounds test [] n e = absurd (cc)
 place_bounds test (x ∷ xs) n e =
     let b = with_some (test x) (last_place test xs) n (length xs) (λ m k. (place_bounds test xs m k).1) e in
@@ -108,7 +108,7 @@ last_place-append test (x ∷ xs) ys =
     ∙ (later_with (test x) (length xs) (last_place test ys) (last_place test xs)
     ∙ ap (λ n. later n (last_place test ys) (place_with (test x) (last_place test xs))) (let e : length xs + 1 ≡ length (x ∷ xs) = omega arith in e))
 
-placed_low : {A : Type 0} (test : A → Bool) (xs : List A) (floor otherwise : ℕ) → otherwise ≤ floor → (o : Option ℕ) → last_place test xs ≡ o → placed_above floor otherwise o ≤ floor + length xs
+pub placed_low : {A : Type 0} (test : A → Bool) (xs : List A) (floor otherwise : ℕ) → otherwise ≤ floor → (o : Option ℕ) → last_place test xs ≡ o → placed_above floor otherwise o ≤ floor + length xs
 placed_low test xs floor otherwise le (Some n) e = let high = (place_bounds test xs n e).1 in omega arith
 placed_low test xs floor otherwise le None e = omega arith
 
@@ -126,7 +126,8 @@ nothing_follows {A} test xs ys floor otherwise le same = by_place (last_place te
         ap (placed_above floor otherwise) (last_place-append test xs ys ∙ ap (λ o. later (length xs) o (last_place test xs)) e) in
         absurd (omega arith)
 
-floor_low : (kind : Kind) (floors : Floors) (floor : ℕ) → FloorsAtMost floors floor → floor_of floors kind ≤ floor
+-- a kind's floor position is at most the floor
+pub floor_low : (kind : Kind) (floors : Floors) (floor : ℕ) → FloorsAtMost floors floor → floor_of floors kind ≤ floor
 floor_low OfMailbox floors floor h = h.mailbox
 floor_low OfEmail floors floor h = h.email
 floor_low OfThread floors floor h = h.thread

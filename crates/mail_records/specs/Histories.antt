@@ -1,7 +1,7 @@
 -- The history of an account: a base, and the commits and refusals after it. A position counts the edits of the commits.
-use Rattle.std.specs.Prelude.{◌≡◌, ℕ, ◌+◌, ◌-◌, ◌≤◌, Bool, true, false, List, [], ◌∷◌, ◌++◌, take, drop, length, map, flat_map, ⊤}
+use Rattle.std.specs.Prelude.{◌≡◌, ℕ, ◌+◌, ◌-◌, ◌≤◌, ◌^◌, Bool, true, false, List, [], ◌∷◌, ◌++◌, take, drop, length, map, flat_map, ⊤}
 use Rattle.std.specs.List.{AllByRecursion}
-use Rattle.mail_records.specs.Contents.{Content, empty_content, AreTables, AreNumbered}
+use Rattle.mail_records.specs.Contents.{Content, empty_content, AreTables, AreNumbered, NextAtMost}
 use Rattle.mail_records.specs.Edits.{id_of, after_edits, AllFit}
 use Rattle.mail_records.specs.declared.records.Email.{Email}
 use Rattle.mail_records.specs.declared.edits.Edit.{Edit}
@@ -141,12 +141,15 @@ pub record FloorsAtMost (floors : Floors) (floor : ℕ) : Type 0 where
   pub email : floors.email ≤ floor
   pub thread : floors.thread ≤ floor
 
--- What holds of each history from its beginning on: each kind's floor position is at most the floor, and the base is in
--- number order with each number below its kind's next one. Edits that fit keep the latter two.
+-- What holds of each history from its beginning on: the floor is at most 2^52 and each kind's floor position at most the
+-- floor, and the base is in number order with each number below its kind's next one, and each next number at most the floor
+-- plus 1. Edits that fit keep the base's part: a next number is then at most the last position plus 1.
 pub record IsFounded (h : History) : Type 0 where
+  pub low : h.floor ≤ 2 ^ 52
   pub floors : FloorsAtMost h.floors h.floor
   pub tables : AreTables h.base
   pub numbered : AreNumbered h.base
+  pub next : NextAtMost (h.floor + 1) h.base
 
 -- the thread that the edit names for its email is this one
 abbrev pub NamesThread : (ℕ → ℕ) → Edit → Type 0

@@ -1,7 +1,7 @@
-// Whether edits fit a content, and lists of edits applied whole.
-ghost use Rattle.std.specs.Prelude.{◌≡◌, ◌↔◌, ◌≤◌, ◌<◌, ⊤, Some, None, IsTrue, true, is_some, IfOk, MatchOption, length};
+// Whether edits fit a content and keep the threads of emails, and lists of edits applied whole.
+ghost use Rattle.std.specs.Prelude.{◌≡◌, ◌↔◌, ◌+◌, ◌≤◌, ◌<◌, ⊤, Some, None, IsTrue, true, is_some, IfOk, MatchOption, length};
 ghost use Rattle.mail_records.specs.Contents.{email_number};
-ghost use Rattle.mail_records.specs.Edits.{AllFit, Fits, HasNumbers, IsSmall, PutFits, after_edits};
+ghost use Rattle.mail_records.specs.Edits.{AllFit, AllKeepThread, Fits, HasNumbers, IsSmall, KeepsThread, PutFits, after_edits};
 ghost use Rattle.mail_records.specs.Tables.{lookup};
 ghost use Rattle.mail_records.specs.declared.records.Email.{Email as TheEmail};
 ghost use Rattle.std.specs.List.{AllByRecursion};
@@ -54,13 +54,39 @@ pub fn fits(content: &Content, edit: &Edit) -> bool
     }
 }
 
+fn stays_in_thread(table: &Table<Email>, number: u64, thread: u64) -> bool
+    ensures { IsTrue result ↔ ((x : TheEmail) → lookup email_number number table.now.rows ≡ Some x → x.thread ≡ thread) }
+{
+    match table.get(number) {
+        Some(old) => old.thread == thread,
+        None => true,
+    }
+}
+
+/// Whether an edit keeps the thread of its email: it isn't the put of an email in the place of one of another thread.
+pub fn keeps_thread(content: &Content, edit: &Edit) -> bool
+    ensures { IsTrue result ↔ KeepsThread content.now.content edit.now }
+{
+    match edit {
+        Edit::PutEmail { item, .. } => {
+            stays_in_thread(&content.emails, item.number, item.thread)
+        }
+        Edit::PutMailbox { .. }
+        | Edit::DropMailbox { .. }
+        | Edit::DropEmail { .. }
+        | Edit::PutThread { .. }
+        | Edit::DropThread { .. } => true,
+    }
+}
+
 /// Applies edits of which each fits the content before it, and for which room stands ready. It takes no memory.
 pub fn apply_all_ready(content: &mut Content, edits: Edits)
     requires room { length edits ≤ content.old.spare }
     requires fits { AllFit content.old.content edits }
     requires next { HasNumbers (length edits) content.old.content }
     requires small { AllByRecursion IsSmall edits }
-    ensures { content.new.content ≡ after_edits content.old.content edits }
+    ensures content { content.new.content ≡ after_edits content.old.content edits }
+    ensures spare { content.old.spare ≤ content.new.spare + length edits }
 {
     let mut rest = VecDeque::from_vec(edits.into_vec());
     while let Some(edit) = rest.pop_front() {
@@ -68,22 +94,37 @@ pub fn apply_all_ready(content: &mut Content, edits: Edits)
     }
 }
 
-/// The content after these edits, or None where one of them doesn't fit the content before it.
+/// What comes of edits of which each fits the content before it.
+#[derive(Drop)]
+pub struct Applied {
+    /// The content after them.
+    pub content: Content,
+    /// Whether each of them keeps the thread of its email.
+    pub keeps_threads: bool,
+}
+
+/// Applies edits one after the other, or answers None where one of them doesn't fit the content before it.
 pub fn apply_fitting(
     alloc: Global,
     content: Content,
     edits: &[Edit],
-) -> Result<Option<Content>, NoMemory>
+) -> Result<Option<Applied>, NoMemory>
     requires { HasNumbers (length edits.now) content.content }
-    ensures fits { IfOk result (λ o. MatchOption o (¬ AllFit content.content edits.now) (λ c. AllFit content.content edits.now)) }
-    ensures content { IfOk result (λ o. MatchOption o ⊤ (λ c. c.content ≡ after_edits content.content edits.now)) }
+    ensures fits { IfOk result (λ o. MatchOption o (¬ AllFit content.content edits.now) (λ a. AllFit content.content edits.now)) }
+    ensures content { IfOk result (λ o. MatchOption o ⊤ (λ a. a.content.content ≡ after_edits content.content edits.now)) }
+    ensures threads { IfOk result (λ o. MatchOption o ⊤ (λ a. IsTrue a.keeps_threads ↔ AllKeepThread content.content edits.now)) }
 {
     let mut made = content;
+    let mut keeps_threads = true;
     for edit in edits {
         if !fits(&made, edit) {
             return Ok(None);
         }
+        keeps_threads = keeps_threads && keeps_thread(&made, edit);
         apply(alloc, &mut made, edit)?;
     }
-    Ok(Some(made))
+    Ok(Some(Applied {
+        content: made,
+        keeps_threads,
+    }))
 }

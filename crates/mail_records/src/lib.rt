@@ -16,6 +16,6 @@ mod tests;
 
 pub use content::{Content, apply};
 pub use edits::{Commit, Edit, Edits, Stamp, copy_edits};
-pub use fitting::{apply_all_ready, apply_fitting, fits};
+pub use fitting::{Applied, apply_all_ready, apply_fitting, fits, keeps_thread};
 pub use records::{Email, Mailbox, Summary, Thread};
 pub use table::{Record, Table};

@@ -1,7 +1,7 @@
 // Edits of a small account, one after the other.
 use crate::{
     Content, Edit, Edits, Email, Mailbox, Summary, Thread, apply, apply_all_ready, apply_fitting,
-    copy_edits, fits,
+    copy_edits, fits, keeps_thread,
 };
 use jm_base::{Kind, NoMemory, Numbers, Text, Texts, UtcDate};
 use std::alloc::Global;
@@ -39,7 +39,7 @@ fn summary(alloc: Global) -> Result<Summary, NoMemory> {
     })
 }
 
-fn put_email(alloc: Global, number: u64, thread: u64) -> Result<Edit, NoMemory> {
+fn put_email(alloc: Global, number: u64, thread: u64, was: bool) -> Result<Edit, NoMemory> {
     let item = Email {
         number,
         thread,
@@ -50,7 +50,7 @@ fn put_email(alloc: Global, number: u64, thread: u64) -> Result<Edit, NoMemory> 
         received: UtcDate { seconds: 0 },
         summary: summary(alloc)?,
     };
-    Ok(Edit::PutEmail { item, was: false })
+    Ok(Edit::PutEmail { item, was })
 }
 
 fn put_thread(alloc: Global, number: u64) -> Edit {
@@ -93,7 +93,7 @@ fn mailbox_edits(alloc: Global) -> Result<Vec<Edit>, NoMemory> {
 fn email_edits(alloc: Global) -> Result<Vec<Edit>, NoMemory> {
     let mut edits = Vec::new(alloc);
     edits.push(put_thread(alloc, 1))?;
-    edits.push(put_email(alloc, 1, 1)?)?;
+    edits.push(put_email(alloc, 1, 1, false)?)?;
     edits.push(Edit::DropEmail {
         number: 1,
         thread: 2,
@@ -152,6 +152,27 @@ fn edits_go_in_together(rt: HostRuntime) -> Result<(), Fail> {
     assert!(rt; some.is_none());
     let none = apply_fitting(rt.alloc(), Content::new(rt.alloc()), &[])?;
     assert!(rt; none.is_some());
+    Ok(())
+}
+
+// Whether an email of thread 1 that is put again, with this thread, keeps it.
+fn stays(alloc: Global, thread: u64) -> Result<Option<bool>, NoMemory> {
+    let mut edits = Vec::new(alloc);
+    edits.push(put_email(alloc, 1, 1, false)?)?;
+    edits.push(put_email(alloc, 1, thread, true)?)?;
+    let applied = apply_fitting(alloc, Content::new(alloc), &edits)?;
+    Ok(applied.map(|applied| applied.keeps_threads))
+}
+
+#[test]
+fn an_email_stays_in_its_thread(rt: HostRuntime) -> Result<(), Fail> {
+    let alloc = rt.alloc();
+    assert!(rt; stays(alloc, 1)? == Some(true) && stays(alloc, 2)? == Some(false));
+    let mut content = Content::new(alloc);
+    let put = put_email(alloc, 1, 1, false)?;
+    assert!(rt; keeps_thread(&content, &put) && enters(&rt, alloc, &mut content, &put)?);
+    let moved = put_email(alloc, 1, 2, true)?;
+    assert!(rt; fits(&content, &moved) && !keeps_thread(&content, &moved));
     Ok(())
 }
 

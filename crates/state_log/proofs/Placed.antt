@@ -73,6 +73,7 @@ pub Keeps-push : (floor : ℕ) (floors states moved : Floors) (notes : List Note
     → Keeps floor floors moved (notes ++ note ∷ [])
 Keeps-push floor floors states moved notes note position keeps short at mailbox email thread = record {
   short = let e : length (notes ++ note ∷ []) ≡ length notes + 1 = length-append notes (note ∷ []) in omega arith;
+  low = keeps.low;
   mailbox = moved_on OfMailbox floor floors notes note position states.mailbox moved.mailbox at keeps.mailbox mailbox;
   email = moved_on OfEmail floor floors notes note position states.email moved.email at keeps.email email;
   thread = moved_on OfThread floor floors notes note position states.thread moved.thread at keeps.thread thread;

@@ -4,7 +4,7 @@ use Rattle.jm_base.specs.declared.identifiers.Id.{Id}
 use Rattle.jm_base.specs.declared.identifiers.Kind.{Kind}
 use Rattle.jm_base.specs.declared.identifiers.Kind.TheVariants.{Mailbox as OfMailbox, Email as OfEmail, Thread as OfThread}
 use Rattle.mail_records.specs.Edits.{id_of, named_thread}
-use Rattle.mail_records.specs.Histories.{History, Floors, edits_of}
+use Rattle.mail_records.specs.Histories.{History, Floors, FloorsAtMost, edits_of}
 use Rattle.mail_records.specs.States.{is_kind, last_position}
 use Rattle.mail_records.specs.declared.edits.Edit.{Edit}
 use Rattle.mail_records.specs.declared.edits.Edit.TheVariants.{PutMailbox, PutEmail, PutThread}
@@ -65,9 +65,11 @@ pub record IsLogOf (h : History) (l : Notes) : Type 0 where
   pub floors : l.floors ≡ h.floors
   pub notes : l.notes ≡ map note_of (edits_of h)
 
--- what the fields of a log keep: its last position is of 64 bits, and the state of each kind is known
+-- what the fields of a log keep: its last position is of 64 bits, each kind's floor position is at most the floor, and the
+-- state of each kind is known
 pub record Keeps (floor : ℕ) (floors states : Floors) (notes : List Note) : Type 0 where
   pub short : floor + length notes < 2 ^ 64
+  pub low : FloorsAtMost floors floor
   pub mailbox : states.mailbox ≡ last_position OfMailbox floor floors (ids_in notes)
   pub email : states.email ≡ last_position OfEmail floor floors (ids_in notes)
   pub thread : states.thread ≡ last_position OfThread floor floors (ids_in notes)

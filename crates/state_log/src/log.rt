@@ -113,14 +113,16 @@ impl Log {
 
     /// The state of a kind: the position of its last edit, else its position at the floor.
     pub fn state_of(&self, kind: Kind) -> u64
-        ensures { result ≡ last_position kind self.now.floor self.now.floors (ids_in self.now.notes) }
+        ensures state { result ≡ last_position kind self.now.floor self.now.floors (ids_in self.now.notes) }
+        ensures reached { (floor_of self.now.floors kind ≤ result) × (result ≤ log_end self.now) }
     {
         position_of(&self.states, kind)
     }
 
     /// The state of a kind at a position: the position of its last edit up to there, else its position at the floor.
     pub fn state_at(&self, kind: Kind, position: u64) -> u64
-        ensures { result ≡ last_position kind self.now.floor self.now.floors (take (position - self.now.floor) (ids_in self.now.notes)) }
+        ensures state { result ≡ last_position kind self.now.floor self.now.floors (take (position - self.now.floor) (ids_in self.now.notes)) }
+        ensures reached { (floor_of self.now.floors kind ≤ result) × (result ≤ log_end self.now) }
     {
         match last_place(self.notes_upto(position), kind) {
             Some(place) => self.floor + place as u64,
@@ -230,7 +232,8 @@ impl Log {
 pub fn note_all_ready(log: &mut Log, edits: &[Edit])
     requires room { length edits.now ≤ log.old.spare }
     requires short { log_end log.old + length edits.now < 2 ^ 64 }
-    ensures { log.new ≡ record log.old { notes = log.old.notes ++ map note_of edits.now; spare = log.new.spare } }
+    ensures noted { log.new ≡ record log.old { notes = log.old.notes ++ map note_of edits.now; spare = log.new.spare } }
+    ensures spare { log.old.spare ≤ log.new.spare + length edits.now }
 {
     for edit in edits {
         log.note_ready(edit);

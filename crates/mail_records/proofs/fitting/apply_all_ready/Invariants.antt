@@ -1,4 +1,4 @@
-use Rattle.std.proofs.Common.{◌≡◌, ◌≤◌, length}
+use Rattle.std.proofs.Common.{◌≡◌, ◌+◌, ◌≤◌, length}
 use Rattle.std.specs.List.{AllByRecursion}
 use Rattle.mail_records.specs.Edits.{AllFit, HasNumbers, IsSmall, after_edits}
 use Rattle.mail_records.proofs.fitting.apply_all_ready.Given as goal
@@ -8,6 +8,7 @@ invariant-loop-edit l = record {
   made : after_edits l.content.content l.rest.items ≡ after_edits l.fn.content.content l.fn.edits;
   fits : AllFit l.content.content l.rest.items;
   room : length l.rest.items ≤ l.content.spare;
+  lowered : l.fn.content.spare + length l.rest.items ≤ l.content.spare + length l.fn.edits;
   next : HasNumbers (length l.rest.items) l.content.content;
   small : AllByRecursion IsSmall l.rest.items;
 }
