@@ -1,0 +1,4 @@
+use Rattle.get_calls.proofs.get.get.Goals as goal
+
+pub returns : goal.returns
+returns c = ?
