@@ -1,0 +1,176 @@
+-- What the rules of mail promise of plans, and of when an account is whole.
+use Rattle.std.proofs.Common.{◌≡◌, ◌↔◌, ℕ, ◌+◌, ◌≤◌, Bool, true, false, not, List, [], ◌∷◌, ◌++◌, None, filter, flat_map, length, refl, sym, ap, ap₂, ◌∙◌, subst, ◌^◌, arith, length-append, append-nil, append_assoc}
+use Rattle.std.specs.List.{AllByRecursion}
+use Rattle.mail_records.specs.Commits.{IsFormed, IsFormedEdit}
+use Rattle.mail_records.specs.Contents.{Content, NextAtMost}
+use Rattle.mail_records.specs.Edits.{AllFit, IsSmall, after_edits}
+use Rattle.mail_records.specs.Histories.{History, Entry, Committed, Refused, IsSound, NamesThread, HasOneThread, entry_edits, entry_blobs, is_refused, edits_in, blobs_in, edits_of, blobs_of, content_of, end_of, empty_history, grown}
+use Rattle.mail_records.specs.declared.edits.Edit.{Edit}
+use Rattle.mail_records.specs.declared.edits.Edit.TheVariants.{PutMailbox}
+use Rattle.mail_records.specs.declared.edits.Commit.{Commit}
+use Rattle.mail_records.specs.declared.edits.Stamp.{Stamp}
+use Rattle.mail_records.specs.declared.records.Email.{Email}
+use Rattle.mail_records.specs.declared.records.Summary.{Summary}
+use Rattle.mail_records.proofs.Growth.{AllFit-append, NextAtMost-after_edits, all_map}
+use Rattle.mail_records.proofs.Prefixes.{IsSound-empty, edits_of-grown, content_of-grown, end_of-grown, blobs_of-grown}
+use Rattle.mail_counts.specs.Derived.{LeavesEmails}
+use Rattle.mail_counts.specs.Tidy.{IsTidy}
+use Rattle.mail_counts.proofs.Growth.{IsTidy-empty}
+use Rattle.mail_counts.proofs.Kept.{emails-after_edits}
+use Rattle.account_book.specs.Accounts.{IsBounded}
+use Rattle.account_book.specs.Laws.{IsPlanFor, without_refusals}
+use Rattle.account_book.specs.Replies.{IsWithin, commit_of, edit_bytes, edit_limit}
+use Rattle.account_book.specs.declared.asks.Ask.{Ask}
+use Rattle.account_book.specs.declared.asks.Ask.TheVariants.{Method, Upload, Blob, Fetch, Place, States}
+use Rattle.account_book.specs.declared.asks.Call.{Call}
+use Rattle.account_book.specs.declared.plans.Plan.{Plan}
+use Rattle.mail_calls.specs.Plans.{call_plan, ask_plan}
+use Rattle.mail_calls.specs.Whole.{IsWhole, HasMessage, AreBlobsFew}
+use Rattle.mail_calls.proofs.Sets.{IsNew, Keeps, call_keeps}
+
+-- whole, whatever the summary of a message is
+abbrev pub IsWholeAlways : History → Type 0
+IsWholeAlways h = (summary : List ℕ → Summary) → IsWhole summary edit_bytes h
+
+no_summary : List ℕ → Summary
+no_summary bytes = record { links = []; subject = []; from = []; to = []; sent = None; attachment = false }
+
+plan_keeps_tidy : (h : History) (call : Call) → IsWholeAlways h → Keeps (content_of h) (call_plan h call)
+plan_keeps_tidy h call whole = call_keeps h call (whole no_summary).tidy
+
+-- ---- of a plan
+
+pub plan_fits : (h : History) (call : Call) → IsWholeAlways h → AllFit (content_of h) (call_plan h call).edits
+plan_fits h call whole = (plan_keeps_tidy h call whole).fits
+
+small_new : (e : Edit) → IsNew e → IsSmall e
+small_new e new = subst IsSmall (sym new.1) tt
+
+pub plan_small : (h : History) (call : Call) → IsWholeAlways h → AllByRecursion IsSmall (call_plan h call).edits
+plan_small h call whole = all_map IsNew IsSmall (call_plan h call).edits small_new (plan_keeps_tidy h call whole).new
+
+formed_new : (e : Edit) → IsNew e → IsFormedEdit e
+formed_new e new = subst IsFormedEdit (sym new.1) tt
+
+pub plan_formed : (h : History) (call : Call) (stamp : Stamp) → IsWholeAlways h → IsFormed (commit_of (call_plan h call) stamp)
+plan_formed h call stamp whole = all_map IsNew IsFormedEdit (call_plan h call).edits formed_new (plan_keeps_tidy h call whole).new
+
+ask_reads : (h : History) (ask : Ask) (call : Call) → IsPlanFor ask (ask_plan h ask call.made call.read_only)
+ask_reads h (Method c) call = tt
+ask_reads h (Upload bytes) call = refl
+ask_reads h (Blob name) call = (refl, refl)
+ask_reads h (Fetch c) call = (refl, refl)
+ask_reads h (Place c carried) call = tt
+ask_reads h States call = (refl, refl)
+
+pub plan_reads : (h : History) (call : Call) → IsPlanFor call.ask (call_plan h call)
+plan_reads h call = ask_reads h call.ask call
+
+-- ---- of an account that grows by a plan's commit
+
+names_new : (thread_of : ℕ → ℕ) (e : Edit) → IsNew e → NamesThread thread_of e
+names_new thread_of e new = subst (NamesThread thread_of) (sym new.1) tt
+
+leaves_new : (e : Edit) → IsNew e → LeavesEmails e
+leaves_new e new = subst LeavesEmails (sym new.1) refl
+
+all_append : {A : Type 0} (P : A → Type 0) (xs ys : List A) → AllByRecursion P xs → AllByRecursion P ys → AllByRecursion P (xs ++ ys)
+all_append P [] ys h k = k
+all_append P (x ∷ xs) ys h k = (h.0, all_append P xs ys h.1 k)
+
+sound_grown : (h : History) (c : Commit) → IsSound h → AllFit (content_of h) c.edits → AllByRecursion IsNew c.edits → IsSound (grown h (Committed c))
+sound_grown h c sound fit new =
+    let all : edits_of h ++ c.edits ≡ edits_of (grown h (Committed c)) = sym (edits_of-grown h (Committed c)) in
+    let one = sound.one_thread in
+    let named : AllByRecursion (NamesThread one.0) (edits_of h ++ c.edits) =
+    all_append (NamesThread one.0) (edits_of h) c.edits one.1.in_edits (all_map IsNew (NamesThread one.0) c.edits (names_new one.0) new) in
+    record {
+      fits = subst (AllFit h.base) all (AllFit-append (edits_of h) c.edits h.base sound.fits fit);
+      one_thread = (one.0, record { in_base = one.1.in_base; in_edits = subst (AllByRecursion (NamesThread one.0)) all named });
+    }
+
+grown_whole : (summary : List ℕ → Summary) (h : History) (p : Plan) (stamp : Stamp) → IsWhole summary edit_bytes h → Keeps (content_of h) p → IsWithin edit_bytes h p.edits
+    → IsWhole summary edit_bytes (grown h (Committed (commit_of p stamp)))
+grown_whole summary h p stamp w keep within =
+    let g = grown h (Committed (commit_of p stamp)) in
+    let content : content_of g ≡ after_edits (content_of h) p.edits = content_of-grown h (Committed (commit_of p stamp)) in
+    let blobs : blobs_of g ≡ blobs_of h = blobs_of-grown h (Committed (commit_of p stamp)) ∙ ap (λ bs. blobs_of h ++ bs) keep.blobs ∙ append-nil (blobs_of h) in
+    let emails : (content_of g).emails ≡ (content_of h).emails =
+    ap (λ (c : Content). c.emails) content ∙ emails-after_edits p.edits (content_of h) (all_map IsNew LeavesEmails p.edits leaves_new keep.new) in
+    let edits : length (edits_of g) ≡ length (edits_of h) + length p.edits = ap length (edits_of-grown h (Committed (commit_of p stamp))) ∙ length-append (edits_of h) p.edits in
+    let last : end_of g ≡ end_of h + length p.edits = end_of-grown h (Committed (commit_of p stamp)) in
+    let next : NextAtMost ((end_of h + 1) + length p.edits) (after_edits (content_of h) p.edits) = NextAtMost-after_edits p.edits (end_of h + 1) (content_of h) keep.fits w.next in
+    let same : (end_of h + 1) + length p.edits ≡ end_of g + 1 = omega (arith, last) in
+    record {
+      sound = sound_grown h (commit_of p stamp) w.sound keep.fits keep.new;
+      tidy = subst IsTidy (sym content) keep.tidy;
+      messages = subst (λ (bs : List (List ℕ)). AllByRecursion (HasMessage summary bs) (content_of g).emails) (sym blobs) (subst (AllByRecursion (HasMessage summary (blobs_of h))) (sym emails) w.messages);
+      blobs = subst AreBlobsFew (sym blobs) w.blobs;
+      limit = omega (arith, edits, within);
+      low = w.low;
+      next = subst (λ (c : Content). NextAtMost (end_of g + 1) c) (sym content) (subst (λ n. NextAtMost n (after_edits (content_of h) p.edits)) same next);
+    }
+
+pub plan_keeps : (h : History) (call : Call) (stamp : Stamp) → IsWholeAlways h → IsWithin edit_bytes h (call_plan h call).edits → IsWholeAlways (grown h (Committed (commit_of (call_plan h call) stamp)))
+plan_keeps h call stamp whole within summary = grown_whole summary h (call_plan h call) stamp (whole summary) (plan_keeps_tidy h call whole) within
+
+-- ---- of each whole account
+
+pub whole_sound : (h : History) → IsWholeAlways h → IsSound h
+whole_sound h whole = (whole no_summary).sound
+
+pub whole_limits : (h : History) → IsWholeAlways h → edit_bytes (edits_of h) ≤ edit_limit
+whole_limits h whole = (whole no_summary).limit
+
+-- ---- refusals play no part
+
+edits_unrefused : (es : List Entry) → edits_in (filter (λ (e : Entry). not (is_refused e)) es) ≡ edits_in es
+edits_unrefused [] = refl
+edits_unrefused (Committed c ∷ es) = ap (λ xs. c.edits ++ xs) (edits_unrefused es)
+edits_unrefused (Refused s ∷ es) = edits_unrefused es
+
+blobs_unrefused : (es : List Entry) → blobs_in (filter (λ (e : Entry). not (is_refused e)) es) ≡ blobs_in es
+blobs_unrefused [] = refl
+blobs_unrefused (Committed c ∷ es) = ap (λ xs. c.blobs ++ xs) (blobs_unrefused es)
+blobs_unrefused (Refused s ∷ es) = blobs_unrefused es
+
+-- two histories with one floor, one base, the same edits and the same blobs
+same_whole : (summary : List ℕ → Summary) (h g : History) → h.floor ≡ g.floor → h.base ≡ g.base → edits_of h ≡ edits_of g → blobs_of h ≡ blobs_of g → IsWhole summary edit_bytes h → IsWhole summary edit_bytes g
+same_whole summary h g floor base edits blobs w =
+    let one = w.sound.one_thread in
+    let content : content_of h ≡ content_of g = ap₂ after_edits base edits in
+    let last : end_of h ≡ end_of g = ap₂ (λ (f : ℕ) (es : List Edit). f + length es) floor edits in
+    record {
+      sound = record {
+        fits = subst (AllFit g.base) edits (subst (λ (c : Content). AllFit c (edits_of h)) base w.sound.fits);
+        one_thread = (one.0, record {
+          in_base = subst (λ (c : Content). AllByRecursion (λ (x : Email). one.0 x.number ≡ x.thread) c.emails) base one.1.in_base;
+          in_edits = subst (AllByRecursion (NamesThread one.0)) edits one.1.in_edits;
+        });
+      };
+      tidy = subst IsTidy content w.tidy;
+      messages = subst (λ (c : Content). AllByRecursion (HasMessage summary (blobs_of g)) c.emails) content (subst (λ (bs : List (List ℕ)). AllByRecursion (HasMessage summary bs) (content_of h).emails) blobs w.messages);
+      blobs = subst AreBlobsFew blobs w.blobs;
+      limit = subst (λ (es : List Edit). edit_bytes es ≤ edit_limit) edits w.limit;
+      low = subst (λ n. n ≤ 2 ^ 52) floor w.low;
+      next = subst (λ n. NextAtMost (n + 1) (content_of g)) last (subst (NextAtMost (end_of h + 1)) content w.next);
+    }
+
+pub whole_ignores : (h : History) → IsWholeAlways (without_refusals h) ↔ IsWholeAlways h
+whole_ignores h =
+    let edits : edits_of (without_refusals h) ≡ edits_of h = edits_unrefused h.entries in
+    let blobs : blobs_of (without_refusals h) ≡ blobs_of h = ap (λ bs. h.base_blobs ++ bs) (blobs_unrefused h.entries) in (
+      λ whole summary. same_whole summary (without_refusals h) h refl refl edits blobs (whole summary),
+      λ whole summary. same_whole summary h (without_refusals h) refl refl (sym edits) (sym blobs) (whole summary),
+    )
+
+pub whole_empty : IsWholeAlways empty_history
+whole_empty summary = record {
+  sound = IsSound-empty;
+  tidy = IsTidy-empty;
+  messages = tt;
+  blobs = record { count = omega arith; bytes = omega arith };
+  limit = omega arith;
+  low = omega arith;
+  next = record { mailbox = omega arith; email = omega arith; thread = omega arith };
+}

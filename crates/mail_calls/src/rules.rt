@@ -1,0 +1,62 @@
+// The rules of mail accounts.
+ghost use Rattle.std.specs.Prelude.{◌≡◌};
+
+use crate::plans::{plan_method, silent};
+use account_book::{Account, Ask, Call, Plan, Rules};
+use jm_base::NoMemory;
+use std::alloc::Global;
+
+/// The rules of mail accounts. What a call plans stands in `specs/Plans.antt`, and when an account is whole in
+/// `specs/Whole.antt`: until messages are summed up, it is whole whatever the summary of a message is.
+#[derive(Drop)]
+pub struct MailRules;
+
+impl Rules for MailRules {
+    ghost use Rattle.std.specs.Prelude.{ℕ, List};
+    ghost use Rattle.mail_records.specs.declared.records.Summary.{Summary};
+    ghost use Rattle.account_book.specs.Replies.{edit_bytes};
+    ghost use Rattle.mail_calls.specs.Plans.{call_plan};
+    ghost use Rattle.mail_calls.specs.Whole.{IsWhole};
+    ghost use Rattle.mail_calls.proofs.Laws.{plan_fits, plan_small, plan_formed, plan_keeps, plan_reads, whole_sound, whole_limits, whole_ignores, whole_empty};
+
+    ghost plan_of = { λ r h call moment. call_plan h call };
+
+    ghost is_whole = { λ r h. (summary : List ℕ → Summary) → IsWhole summary edit_bytes h };
+
+    fn plan(
+        &self,
+        alloc: Global,
+        account: &Account,
+        call: &Call,
+        _moment: u64,
+    ) -> Result<Plan, NoMemory> {
+        match &call.ask {
+            Ask::Method(method) => {
+                plan_method(alloc, account, method, &call.made, call.read_only)
+            }
+            Ask::Upload(_)
+            | Ask::Blob(_)
+            | Ask::Fetch(_)
+            | Ask::Place(_, _)
+            | Ask::States => Ok(silent(alloc)),
+        }
+    }
+
+    ghost fits = { λ r h call moment low whole. plan_fits h call whole };
+
+    ghost small = { λ r h call moment low whole. plan_small h call whole };
+
+    ghost formed = { λ r h call moment stamp low whole. plan_formed h call stamp whole };
+
+    ghost keeps = { λ r h call moment stamp low whole within. plan_keeps h call stamp whole within };
+
+    ghost reads = { λ r h call moment low whole. plan_reads h call };
+
+    ghost sound = { λ r h whole. whole_sound h whole };
+
+    ghost limits = { λ r h whole. whole_limits h whole };
+
+    ghost ignores = { λ r h. whole_ignores h };
+
+    ghost empty = { λ r. whole_empty };
+}

@@ -1,0 +1,1 @@
+// Plans over an account in which nothing has been yet.
