@@ -2,6 +2,8 @@
 #![tactic(auto)]
 
 mod batch;
+#[cfg(test)]
+mod edge_tests;
 mod ending;
 mod leaves;
 mod line;
