@@ -88,7 +88,8 @@ fn reads_multiparts_within_one_another(rt: HostRuntime) -> Result<(), Fail> {
     }
     let done = reads(&rt, alloc, message, never(alloc), never(alloc))?;
     assert_eq!(rt; done.status, Status(0));
-    let line = "{\"parts\":[{\"partId\":\"1\",\"size\":6,\"type\":\"application/octet-stream\"}]}\n";
+    let line =
+        "{\"parts\":[{\"partId\":\"1\",\"size\":6,\"type\":\"application/octet-stream\"}]}\n";
     assert_eq!(rt; done.out.as_slice(), line.as_bytes());
     Ok(())
 }
