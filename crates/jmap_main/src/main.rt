@@ -8,6 +8,8 @@ mod ending;
 mod leaves;
 mod line;
 mod read;
+#[cfg(test)]
+mod read_tests;
 mod run;
 #[cfg(test)]
 mod tests;
