@@ -7,6 +7,7 @@ mod leaves;
 mod line;
 mod read;
 mod run;
+mod steps;
 #[cfg(test)]
 mod tests;
 mod unknown;
