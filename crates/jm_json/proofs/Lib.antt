@@ -9,3 +9,4 @@ pub mod Parsing
 pub mod Parts
 pub mod Removals
 pub mod Patched
+pub mod Prefixes

@@ -1,5 +1,7 @@
 -- Steps of a patch along a path.
-use Rattle.std.proofs.Common.{◌≡◌, ℕ, ◌<◌, ◌≤◌, List, [], ◌∷◌, ◌++◌, length, take, drop, Bool, true, false, cond, ◌==◌, Option, Some, None, is_some, option_map, refl, sym, ap, ◌∙◌, arith, take_all, length-drop, append_assoc}
+use Rattle.std.proofs.Common.{◌≡◌, ℕ, ◌+◌, ◌<◌, ◌≤◌, List, [], ◌∷◌, ◌++◌, length, take, drop, get_or, Bool, true, false, cond, ◌==◌, Option, Some, None, is_some, option_map, refl, sym, ap, ◌∙◌, arith, take_all, length-drop, append_assoc}
+use Rattle.std.proofs.lemmas.Bool.{ne_eqb}
+use Rattle.std.proofs.lemmas.List.{take_more, drop_more}
 use Rattle.jm_json.specs.Tree.{Tree, object, fields_of}
 use Rattle.jm_json.specs.Find.{find}
 use Rattle.jm_json.specs.Pointer.{onto, cut, name_of}
@@ -13,6 +15,21 @@ mapped_some x (Some k) = refl
 pub mapped_twice : (xs : List ℕ) (x : ℕ) (o : Option (List ℕ)) → option_map (λ k. xs ++ k) (option_map (λ k. x ∷ k) o) ≡ option_map (λ k. (xs ++ x ∷ []) ++ k) o
 mapped_twice xs x None = refl
 mapped_twice xs x (Some k) = ap Some (sym (append_assoc xs (x ∷ []) k))
+
+pub mapped_nil : (o : Option (List ℕ)) → o ≡ option_map (λ k. [] ++ k) o
+mapped_nil None = refl
+mapped_nil (Some k) = refl
+
+-- a byte that is not escaped, in a part that begins with its name
+pub plain_step : (part : List ℕ) (i : ℕ) → i < length part → (get_or part i 0 ≡ 126 → ⊥) → (get_or part i 0 ≡ 47 → ⊥) → name_of part ≡ option_map (λ k. take i part ++ k) (name_of (drop i part))
+    → name_of part ≡ option_map (λ k. take (i + 1) part ++ k) (name_of (drop (i + 1) part))
+plain_step part i h tilde slash before =
+    let x = get_or part i 0 in
+    let rest = drop (i + 1) part in
+    let here : drop i part ≡ x ∷ rest = drop_more part i 0 h in
+    let name : name_of (x ∷ rest) ≡ option_map (λ k. x ∷ k) (name_of rest) = rw (ne_eqb x 126 tilde, ne_eqb x 47 slash) refl in
+    before ∙ ap (λ s. option_map (λ k. take i part ++ k) (name_of s)) here ∙ ap (option_map (λ k. take i part ++ k)) name
+    ∙ mapped_twice (take i part) x (name_of rest) ∙ ap (λ xs. option_map (λ k. xs ++ k) (name_of rest)) (sym (take_more part i 0 h))
 
 -- there is a first part
 onto_shape : (x : ℕ) (ps : List (List ℕ)) → (q : List ℕ) × (qs : List (List ℕ)) × (onto x ps ≡ q ∷ qs)

@@ -1,29 +1,24 @@
--- A member put into an object: where it goes, and that keys still rise.
-use Rattle.std.proofs.Common.{Result, Ok, Err, OnOk, OnErr, ◌≡◌, ℕ, zero, suc, ◌+◌, ◌-◌, ◌<◌, ◌≤◌, List, set, insert, [], ◌∷◌, ◌++◌, map, take, drop, length, get_or, Less, Equal, Greater, Ordering, refl, sym, ap, ◌∙◌, subst, append_assoc, arith, add-one}
-use Rattle.std.proofs.lemmas.List.{take_more, drop_more, map-set, get_or-map, length-map}
-use Rattle.std.specs.Ordering.{nat_cmp, ordering_reverse}
+-- A key in an object: its place, what is found, put or taken away there, and that keys still rise.
+use Rattle.std.proofs.Common.{Result, Ok, Err, OnOk, OnErr, ◌≡◌, ℕ, zero, suc, ◌+◌, ◌<◌, true, false, Some, None, List, set, insert, [], ◌∷◌, ◌++◌, map, take, drop, length, get_or, Less, Equal, Greater, Ordering, refl, sym, ap, ◌∙◌, subst, arith, add-one, bytes_eq}
+use Rattle.std.proofs.lemmas.List.{take_more, drop_more, take-append-drop, map-set, get_or-map, length-map}
+use Rattle.std.specs.Ordering.{nat_cmp, ordering_reverse, is_eq}
 use Rattle.std.specs.Cmp.Lexicographic.{slice_cmp, nat_list_cmp_total}
-use Rattle.std.specs.List.{AllByRecursion}
 use Rattle.std.specs.List.Sorted.{IsStrictlySortedBy}
-use Rattle.std.specs.Map.{keys_of}
 use Rattle.jm_json.specs.Tree.{Tree}
 use Rattle.jm_base.specs.declared.memory.NoMemory.{NoMemory}
+use Rattle.std.proofs.lemmas.Cmp.{tied_itself}
+use Rattle.std.proofs.lemmas.Slice.Eq.{bytes_eq-Decides}
+use Rattle.std.proofs.lemmas.Map.Text.{is_eq-slice_cmp}
+use Rattle.jm_json.specs.Find.{find}
+use Rattle.jm_json.specs.Patch.{take_away}
 use Rattle.jm_json.specs.Order.{KeysRise, put}
-use Rattle.jm_json.specs.Json.{member_of}
-use Rattle.jm_json.specs.Place.{IsPlace}
+use Rattle.jm_json.specs.Json.{tree_of, member_of}
+use Rattle.jm_json.specs.Place.{AllBelow, AllAbove, IsPlace}
 use Rattle.jm_json.specs.declared.tree.Member.{Member}
 use Rattle.jm_json.specs.declared.tree.Place.TheVariants.{Held, New}
 
 abbrev Pairs : Type 0
 Pairs = List (List ℕ × Tree)
-
--- each key is below k
-abbrev AllBelow : List ℕ → Pairs → Type 0
-AllBelow k ms = AllByRecursion (λ y. slice_cmp nat_cmp k y ≡ Greater) (keys_of ms)
-
--- each key is above k
-abbrev AllAbove : List ℕ → Pairs → Type 0
-AllAbove k ms = AllByRecursion (λ y. slice_cmp nat_cmp k y ≡ Less) (keys_of ms)
 
 turned : (x y : List ℕ) → slice_cmp nat_cmp x y ≡ Greater → slice_cmp nat_cmp y x ≡ Less
 turned x y e = nat_list_cmp_total.antisymm y x ∙ ap ordering_reverse e
@@ -57,28 +52,6 @@ unfolding IsStrictlySortedBy
 KeysRise-put k t [] rise = (tt, tt)
 KeysRise-put k t (m ∷ ms) rise = rises_at _ k t m ms refl rise (KeysRise-put k t ms rise.1)
 
--- ---- a member above the key stays behind it
-
-put_above_at : (o : Ordering) (k : List ℕ) (t : Tree) (x : List ℕ × Tree) (xs ys : Pairs) → slice_cmp nat_cmp k x.0 ≡ o
-    → put k t (xs ++ ys) ≡ put k t xs ++ ys → put k t ((x ∷ xs) ++ ys) ≡ put k t (x ∷ xs) ++ ys
-put_above_at Less k t x xs ys e h = rw e refl
-put_above_at Equal k t x xs ys e h = rw e refl
-put_above_at Greater k t x xs ys e h = rw e (ap (λ zs. x ∷ zs) h)
-
-pub put_above : (k : List ℕ) (t : Tree) (xs : Pairs) (m : List ℕ × Tree) (ys : Pairs) → slice_cmp nat_cmp k m.0 ≡ Less → put k t (xs ++ m ∷ ys) ≡ put k t xs ++ m ∷ ys
-put_above k t [] m ys e = rw e refl
-put_above k t (x ∷ xs) m ys e = put_above_at _ k t x xs (m ∷ ys) refl (put_above k t xs m ys e)
-
--- a key past all goes last
-pub put_past : (k : List ℕ) (t : Tree) (xs : Pairs) → AllBelow k xs → put k t xs ≡ xs ++ (k, t) ∷ []
-put_past k t [] all = refl
-put_past k t (x ∷ xs) all = rw (all.0) (ap (λ zs. x ∷ zs) (put_past k t xs all.1))
-
--- a key that is there last takes its place
-pub put_last : (k : List ℕ) (t : Tree) (xs : Pairs) (m : List ℕ × Tree) → AllBelow k xs → slice_cmp nat_cmp k m.0 ≡ Equal → put k t (xs ++ m ∷ []) ≡ xs ++ (k, t) ∷ []
-put_last k t [] m all e = rw e refl
-put_last k t (x ∷ xs) m all e = rw (all.0) (ap (λ zs. x ∷ zs) (put_last k t xs m all.1 e))
-
 -- ---- what rises below a key that the key is not below
 
 back : (k x y : List ℕ) (o : Ordering) → slice_cmp nat_cmp k y ≡ o → slice_cmp nat_cmp x y ≡ Less → (o ≡ Less → ⊥) → slice_cmp nat_cmp k x ≡ Greater
@@ -98,71 +71,138 @@ unfolding IsStrictlySortedBy
 below_of k [] m ys rise differs = tt
 below_of k (x ∷ xs) m ys rise differs = (back k x.0 m.0 _ refl (first_below m x xs ys rise.0) differs, below_of k xs m ys rise.1 differs)
 
--- ---- the three ways that a search from the end goes on
+-- what rises above a key that is above another
+pub above_of : (k : List ℕ) (xs : Pairs) (m : List ℕ × Tree) (ys : Pairs) → KeysRise (xs ++ m ∷ ys) → slice_cmp nat_cmp k m.0 ≡ Less → AllAbove k (m ∷ ys)
+unfolding IsStrictlySortedBy
+above_of k [] m ys rise e = (e, above_trans k m.0 ys e rise.0)
+above_of k (x ∷ xs) m ys rise e = above_of k xs m ys rise.1 e
 
-abbrev pub Until : List ℕ → Pairs → ℕ → Type 0
-Until k ms at = (t : Tree) → put k t ms ≡ put k t (take at ms) ++ drop at ms
+pub below_more : (k : List ℕ) (xs : Pairs) (m : List ℕ × Tree) → AllBelow k xs → slice_cmp nat_cmp k m.0 ≡ Greater → AllBelow k (xs ++ m ∷ [])
+below_more k [] m all e = (e, tt)
+below_more k (x ∷ xs) m all e = (all.0, below_more k xs m all.1 e)
 
-split_at : (ms : Pairs) (i : ℕ) (d : List ℕ × Tree) → i < length ms → ms ≡ take i ms ++ get_or ms i d ∷ drop (i + 1) ms
+-- ---- a key between what is below and what is above it, or at its own
+
+put_first : (k : List ℕ) (t : Tree) (ys : Pairs) → AllAbove k ys → put k t ys ≡ (k, t) ∷ ys
+put_first k t [] all = refl
+put_first k t (y ∷ ys) all = rw (all.0) refl
+
+pub put_between : (k : List ℕ) (t : Tree) (xs ys : Pairs) → AllBelow k xs → AllAbove k ys → put k t (xs ++ ys) ≡ xs ++ (k, t) ∷ ys
+put_between k t [] ys low high = put_first k t ys high
+put_between k t (x ∷ xs) ys low high = rw (low.0) (ap (λ zs. x ∷ zs) (put_between k t xs ys low.1 high))
+
+pub put_held : (k : List ℕ) (t : Tree) (xs : Pairs) (m : List ℕ × Tree) (ys : Pairs) → AllBelow k xs → slice_cmp nat_cmp k m.0 ≡ Equal → put k t (xs ++ m ∷ ys) ≡ xs ++ (k, t) ∷ ys
+put_held k t [] m ys low e = rw e refl
+put_held k t (x ∷ xs) m ys low e = rw (low.0) (ap (λ zs. x ∷ zs) (put_held k t xs m ys low.1 e))
+
+same_key : (k x : List ℕ) → x ≡ k → slice_cmp nat_cmp k x ≡ Equal
+same_key k x e = subst (λ z. slice_cmp nat_cmp z x ≡ Equal) e (tied_itself nat_list_cmp_total x)
+
+-- keys that compare otherwise are others
+other_key : (k x : List ℕ) (o : Ordering) → slice_cmp nat_cmp k x ≡ o → (o ≡ Equal → ⊥) → bytes_eq x k ≡ false
+other_key k x o e differs = elim (bytes_eq x k) as (λ b. bytes_eq x k ≡ b → bytes_eq x k ≡ false) [ true ↦ λ same. absurd (differs (sym e ∙ same_key k x ((bytes_eq-Decides x k).0 same))) | false ↦ λ other. other ] refl
+
+below_other : (k x : List ℕ) → slice_cmp nat_cmp k x ≡ Greater → bytes_eq x k ≡ false
+below_other k x e = other_key k x Greater e (λ l. cc)
+
+above_other : (k x : List ℕ) → slice_cmp nat_cmp k x ≡ Less → bytes_eq x k ≡ false
+above_other k x e = other_key k x Less e (λ l. cc)
+
+find_above : (k : List ℕ) (ys : Pairs) → AllAbove k ys → find k ys ≡ None
+find_above k [] all = refl
+find_above k (y ∷ ys) all = rw (above_other k y.0 all.0) (find_above k ys all.1)
+
+find_between : (k : List ℕ) (xs ys : Pairs) → AllBelow k xs → AllAbove k ys → find k (xs ++ ys) ≡ None
+find_between k [] ys low high = find_above k ys high
+find_between k (x ∷ xs) ys low high = rw (below_other k x.0 low.0) (find_between k xs ys low.1 high)
+
+find_held : (k : List ℕ) (xs : Pairs) (m : List ℕ × Tree) (ys : Pairs) → AllBelow k xs → bytes_eq m.0 k ≡ true → find k (xs ++ m ∷ ys) ≡ Some m.1
+find_held k [] m ys low e = rw e refl
+find_held k (x ∷ xs) m ys low e = rw (below_other k x.0 low.0) (find_held k xs m ys low.1 e)
+
+away_above : (k : List ℕ) (ys : Pairs) → AllAbove k ys → take_away k ys ≡ ys
+away_above k [] all = refl
+away_above k (y ∷ ys) all = rw (above_other k y.0 all.0) (ap (λ zs. y ∷ zs) (away_above k ys all.1))
+
+away_between : (k : List ℕ) (xs ys : Pairs) → AllBelow k xs → AllAbove k ys → take_away k (xs ++ ys) ≡ xs ++ ys
+away_between k [] ys low high = away_above k ys high
+away_between k (x ∷ xs) ys low high = rw (below_other k x.0 low.0) (ap (λ zs. x ∷ zs) (away_between k xs ys low.1 high))
+
+away_held : (k : List ℕ) (xs : Pairs) (m : List ℕ × Tree) (ys : Pairs) → AllBelow k xs → bytes_eq m.0 k ≡ true → take_away k (xs ++ m ∷ ys) ≡ xs ++ ys
+away_held k [] m ys low e = rw e refl
+away_held k (x ∷ xs) m ys low e = rw (below_other k x.0 low.0) (ap (λ zs. x ∷ zs) (away_held k xs m ys low.1 e))
+
+-- ---- the three ways that a search by halves goes on, at a place of the list
+
+pub split_at : (ms : Pairs) (i : ℕ) (d : List ℕ × Tree) → i < length ms → ms ≡ take i ms ++ get_or ms i d ∷ drop (i + 1) ms
 split_at [] i d h = absurd (omega arith)
 split_at (m ∷ ms) zero d h = refl
 split_at (m ∷ ms) (suc i) d h = rw (add-one) (ap (λ zs. m ∷ zs) (rw (add-one) at (split_at ms i d (omega arith))))
 
-pub goes_below : (k : List ℕ) (ms : Pairs) (i : ℕ) (d : List ℕ × Tree) → i < length ms → slice_cmp nat_cmp k (get_or ms i d).0 ≡ Less → Until k ms (i + 1) → Until k ms i
-goes_below k ms i d h e until t =
-    until t ∙ ap (λ zs. put k t zs ++ drop (i + 1) ms) (take_more ms i d h)
-    ∙ ap (λ zs. zs ++ drop (i + 1) ms) (put_above k t (take i ms) (get_or ms i d) [] e)
-    ∙ append_assoc (put k t (take i ms)) (get_or ms i d ∷ []) (drop (i + 1) ms)
-    ∙ ap (λ zs. put k t (take i ms) ++ zs) (sym (drop_more ms i d h))
+goes_low : (k : List ℕ) (ms : Pairs) (i : ℕ) (d : List ℕ × Tree) → i < length ms → KeysRise ms → slice_cmp nat_cmp k (get_or ms i d).0 ≡ Less → AllAbove k (drop i ms)
+goes_low k ms i d h rise e = subst (AllAbove k) (sym (drop_more ms i d h)) (above_of k (take i ms) (get_or ms i d) (drop (i + 1) ms) (subst KeysRise (split_at ms i d h) rise) e)
 
-pub stays_new : (k : List ℕ) (ms : Pairs) (i : ℕ) (d : List ℕ × Tree) → i < length ms → KeysRise ms → slice_cmp nat_cmp k (get_or ms i d).0 ≡ Greater → Until k ms (i + 1)
-    → (t : Tree) → put k t ms ≡ take (i + 1) ms ++ (k, t) ∷ drop (i + 1) ms
-stays_new k ms i d h rise e until t =
-    let low : AllBelow k (take i ms) = below_of k (take i ms) (get_or ms i d) (drop (i + 1) ms) (subst KeysRise (split_at ms i d h) rise) (λ l. cc) in
-    let past : AllBelow k (take i ms ++ get_or ms i d ∷ []) = all_more k (take i ms) (get_or ms i d) low e in
-    until t ∙ ap (λ zs. zs ++ drop (i + 1) ms) (put_past k t (take (i + 1) ms) (subst (AllBelow k) (sym (take_more ms i d h)) past)) ∙ append_assoc (take (i + 1) ms) ((k, t) ∷ []) (drop (i + 1) ms)
-  where
-    all_more : (k : List ℕ) (xs : Pairs) (m : List ℕ × Tree) → AllBelow k xs → slice_cmp nat_cmp k m.0 ≡ Greater → AllBelow k (xs ++ m ∷ [])
-    all_more k [] m all e = (e, tt)
-    all_more k (x ∷ xs) m all e = (all.0, all_more k xs m all.1 e)
+stays_low : (k : List ℕ) (ms : Pairs) (i : ℕ) (d : List ℕ × Tree) → i < length ms → KeysRise ms → (slice_cmp nat_cmp k (get_or ms i d).0 ≡ Less → ⊥) → AllBelow k (take i ms)
+stays_low k ms i d h rise differs = below_of k (take i ms) (get_or ms i d) (drop (i + 1) ms) (subst KeysRise (split_at ms i d h) rise) differs
 
-pub stays_held : (k : List ℕ) (ms : Pairs) (i : ℕ) (d : List ℕ × Tree) → i < length ms → KeysRise ms → slice_cmp nat_cmp k (get_or ms i d).0 ≡ Equal → Until k ms (i + 1)
-    → (t : Tree) → put k t ms ≡ take i ms ++ (k, t) ∷ drop (i + 1) ms
-stays_held k ms i d h rise e until t =
-    let low : AllBelow k (take i ms) = below_of k (take i ms) (get_or ms i d) (drop (i + 1) ms) (subst KeysRise (split_at ms i d h) rise) (λ l. cc) in
-    until t ∙ ap (λ zs. put k t zs ++ drop (i + 1) ms) (take_more ms i d h)
-    ∙ ap (λ zs. zs ++ drop (i + 1) ms) (put_last k t (take i ms) (get_or ms i d) low e)
-    ∙ append_assoc (take i ms) ((k, t) ∷ []) (drop (i + 1) ms)
+goes_high : (k : List ℕ) (ms : Pairs) (i : ℕ) (d : List ℕ × Tree) → i < length ms → KeysRise ms → slice_cmp nat_cmp k (get_or ms i d).0 ≡ Greater → AllBelow k (take (i + 1) ms)
+goes_high k ms i d h rise e = subst (AllBelow k) (sym (take_more ms i d h)) (below_more k (take i ms) (get_or ms i d) (stays_low k ms i d h rise (λ l. cc)) e)
 
--- ---- the same over the members themselves, at a place that counts down
+-- ---- the same over the members themselves
 
-step : (at n : ℕ) → 0 < at → at ≤ n → (at - 1 < n) × (at ≡ at - 1 + 1)
-step at n h b = (omega arith, omega arith)
-
-named : (ms : List Member) (i : ℕ) (m : Member) → m ≡ get_or ms i m → i < length ms → get_or (map member_of ms) i (member_of m) ≡ member_of m
+pub named : (ms : List Member) (i : ℕ) (m : Member) → m ≡ get_or ms i m → i < length ms → get_or (map member_of ms) i (member_of m) ≡ member_of m
 named ms i m is h = get_or-map member_of ms i m (member_of m) h ∙ ap member_of (sym is)
 
-pub below_at : (k : List ℕ) (ms : List Member) (at : ℕ) (m : Member) → 0 < at → at ≤ length ms → m ≡ get_or ms (at - 1) m → slice_cmp nat_cmp k m.name ≡ Less
-    → Until k (map member_of ms) at → Until k (map member_of ms) (at - 1)
-below_at k ms at m h b is e until =
-    let s = step at (length ms) h b in
-    let inside : at - 1 < length (map member_of ms) = omega (arith, length-map ms member_of) in
-    goes_below k (map member_of ms) (at - 1) (member_of m) inside (ap (λ (p : List ℕ × Tree). slice_cmp nat_cmp k p.0) (named ms (at - 1) m is s.0) ∙ e) (subst (Until k (map member_of ms)) s.1 until)
+inside : (ms : List Member) (i : ℕ) → i < length ms → i < length (map member_of ms)
+inside ms i h = omega (arith, length-map ms member_of)
 
-pub new_at : (k : List ℕ) (ms : List Member) (at : ℕ) (m : Member) → 0 < at → at ≤ length ms → m ≡ get_or ms (at - 1) m → KeysRise (map member_of ms) → slice_cmp nat_cmp k m.name ≡ Greater
-    → Until k (map member_of ms) at → (t : Tree) → put k t (map member_of ms) ≡ take at (map member_of ms) ++ (k, t) ∷ drop at (map member_of ms)
-new_at k ms at m h b is rise e until t =
-    let s = step at (length ms) h b in
-    let inside : at - 1 < length (map member_of ms) = omega (arith, length-map ms member_of) in
-    subst (λ n. put k t (map member_of ms) ≡ take n (map member_of ms) ++ (k, t) ∷ drop n (map member_of ms)) (sym s.1)
-    (stays_new k (map member_of ms) (at - 1) (member_of m) inside rise (ap (λ (p : List ℕ × Tree). slice_cmp nat_cmp k p.0) (named ms (at - 1) m is s.0) ∙ e) (subst (Until k (map member_of ms)) s.1 until) t)
+pub low_at : (k : List ℕ) (ms : List Member) (i : ℕ) (m : Member) → i < length ms → m ≡ get_or ms i m → KeysRise (map member_of ms) → slice_cmp nat_cmp k m.name ≡ Less → AllAbove k (drop i (map member_of ms))
+low_at k ms i m h is rise e = goes_low k (map member_of ms) i (member_of m) (inside ms i h) rise (ap (λ (p : List ℕ × Tree). slice_cmp nat_cmp k p.0) (named ms i m is h) ∙ e)
 
-pub held_at : (k : List ℕ) (ms : List Member) (at : ℕ) (m : Member) → 0 < at → at ≤ length ms → m ≡ get_or ms (at - 1) m → KeysRise (map member_of ms) → slice_cmp nat_cmp k m.name ≡ Equal
-    → Until k (map member_of ms) at → (t : Tree) → put k t (map member_of ms) ≡ take (at - 1) (map member_of ms) ++ (k, t) ∷ drop (at - 1 + 1) (map member_of ms)
-held_at k ms at m h b is rise e until t =
-    let s = step at (length ms) h b in
-    let inside : at - 1 < length (map member_of ms) = omega (arith, length-map ms member_of) in
-    stays_held k (map member_of ms) (at - 1) (member_of m) inside rise (ap (λ (p : List ℕ × Tree). slice_cmp nat_cmp k p.0) (named ms (at - 1) m is s.0) ∙ e) (subst (Until k (map member_of ms)) s.1 until) t
+pub high_at : (k : List ℕ) (ms : List Member) (i : ℕ) (m : Member) → i < length ms → m ≡ get_or ms i m → KeysRise (map member_of ms) → slice_cmp nat_cmp k m.name ≡ Greater → AllBelow k (take (i + 1) (map member_of ms))
+high_at k ms i m h is rise e = goes_high k (map member_of ms) i (member_of m) (inside ms i h) rise (ap (λ (p : List ℕ × Tree). slice_cmp nat_cmp k p.0) (named ms i m is h) ∙ e)
+
+pub held_at : (k : List ℕ) (ms : List Member) (i : ℕ) (m : Member) → i < length ms → m ≡ get_or ms i m → KeysRise (map member_of ms) → slice_cmp nat_cmp k m.name ≡ Equal → IsPlace (Held i) k (map member_of ms)
+held_at k ms i m h is rise e =
+    let there : slice_cmp nat_cmp k (get_or (map member_of ms) i (member_of m)).0 ≡ Equal = ap (λ (p : List ℕ × Tree). slice_cmp nat_cmp k p.0) (named ms i m is h) ∙ e in
+    let same : m.name ≡ k = sym ((bytes_eq-Decides k m.name).0 (sym (is_eq-slice_cmp k m.name) ∙ ap is_eq e)) in (
+      inside ms i h,
+      stays_low k (map member_of ms) i (member_of m) (inside ms i h) rise (λ l. cc),
+      λ d. ap (λ (p : List ℕ × Tree). p.0) (get_or-map member_of ms i m d h ∙ ap member_of (sym is)) ∙ same,
+    )
+
+-- ---- what is found, put or taken away at a key's place
+
+pub found : (k : List ℕ) (ms : List Member) (i : ℕ) (m : Member) → i < length ms → m ≡ get_or ms i m → IsPlace (Held i) k (map member_of ms) → find k (map member_of ms) ≡ Some (tree_of m.value)
+found k ms i m h is place =
+    let there = split_at (map member_of ms) i (member_of m) place.0 ∙ ap (λ p. take i (map member_of ms) ++ p ∷ drop (i + 1) (map member_of ms)) (named ms i m is h) in
+    let same : m.name ≡ k = sym (ap (λ (p : List ℕ × Tree). p.0) (named ms i m is h)) ∙ place.2 (member_of m) in
+    ap (find k) there ∙ find_held k (take i (map member_of ms)) (member_of m) (drop (i + 1) (map member_of ms)) place.1 ((bytes_eq-Decides m.name k).1 same)
+
+pub not_found : (k : List ℕ) (ms : Pairs) (i : ℕ) → IsPlace (New i) k ms → find k ms ≡ None
+not_found k ms i place = ap (find k) (sym (take-append-drop i ms)) ∙ find_between k (take i ms) (drop i ms) place.1 place.2
+
+pub not_taken : (k : List ℕ) (ms : Pairs) (i : ℕ) → IsPlace (New i) k ms → take_away k ms ≡ ms
+not_taken k ms i place = ap (take_away k) (sym (take-append-drop i ms)) ∙ away_between k (take i ms) (drop i ms) place.1 place.2 ∙ take-append-drop i ms
+
+map_without : (ms : List Member) (i : ℕ) → map member_of (take i ms ++ drop (suc i) ms) ≡ take i (map member_of ms) ++ drop (suc i) (map member_of ms)
+map_without [] zero = refl
+map_without [] (suc i) = refl
+map_without (x ∷ ms) zero = refl
+map_without (x ∷ ms) (suc i) = ap (λ zs. member_of x ∷ zs) (map_without ms i)
+
+pub taken : (k : List ℕ) (ms : List Member) (i : ℕ) (m : Member) → i < length ms → m ≡ get_or ms i m → IsPlace (Held i) k (map member_of ms) → take_away k (map member_of ms) ≡ map member_of (take i ms ++ drop (suc i) ms)
+taken k ms i m h is place =
+    let there = split_at (map member_of ms) i (member_of m) place.0 ∙ ap (λ p. take i (map member_of ms) ++ p ∷ drop (i + 1) (map member_of ms)) (named ms i m is h) in
+    let same : m.name ≡ k = sym (ap (λ (p : List ℕ × Tree). p.0) (named ms i m is h)) ∙ place.2 (member_of m) in
+    let rest : take i (map member_of ms) ++ drop (i + 1) (map member_of ms) ≡ map member_of (take i ms ++ drop (suc i) ms) = rw (add-one) (sym (map_without ms i)) in
+    ap (take_away k) there ∙ away_held k (take i (map member_of ms)) (member_of m) (drop (i + 1) (map member_of ms)) place.1 ((bytes_eq-Decides m.name k).1 same) ∙ rest
+
+put_at_held : (k : List ℕ) (t : Tree) (ms : Pairs) (i : ℕ) → IsPlace (Held i) k ms → put k t ms ≡ take i ms ++ (k, t) ∷ drop (i + 1) ms
+put_at_held k t ms i place = ap (put k t) (split_at ms i (k, t) place.0) ∙ put_held k t (take i ms) (get_or ms i (k, t)) (drop (i + 1) ms) place.1 (same_key k _ (place.2 (k, t)))
+
+put_at_new : (k : List ℕ) (t : Tree) (ms : Pairs) (i : ℕ) → IsPlace (New i) k ms → put k t ms ≡ take i ms ++ (k, t) ∷ drop i ms
+put_at_new k t ms i place = ap (put k t) (sym (take-append-drop i ms)) ∙ put_between k t (take i ms) (drop i ms) place.1 place.2
 
 set_parts : (ms : Pairs) (i : ℕ) (p : List ℕ × Tree) → i < length ms → set ms i p ≡ take i ms ++ p ∷ drop (i + 1) ms
 set_parts [] i p h = absurd (omega arith)
@@ -172,7 +212,7 @@ set_parts (m ∷ ms) (suc i) p h = rw (add-one) (ap (λ zs. m ∷ zs) (rw (add-o
 -- the members after a write at a key's place
 pub written : (k : List ℕ) (t : Tree) (ms : List Member) (i : ℕ) (m : Member) → member_of m ≡ (k, t) → IsPlace (Held i) k (map member_of ms) → map member_of (set ms i m) ≡ put k t (map member_of ms)
 written k t ms i m is place =
-    map-set member_of ms i m ∙ ap (set (map member_of ms) i) is ∙ set_parts (map member_of ms) i (k, t) place.0 ∙ sym (place.1 t)
+    map-set member_of ms i m ∙ ap (set (map member_of ms) i) is ∙ set_parts (map member_of ms) i (k, t) place.0 ∙ sym (put_at_held k t (map member_of ms) i place)
 
 map_parts : (ms : List Member) (i : ℕ) (m : Member) → map member_of (take i ms ++ m ∷ drop i ms) ≡ take i (map member_of ms) ++ member_of m ∷ drop i (map member_of ms)
 map_parts [] zero m = refl
@@ -183,7 +223,7 @@ map_parts (x ∷ ms) (suc i) m = ap (λ zs. member_of x ∷ zs) (map_parts ms i 
 -- and after an insertion there
 pub inserted : (k : List ℕ) (t : Tree) (ms : List Member) (i : ℕ) (m : Member) → member_of m ≡ (k, t) → IsPlace (New i) k (map member_of ms) → map member_of (insert ms i m) ≡ put k t (map member_of ms)
 inserted k t ms i m is place =
-    map_parts ms i m ∙ ap (λ p. take i (map member_of ms) ++ p ∷ drop i (map member_of ms)) is ∙ sym (place.1 t)
+    map_parts ms i m ∙ ap (λ p. take i (map member_of ms) ++ p ∷ drop i (map member_of ms)) is ∙ sym (put_at_new k t (map member_of ms) i place)
 
 -- keys rise after a call that put or failed
 pub rises_after : (r : Result (Unit {0}) NoMemory) (k : List ℕ) (t : Tree) (old new : List Member) → OnOk r (map member_of new ≡ put k t (map member_of old)) → OnErr r (new ≡ old)

@@ -12,7 +12,6 @@ use Rattle.jm_json.specs.Tree.{Tree}
 use Rattle.jm_json.specs.Find.{find}
 use Rattle.jm_json.specs.Order.{KeysRise, put}
 use Rattle.jm_json.specs.Patch.{take_away}
-use Rattle.jm_json.specs.declared.tree.Member.{Member}
 
 abbrev Pairs : Type 0
 Pairs = List (List ℕ × Tree)
@@ -78,6 +77,3 @@ pub put-take_away : (k : List ℕ) (u v : Tree) (ms : Pairs) → KeysRise ms →
 unfolding IsStrictlySortedBy
 put-take_away k u v [] rise found = absurd (cc)
 put-take_away k u v (m ∷ ms) rise found = back_at _ k u v m ms refl rise.0 found (put-take_away k u v ms rise.1)
-
-pub same_head : (a b : Member) (xs ys : List Member) → a ∷ xs ≡ b ∷ ys → a ≡ b
-same_head a b xs ys e = cc

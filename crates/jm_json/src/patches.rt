@@ -1,15 +1,16 @@
 // Changing a tree by a patch (RFC 8620, section 5.3).
-ghost use Rattle.std.specs.Prelude.{◌≡◌, ◌<◌, ◌≤◌, ◌&&◌, ◌||◌, [], ◌∷◌, true, Some, None, map, length, is_some, not, option_map, option_and_then, drop, IfOk, IfSome, OnOk, MatchResult, MatchOption};
+ghost use Rattle.std.specs.Prelude.{◌≡◌, ◌<◌, ◌≤◌, ◌&&◌, ◌||◌, [], ◌∷◌, ◌++◌, true, Some, None, map, length, is_some, not, option_map, option_and_then, drop, IfOk, IfSome, OnOk, MatchResult, MatchOption};
 ghost use Rattle.jm_json.specs.Json.{tree_of, member_of};
 ghost use Rattle.jm_json.specs.Find.{as_object, find};
 ghost use Rattle.jm_json.specs.Order.{KeysRise};
+ghost use Rattle.jm_json.specs.Place.{IsPlace};
 ghost use Rattle.jm_json.specs.Pointer.{cut, name_of, unescaped};
 ghost use Rattle.jm_json.specs.Patch.{at_member, goes_on, is_prefix, is_placed as is_placed_at, member_named, set_member, changed, all_changed, first_bad_path, patched, patching, by_path};
 ghost use Rattle.jm_json.specs.Patching.{ExplainsPatch};
 
 use crate::copies::copy;
 use crate::paths::{after_byte, member_at, part_end};
-use crate::tree::{Json, Member, Members};
+use crate::tree::{Json, Member, Members, Place, place_of};
 use jm_base::{NoMemory, Text};
 use std::alloc::Global;
 
@@ -47,43 +48,69 @@ pub fn patch(alloc: Global, tree: &Json, patch: &Json) -> Result<Json, PatchFaul
 }
 
 fn patch_members(alloc: Global, tree: &Json, changes: &[Member]) -> Result<Json, PatchFault>
+    requires { KeysRise (map member_of changes.now) }
     ensures { MatchResult result
         (λ t. by_path (first_bad_path (map member_of changes.now) (map member_of changes.now) (tree_of tree.now)) (map member_of changes.now) (tree_of tree.now) ≡ patched (tree_of t))
         (λ e. ExplainsPatch e (by_path (first_bad_path (map member_of changes.now) (map member_of changes.now) (tree_of tree.now)) (map member_of changes.now) (tree_of tree.now))) }
 {
-    match first_bad(tree, changes) {
+    match first_bad(alloc, tree, changes)? {
         Some(path) => Err(PatchFault::BadPatch(path.copy()?)),
         None => Ok(change_all(alloc, copy(alloc, tree)?, changes)?),
     }
 }
 
-fn first_bad<'a>(tree: &Json, changes: &'a [Member]) -> Option<&'a Text>
-    ensures { option_map (λ p. p.now) result
-        ≡ first_bad_path (map member_of changes.now) (map member_of changes.now) (tree_of tree.now) }
+fn first_bad<'a>(
+    alloc: Global,
+    tree: &Json,
+    changes: &'a [Member],
+) -> Result<Option<&'a Text>, NoMemory>
+    requires { KeysRise (map member_of changes.now) }
+    ensures { IfOk result (λ o. option_map (λ p. p.now) o
+        ≡ first_bad_path (map member_of changes.now) (map member_of changes.now) (tree_of tree.now)) }
 {
     for change in changes {
-        if is_bad(tree, changes, change.name.as_bytes()) {
-            return Some(&change.name);
+        if is_bad(alloc, tree, changes, change.name.as_bytes())? {
+            return Ok(Some(&change.name));
         }
     }
-    None
+    Ok(None)
 }
 
-fn is_bad(tree: &Json, changes: &[Member], path: &[u8]) -> bool
-    ensures { result ≡ (is_prefix path.now (map member_of changes.now) || not (is_placed_at (cut path.now) (tree_of tree.now))) }
+fn is_bad(alloc: Global, tree: &Json, changes: &[Member], path: &[u8]) -> Result<bool, NoMemory>
+    requires { KeysRise (map member_of changes.now) }
+    ensures { IfOk result (λ b. b
+        ≡ (is_prefix path.now (map member_of changes.now) || not (is_placed_at (cut path.now) (tree_of tree.now)))) }
 {
-    has_longer(changes, path) || !is_placed(tree, path)
+    if has_longer(alloc, changes, path)? {
+        return Ok(true);
+    }
+    Ok(!is_placed(tree, path))
 }
 
-fn has_longer(changes: &[Member], path: &[u8]) -> bool
+// Whether some path goes on from this one. The first that does stands where this one would with a slash behind it.
+fn has_longer(alloc: Global, changes: &[Member], path: &[u8]) -> Result<bool, NoMemory>
+    requires { KeysRise (map member_of changes.now) }
+    ensures { IfOk result (λ b. b ≡ is_prefix path.now (map member_of changes.now)) }
+{
+    let mut slashed = Vec::from_slice(alloc, path)?;
+    slashed.push(b'/')?;
+    let place = place_of(changes, slashed.as_slice());
+    Ok(has_longer_at(changes, path, place))
+}
+
+fn has_longer_at(changes: &[Member], path: &[u8], place: Place) -> bool
+    requires rise { KeysRise (map member_of changes.now) }
+    requires place { IsPlace place (path.now ++ 47 ∷ []) (map member_of changes.now) }
     ensures { result ≡ is_prefix path.now (map member_of changes.now) }
 {
-    for change in changes {
-        if continues(path, change.name.as_bytes()) {
-            return true;
-        }
+    match place {
+        Place::Held(_) => true,
+        Place::New(at) => if at < changes.len() {
+            continues(path, changes[at].name.as_bytes())
+        } else {
+            false
+        },
     }
-    false
 }
 
 // Whether the longer path is the path, a slash and more.

@@ -1,11 +1,12 @@
 // JSON Pointer (RFC 6901): the value that a path names in a tree.
-ghost use Rattle.std.specs.Prelude.{◌≡◌, ◌≢◌, ◌≤◌, ◌<◌, ◌+◌, ◌^◌, ℕ, [], ◌∷◌, Some, None, map, length, take, drop, option_map, option_and_then, decimal, bytes_eq, MatchOption};
+ghost use Rattle.std.specs.Prelude.{◌≡◌, ◌≢◌, ◌≤◌, ◌<◌, ◌+◌, ◌^◌, ℕ, [], ◌∷◌, Some, None, map, length, take, drop, option_map, option_and_then, decimal, bytes_eq, IsTrue, MatchOption};
 ghost use Rattle.jm_json.specs.Json.{tree_of, member_of};
 ghost use Rattle.jm_json.specs.Find.{find};
+ghost use Rattle.jm_json.specs.Order.{KeysRise};
 ghost use Rattle.jm_json.specs.Whole.{pointer_byte, pointer_part};
 ghost use Rattle.jm_json.specs.Pointer.{cut, name_of, item_named, child as child_of, followed, pointed, stripped};
 
-use crate::tree::{Json, Member};
+use crate::tree::{Json, Member, value_at};
 
 /// The value that a JSON Pointer names in a tree, if it names one (RFC 6901). An index of a list is decimal, with no leading
 /// zero. No memory is taken.
@@ -91,7 +92,30 @@ fn index_of(part: &[u8]) -> Option<usize>
     }
 }
 
+// The value of the member that a part names. A part with nothing escaped is itself the name.
 pub(crate) fn member_at<'a>(members: &'a [Member], part: &[u8]) -> Option<&'a Json>
+    requires { KeysRise (map member_of members.now) }
+    ensures { option_map (λ j. tree_of j.now) result
+        ≡ option_and_then (λ k. find k (map member_of members.now)) (name_of part.now) }
+{
+    if is_plain(part) {
+        return value_at(members, part);
+    }
+    written_member(members, part)
+}
+
+fn is_plain(part: &[u8]) -> bool
+    ensures { IsTrue result → name_of part.now ≡ Some part.now }
+{
+    for b in part {
+        if *b == b'~' || *b == b'/' {
+            return false;
+        }
+    }
+    true
+}
+
+fn written_member<'a>(members: &'a [Member], part: &[u8]) -> Option<&'a Json>
     ensures { option_map (λ j. tree_of j.now) result
         ≡ option_and_then (λ k. find k (map member_of members.now)) (name_of part.now) }
 {

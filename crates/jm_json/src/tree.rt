@@ -47,7 +47,7 @@ pub struct Member {
 
 // Where a key stands in an object, or where it would stand as a new one.
 #[derive(Clone, Copy)]
-enum Place {
+pub(crate) enum Place {
     Held(usize),
     New(usize),
 }
@@ -244,12 +244,7 @@ impl Members {
     pub fn get(&self, name: &str) -> Option<&Json>
         ensures { option_map (λ j. tree_of j.now) result ≡ find name.now self.now }
     {
-        for member in &self.members {
-            if member.name.as_str() == name {
-                return Some(&member.value);
-            }
-        }
-        None
+        value_at(self.members.as_slice(), name.as_bytes())
     }
 
     /// Adds a member whose key is past the others.
@@ -275,7 +270,7 @@ impl Members {
         ensures value { option_map (λ j. tree_of j) result ≡ find name.now self.old }
         ensures rest { self.new ≡ take_away name.now self.old }
     {
-        remove_member(&mut self.members, name)
+        remove_member(&mut self.members, name.as_bytes())
     }
 
     /// Sets the value at a key that is given as a slice.
@@ -287,18 +282,30 @@ impl Members {
     }
 }
 
+// The value at a key.
+pub(crate) fn value_at<'a>(members: &'a [Member], name: &[u8]) -> Option<&'a Json>
+    requires { KeysRise (map member_of members.now) }
+    ensures { option_map (λ j. tree_of j.now) result ≡ find name.now (map member_of members.now) }
+{
+    match place_of(members, name) {
+        Place::Held(at) => Some(&members[at].value),
+        Place::New(_) => None,
+    }
+}
+
 // Takes the member of a name away, and gives its value.
-fn remove_member(members: &mut Vec<Member>, name: &str) -> Option<Json>
+fn remove_member(members: &mut Vec<Member>, name: &[u8]) -> Option<Json>
+    requires { KeysRise (map member_of members.old.items) }
     ensures value { option_map (λ j. tree_of j) result ≡ find name.now (map member_of members.old.items) }
     ensures rest { map member_of members.new.items ≡ take_away name.now (map member_of members.old.items) }
 {
-    for i in 0..members.len() {
-        if members[i].name.as_str() == name {
-            let Member { value, .. } = members.remove(i);
-            return Some(value);
+    match place_of(members.as_slice(), name) {
+        Place::Held(at) => {
+            let Member { value, .. } = members.remove(at);
+            Some(value)
         }
+        Place::New(_) => None,
     }
-    None
 }
 
 fn put_member(members: &mut Vec<Member>, name: Text, value: Json) -> Result<(), NoMemory>
@@ -318,18 +325,21 @@ fn put_member(members: &mut Vec<Member>, name: Text, value: Json) -> Result<(), 
     }
 }
 
-// The place of a key. One that is past all others takes one comparison.
-fn place_of(members: &[Member], name: &[u8]) -> Place
+// The place of a key, by halving. The last key is looked at first, so that one that is past all takes one comparison.
+pub(crate) fn place_of(members: &[Member], name: &[u8]) -> Place
     requires { KeysRise (map member_of members.now) }
     ensures { IsPlace result name.now (map member_of members.now) }
 {
-    let mut at = members.len();
-    'back: while at > 0 {
-        match name.cmp(members[at - 1].name.as_bytes()) {
-            Ordering::Less => at -= 1,
-            Ordering::Equal => return Place::Held(at - 1),
-            Ordering::Greater => return Place::New(at),
+    let mut low = 0;
+    let mut high = members.len();
+    let mut at = high.saturating_sub(1);
+    'halves: while low < high {
+        match name.cmp(members[at].name.as_bytes()) {
+            Ordering::Less => high = at,
+            Ordering::Equal => return Place::Held(at),
+            Ordering::Greater => low = at + 1,
         }
+        at = low + (high - low) / 2;
     }
-    Place::New(0)
+    Place::New(low)
 }

@@ -71,7 +71,7 @@ module _ {S : Type 0} (steps : Steps S) where
       let next = k rest in (
         next.0,
         ap (batch_out steps s) (append_assoc before piece rest) ∙ h (piece ++ rest) ∙ ap (λ bs. written ++ batch_out steps t bs) (sym (append_assoc line piece rest)) ∙ ap (λ bs. written ++ bs) next.1
-        ∙ sym (append_assoc written more next.0),
+            ∙ sym (append_assoc written more next.0),
       )
 
   -- a front stays one however the input goes on

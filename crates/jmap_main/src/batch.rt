@@ -11,6 +11,7 @@ use crate::line::{cut_line, end_line, hold};
 use crate::steps::StepPort;
 use jm_base::{Bytes, NoMemory};
 use jm_edge::{Sink, Source, put_all};
+use jm_json::Scratch;
 use std::alloc::Global;
 
 // The bytes that an input may have.
@@ -64,6 +65,7 @@ fn answer_reads<P: StepPort, S: Source, O: Sink>(
     }) }
     ensures begun { HasBegunAll (batch_out P.steps port.old) (S.left source.old) (S.left source.new) (O.held out.old) (O.held out.new) }
 {
+    let mut scratch = Scratch::new(alloc);
     let mut line = Bytes::new(alloc);
     let mut replies = Bytes::new(alloc);
     let mut total = 0u64;
@@ -73,7 +75,7 @@ fn answer_reads<P: StepPort, S: Source, O: Sink>(
             Err(_) => return Ending::ReadFault,
         };
         if count == 0 {
-            match last_line(alloc, port, &mut line, &mut replies, out) {
+            match last_line(alloc, &mut scratch, port, &mut line, &mut replies, out) {
                 Ok(()) => return Ending::Done,
                 Err(ending) => return ending,
             }
@@ -82,7 +84,15 @@ fn answer_reads<P: StepPort, S: Source, O: Sink>(
         if total > MOST_INPUT {
             return Ending::TooLong;
         }
-        match answer_piece(alloc, port, &mut line, &room[..count], &mut replies, out) {
+        match answer_piece(
+            alloc,
+            &mut scratch,
+            port,
+            &mut line,
+            &room[..count],
+            &mut replies,
+            out,
+        ) {
             Ok(()) => {}
             Err(ending) => return ending,
         }
@@ -93,6 +103,7 @@ fn answer_reads<P: StepPort, S: Source, O: Sink>(
 // Answers the lines that end in a piece, and puts their replies.
 fn answer_piece<P: StepPort, O: Sink>(
     alloc: Global,
+    scratch: &mut Scratch,
     port: &mut P,
     line: &mut Bytes,
     piece: &[u8],
@@ -106,13 +117,14 @@ fn answer_piece<P: StepPort, O: Sink>(
     ensures reason { IfErr result (λ e. StopsFor e (O.faults out.old) (O.faults out.new)) }
 {
     replies.clear();
-    let fed = feed(alloc, port, line, piece, replies);
+    let fed = feed(alloc, scratch, port, line, piece, replies);
     settle(fed, replies, out)
 }
 
 // Answers the line that the input's end ends.
 fn last_line<P: StepPort, O: Sink>(
     alloc: Global,
+    scratch: &mut Scratch,
     port: &mut P,
     line: &mut Bytes,
     replies: &mut Bytes,
@@ -124,7 +136,7 @@ fn last_line<P: StepPort, O: Sink>(
     ensures reason { IfErr result (λ e. StopsFor e (O.faults out.old) (O.faults out.new)) }
 {
     replies.clear();
-    let ended = end_line(alloc, port, line, &[], replies);
+    let ended = end_line(alloc, scratch, port, line, &[], replies);
     settle(ended, replies, out)
 }
 
@@ -147,6 +159,7 @@ fn settle<O: Sink>(fed: Result<(), NoMemory>, replies: &Bytes, out: &mut O) -> R
 // Takes a piece, and answers each line that ends in it.
 fn feed<P: StepPort>(
     alloc: Global,
+    scratch: &mut Scratch,
     port: &mut P,
     line: &mut Bytes,
     piece: &[u8],
@@ -158,7 +171,7 @@ fn feed<P: StepPort>(
 {
     let mut rest = piece;
     'lines: while let Some(cut) = cut_line(rest) {
-        match end_line(alloc, port, line, cut.line, replies) {
+        match end_line(alloc, scratch, port, line, cut.line, replies) {
             Ok(()) => rest = cut.rest,
             Err(refused) => return Err(refused),
         }

@@ -6,9 +6,9 @@ ghost use Rattle.jmap_main.specs.Batch.{begins_with_plus, line_answered, line_te
 
 use crate::steps::StepPort;
 use jm_base::{Bytes, NoMemory};
-use jm_json::write_after;
+use jm_json::{Scratch, write_after};
 use memchr::memchr;
-use method_batch::{Outcome, Problem, answer_request};
+use method_batch::{Outcome, Problem, answer_request_with};
 use std::alloc::Global;
 
 // No line is held further than this: it is longer than one that is answered, so its answer is settled.
@@ -51,6 +51,7 @@ pub(crate) fn hold(line: &mut Bytes, more: &[u8]) -> Result<(), NoMemory>
 /// may stand there.
 pub(crate) fn end_line<P: StepPort>(
     alloc: Global,
+    scratch: &mut Scratch,
     port: &mut P,
     line: &mut Bytes,
     last: &[u8],
@@ -62,16 +63,17 @@ pub(crate) fn end_line<P: StepPort>(
     ensures err { OnErr result ((n : ℕ) × (replies.new ≡ replies.old ++ take n (reply_or_none P.steps port.old (line.old ++ last.now)))) }
 {
     if line.is_empty() {
-        return answer_line(alloc, port, last, replies);
+        return answer_line(alloc, scratch, port, last, replies);
     }
     match hold(line, last) {
-        Ok(()) => answer_held(alloc, port, line, replies),
+        Ok(()) => answer_held(alloc, scratch, port, line, replies),
         Err(refused) => Err(refused),
     }
 }
 
 fn answer_held<P: StepPort>(
     alloc: Global,
+    scratch: &mut Scratch,
     port: &mut P,
     line: &mut Bytes,
     replies: &mut Bytes,
@@ -81,7 +83,7 @@ fn answer_held<P: StepPort>(
     ensures begun { OnOk result (line.new ≡ []) }
     ensures err { OnErr result ((n : ℕ) × (replies.new ≡ replies.old ++ take n (reply_or_none P.steps port.old line.old))) }
 {
-    match answer_line(alloc, port, line.as_slice(), replies) {
+    match answer_line(alloc, scratch, port, line.as_slice(), replies) {
         Ok(()) => {
             line.clear();
             Ok(())
@@ -92,6 +94,7 @@ fn answer_held<P: StepPort>(
 
 fn answer_line<P: StepPort>(
     alloc: Global,
+    scratch: &mut Scratch,
     port: &mut P,
     line: &[u8],
     replies: &mut Bytes,
@@ -103,7 +106,7 @@ fn answer_line<P: StepPort>(
     if line.is_empty() {
         return Ok(());
     }
-    match outcome_of(alloc, port, line) {
+    match outcome_of(alloc, scratch, port, line) {
         Ok(outcome) => write_line(alloc, &outcome, replies),
         Err(refused) => Err(refused),
     }
@@ -120,13 +123,18 @@ fn write_line(alloc: Global, outcome: &Outcome, replies: &mut Bytes) -> Result<(
     }
 }
 
-fn outcome_of<P: StepPort>(alloc: Global, port: &mut P, line: &[u8]) -> Result<Outcome, NoMemory>
+fn outcome_of<P: StepPort>(
+    alloc: Global,
+    scratch: &mut Scratch,
+    port: &mut P,
+    line: &[u8],
+) -> Result<Outcome, NoMemory>
     ensures { IfOk result (λ o. (tree_of o.tree ≡ (line_answered P.steps port.old line.now).tree) × (port.new ≡ (line_answered P.steps port.old line.now).state)) }
 {
     if begins_with_plus(line) {
         return Outcome::refusal(alloc, Problem::NotJson);
     }
-    answer_request(alloc, port, line)
+    answer_request_with(alloc, scratch, port, line)
 }
 
 fn begins_with_plus(line: &[u8]) -> bool

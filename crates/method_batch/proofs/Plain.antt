@@ -7,7 +7,8 @@ use Rattle.jm_json.specs.Tree.{Tree, null, boolean, number, text, list, object, 
 use Rattle.jm_json.specs.Find.{find, as_object, pairs_of}
 use Rattle.jm_json.specs.Call.{Call}
 use Rattle.jm_json.specs.Order.{KeysRise, put}
-use Rattle.jm_json.proofs.Puts.{below_of, put_past}
+use Rattle.jm_json.specs.Place.{AllBelow}
+use Rattle.jm_json.proofs.Puts.{below_of}
 use Rattle.result_refs.specs.References.{is_marked, referred, arguments, clashes, by_arguments, resolved, resolution}
 
 abbrev Pairs : Type 0
@@ -17,6 +18,10 @@ not_below_itself : (k : List ℕ) → slice_cmp nat_cmp k k ≡ Less → ⊥
 not_below_itself k h =
     let e : Less ≡ Greater = sym h ∙ (nat_list_cmp_total.antisymm k k ∙ ap ordering_reverse h) in
     cc
+
+put_past : (k : List ℕ) (t : Tree) (xs : Pairs) → AllBelow k xs → put k t xs ≡ xs ++ (k, t) ∷ []
+put_past k t [] all = refl
+put_past k t (x ∷ xs) all = rw (all.0) (ap (λ zs. x ∷ zs) (put_past k t xs all.1))
 
 put_next : (before : Pairs) (m : List ℕ × Tree) (ms : Pairs) → KeysRise (before ++ m ∷ ms) → put m.0 m.1 before ≡ before ++ m ∷ []
 put_next before m ms rise = put_past m.0 m.1 before (below_of m.0 before m ms rise (not_below_itself m.0))

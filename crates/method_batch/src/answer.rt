@@ -13,7 +13,7 @@ use crate::request::Request;
 use crate::response::response;
 use crate::using::uses;
 use jm_base::NoMemory;
-use jm_json::{Json, ReadFault, copy, read};
+use jm_json::{Json, ReadFault, Scratch, copy, read_with};
 use std::alloc::Global;
 
 // The bytes that a request may have.
@@ -43,10 +43,24 @@ pub fn answer_request<P: Port>(
     ensures outcome { IfOk result (λ o. IsAnswer P.answers port.old port.new request.now o) }
     ensures begun { OnErr result (HasBegunAnswer P.answers port.old port.new request.now) }
 {
+    let mut scratch = Scratch::new(alloc);
+    answer_request_with(alloc, &mut scratch, port, request)
+}
+
+/// The same, with room for reading that is kept from one call to the next.
+pub fn answer_request_with<P: Port>(
+    alloc: Global,
+    scratch: &mut Scratch,
+    port: &mut P,
+    request: &[u8],
+) -> Result<Outcome, NoMemory>
+    ensures outcome { IfOk result (λ o. IsAnswer P.answers port.old port.new request.now o) }
+    ensures begun { OnErr result (HasBegunAnswer P.answers port.old port.new request.now) }
+{
     if request.len() > MOST_BYTES {
         return Outcome::refusal(alloc, Problem::TooLarge);
     }
-    match read(alloc, request) {
+    match read_with(alloc, scratch, request) {
         Ok(tree) => answer_moved(alloc, port, tree),
         Err(ReadFault::NotJson) => Outcome::refusal(alloc, Problem::NotJson),
         Err(ReadFault::NotWhole(_)) => Outcome::refusal(alloc, Problem::NotRequest),

@@ -17,7 +17,7 @@ mod response;
 mod tests;
 mod using;
 
-pub use answer::{answer_request, answer_tree};
+pub use answer::{answer_request, answer_request_with, answer_tree};
 pub use outcome::{Outcome, Problem};
 pub use port::Port;
 pub use response::error;

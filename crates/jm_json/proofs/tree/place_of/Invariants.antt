@@ -1,10 +1,12 @@
-use Rattle.std.proofs.Common.{◌≤◌, length, map}
+use Rattle.std.proofs.Common.{◌-◌, ◌<◌, ◌≤◌, length, map, take, drop}
 use Rattle.jm_json.specs.Json.{member_of}
-use Rattle.jm_json.proofs.Puts.{Until}
+use Rattle.jm_json.specs.Place.{AllBelow, AllAbove}
 use Rattle.jm_json.proofs.tree.place_of.Given as goal
 
-abbrev pub invariant-back : goal.invariant-back
-invariant-back l = (l.at ≤ length l.members) × Until l.name (map member_of l.members) l.at
+abbrev pub invariant-halves : goal.invariant-halves
+invariant-halves l =
+    (l.high ≤ length l.members) × (l.low ≤ l.high) × (l.low < l.high → l.at < l.high) × (l.low < l.high → l.low ≤ l.at)
+    × AllBelow l.name (take l.low (map member_of l.members)) × AllAbove l.name (drop l.high (map member_of l.members))
 
-abbrev pub decreases-back : goal.decreases-back
-decreases-back l = l.at
+abbrev pub decreases-halves : goal.decreases-halves
+decreases-halves l = l.high - l.low

@@ -3,7 +3,7 @@ use Rattle.std.proofs.lemmas.List.{drop_more, drop_all}
 use Rattle.jm_json.specs.Whole.{pointer_part}
 use Rattle.jm_json.specs.Json.{member_of}
 use Rattle.jm_json.proofs.Parts.{find_part, found_none, found_here, found_later}
-use Rattle.jm_json.proofs.paths.member_at.Goals as goal
+use Rattle.jm_json.proofs.paths.written_member.Goals as goal
 
 pub returns-then-is_written : goal.returns-then-is_written
 returns-then-is_written c =
