@@ -11,6 +11,7 @@ mod read;
 #[cfg(test)]
 mod read_tests;
 mod run;
+mod steps;
 #[cfg(test)]
 mod tests;
 mod unknown;
