@@ -1,26 +1,32 @@
 -- A line that is held only as far as it counts is answered as the whole line.
-use Rattle.std.proofs.Common.{◌≡◌, ◌⊎◌, inl, inr, ℕ, zero, suc, ◌-◌, ◌<◌, List, [], ◌∷◌, ◌++◌, ◌==◌, Bool, true, false, cond, nat_lt, flat_map, take, length, refl, sym, ap, ap₂, ◌∙◌, append-nil, arith, length-append, length-take-le}
+use Rattle.std.proofs.Common.{◌≡◌, ◌⊎◌, inl, inr, ℕ, zero, suc, ◌-◌, ◌<◌, List, [], ◌∷◌, ◌++◌, ◌==◌, Bool, true, false, cond, nat_lt, take, length, refl, sym, ap, ap₂, ◌∙◌, append-nil, arith, length-append, length-take-le}
 use Rattle.std.proofs.lemmas.List.{take_all}
 use Rattle.std.proofs.lemmas.Bool.{lt-ltb, ltb-true, ltb-false}
 use Rattle.jm_json.specs.Reading.{reading_of}
-use Rattle.method_batch.specs.Outcome.{problem_tree}
 use Rattle.method_batch.specs.declared.outcome.Problem.TheVariants.{TooLarge, NotJson}
 use Rattle.jmap_main.specs.Lines.{lines_of, onto_first, IsOneLine}
-use Rattle.jmap_main.specs.Batch.{begins_with_plus, tree_to, reply_or_none, line_text, Done}
+use Rattle.jmap_main.specs.Steps.{Steps}
+use Rattle.jmap_main.specs.Batch.{Answered, begins_with_plus, problem_at, reading_answered, line_answered, reply_or_none, state_after, replies, line_text, Done}
 
 -- the bytes of a line that count
 abbrev pub held : List ℕ → List ℕ → List ℕ
 held line more = line ++ take (10000001 - length line) more
 
+-- the reply to a line and the state after it, both
+abbrev Same : {S : Type 0} → Steps S → S → List ℕ → List ℕ → Type 0
+Same steps s xs ys = (reply_or_none steps s xs ≡ reply_or_none steps s ys) × (state_after steps s xs ≡ state_after steps s ys)
+
 -- two long lines that begin alike are answered alike
-long_same : (xs ys : List ℕ) → 10000000 < length xs → 10000000 < length ys → begins_with_plus xs ≡ begins_with_plus ys → reply_or_none xs ≡ reply_or_none ys
-long_same [] ys h k e = absurd (omega arith)
-long_same (x ∷ xs) [] h k e = absurd (omega arith)
-long_same (x ∷ xs) (y ∷ ys) h k e =
+long_same : {S : Type 0} (steps : Steps S) (s : S) (xs ys : List ℕ) → 10000000 < length xs → 10000000 < length ys → begins_with_plus xs ≡ begins_with_plus ys → Same steps s xs ys
+long_same steps s [] ys h k e = absurd (omega arith)
+long_same steps s (x ∷ xs) [] h k e = absurd (omega arith)
+long_same {S} steps s (x ∷ xs) (y ∷ ys) h k e =
     let a : nat_lt 10000000 (length (x ∷ xs)) ≡ true = lt-ltb 10000000 (length (x ∷ xs)) h in
     let b : nat_lt 10000000 (length (y ∷ ys)) ≡ true = lt-ltb 10000000 (length (y ∷ ys)) k in
-    ap line_text (ap₂ (λ (p q : Bool). cond p (problem_tree NotJson) (cond q (problem_tree TooLarge) (tree_to (reading_of (x ∷ xs))))) e a
-    ∙ sym (ap (λ q. cond (y == 43) (problem_tree NotJson) (cond q (problem_tree TooLarge) (tree_to (reading_of (y ∷ ys))))) b))
+    let both : line_answered steps s (x ∷ xs) ≡ line_answered steps s (y ∷ ys) =
+    ap₂ (λ (p q : Bool). cond p (problem_at s NotJson) (cond q (problem_at s TooLarge) (reading_answered steps s (reading_of (x ∷ xs))))) e a
+    ∙ sym (ap (λ q. cond (y == 43) (problem_at s NotJson) (cond q (problem_at s TooLarge) (reading_answered steps s (reading_of (y ∷ ys))))) b) in
+    (ap (λ (r : Answered S). line_text r.tree) both, ap (λ (r : Answered S). r.state) both)
 
 begins_alike : (line more f : List ℕ) (n : ℕ) → 0 < n ⊎ (0 < length line) → begins_with_plus ((line ++ take n more) ++ f) ≡ begins_with_plus ((line ++ more) ++ f)
 begins_alike (x ∷ line) more f n h = refl
@@ -34,18 +40,21 @@ some_room : (line : List ℕ) → 0 < 10000001 - length line ⊎ (0 < length lin
 some_room [] = inl (omega arith)
 some_room (x ∷ line) = inr (omega arith)
 
-by_room : (b : Bool) (line more f : List ℕ) → nat_lt (10000001 - length line) (length more) ≡ b → reply_or_none (held line more ++ f) ≡ reply_or_none ((line ++ more) ++ f)
-by_room false line more f e =
-    ap (λ bs. reply_or_none ((line ++ bs) ++ f)) (take_all (10000001 - length line) more (ltb-false (10000001 - length line) (length more) e))
-by_room true line more f e =
+same_as : {S : Type 0} (steps : Steps S) (s : S) (xs ys : List ℕ) → xs ≡ ys → Same steps s xs ys
+same_as steps s xs ys e = (ap (reply_or_none steps s) e, ap (state_after steps s) e)
+
+by_room : {S : Type 0} (steps : Steps S) (s : S) (b : Bool) (line more f : List ℕ) → nat_lt (10000001 - length line) (length more) ≡ b → Same steps s (held line more ++ f) ((line ++ more) ++ f)
+by_room steps s false line more f e =
+    same_as steps s (held line more ++ f) ((line ++ more) ++ f) (ap (λ bs. (line ++ bs) ++ f) (take_all (10000001 - length line) more (ltb-false (10000001 - length line) (length more) e)))
+by_room steps s true line more f e =
     let less = ltb-true (10000001 - length line) (length more) e in
     let cut : length (take (10000001 - length line) more) ≡ 10000001 - length line = length-take-le (10000001 - length line) more (omega arith) in
     let first : 10000000 < length (held line more ++ f) = omega (arith, cut, length-append (held line more) f, length-append line (take (10000001 - length line) more)) in
     let second : 10000000 < length ((line ++ more) ++ f) = omega (arith, less, length-append (line ++ more) f, length-append line more) in
-    long_same (held line more ++ f) ((line ++ more) ++ f) first second (begins_alike line more f (10000001 - length line) (some_room line))
+    long_same steps s (held line more ++ f) ((line ++ more) ++ f) first second (begins_alike line more f (10000001 - length line) (some_room line))
 
-pub reply_held : (line more f : List ℕ) → reply_or_none (held line more ++ f) ≡ reply_or_none ((line ++ more) ++ f)
-reply_held line more f = by_room _ line more f refl
+same_held : {S : Type 0} (steps : Steps S) (s : S) (line more f : List ℕ) → Same steps s (held line more ++ f) ((line ++ more) ++ f)
+same_held steps s line more f = by_room steps s _ line more f refl
 
 -- a line before the first of some lines
 abbrev before_first : List ℕ → List (List ℕ) → List (List ℕ)
@@ -75,16 +84,26 @@ lines_behind : (l rest : List ℕ) → IsOneLine l → lines_of (l ++ rest) ≡ 
 lines_behind [] rest h = let some = some_line rest in sym (none_before (lines_of rest) some.0 some.1 some.2)
 lines_behind (x ∷ l) rest h = rw (h.0, lines_behind l rest h.1) (onto_before x l (lines_of rest))
 
-firsts : (a b : List ℕ) (ls : List (List ℕ)) → ((f : List ℕ) → reply_or_none (a ++ f) ≡ reply_or_none (b ++ f)) → flat_map reply_or_none (before_first a ls) ≡ flat_map reply_or_none (before_first b ls)
-firsts a b [] same = ap (λ bs. bs ++ []) (ap reply_or_none (sym (append-nil a)) ∙ same [] ∙ ap reply_or_none (append-nil b))
-firsts a b (f ∷ fs) same = ap (λ bs. bs ++ flat_map reply_or_none fs) (same f)
+module _ {S : Type 0} (steps : Steps S) where
+  firsts_at : (s : S) (a b : List ℕ) (fs : List (List ℕ)) → Same steps s a b → replies steps s (a ∷ fs) ≡ replies steps s (b ∷ fs)
+  firsts_at s a b fs same = ap₂ (λ (bs : List ℕ) (t : S). bs ++ replies steps t fs) same.0 same.1
 
--- the bytes behind a line, however far they are held
-pub done_hold : (line more : List ℕ) → IsOneLine (line ++ more) → IsOneLine (held line more) → Done (line ++ more) [] (held line more)
-done_hold line more one front rest =
-    ap (flat_map reply_or_none) (lines_behind (line ++ more) rest one)
-    ∙ firsts (line ++ more) (held line more) (lines_of rest) (λ f. sym (reply_held line more f))
-    ∙ sym (ap (flat_map reply_or_none) (lines_behind (held line more) rest front))
+  firsts : (s : S) (a b : List ℕ) (ls : List (List ℕ)) → ((f : List ℕ) → Same steps s (a ++ f) (b ++ f)) → replies steps s (before_first a ls) ≡ replies steps s (before_first b ls)
+  firsts s a b [] same = ap (λ bs. replies steps s (bs ∷ [])) (sym (append-nil a)) ∙ firsts_at s (a ++ []) (b ++ []) [] (same []) ∙ ap (λ bs. replies steps s (bs ∷ [])) (append-nil b)
+  firsts s a b (f ∷ fs) same = firsts_at s (a ++ f) (b ++ f) fs (same f)
 
-pub reply_of_held : (line more : List ℕ) → reply_or_none (held line more) ≡ reply_or_none (line ++ more)
-reply_of_held line more = ap reply_or_none (sym (append-nil (held line more))) ∙ reply_held line more [] ∙ ap reply_or_none (append-nil (line ++ more))
+  turned : (s : S) (xs ys : List ℕ) → Same steps s xs ys → Same steps s ys xs
+  turned s xs ys same = (sym same.0, sym same.1)
+
+  -- the bytes behind a line, however far they are held
+  pub done_hold : (s : S) (line more : List ℕ) → IsOneLine (line ++ more) → IsOneLine (held line more) → Done steps s s (line ++ more) [] (held line more)
+  done_hold s line more one front rest =
+      ap (replies steps s) (lines_behind (line ++ more) rest one)
+      ∙ firsts s (line ++ more) (held line more) (lines_of rest) (λ f. turned s (held line more ++ f) ((line ++ more) ++ f) (same_held steps s line more f))
+      ∙ sym (ap (replies steps s) (lines_behind (held line more) rest front))
+
+  pub reply_of_held : (s : S) (line more : List ℕ) → reply_or_none steps s (held line more) ≡ reply_or_none steps s (line ++ more)
+  reply_of_held s line more = ap (reply_or_none steps s) (sym (append-nil (held line more))) ∙ (same_held steps s line more []).0 ∙ ap (reply_or_none steps s) (append-nil (line ++ more))
+
+  pub state_of_held : (s : S) (line more : List ℕ) → state_after steps s (held line more) ≡ state_after steps s (line ++ more)
+  state_of_held s line more = ap (state_after steps s) (sym (append-nil (held line more))) ∙ (same_held steps s line more []).1 ∙ ap (state_after steps s) (append-nil (line ++ more))

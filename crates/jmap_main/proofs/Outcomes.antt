@@ -1,6 +1,6 @@
--- Over a port that knows no method, the outcome of a line is the one that `batch` writes.
-use Rattle.std.proofs.Common.{Result, Ok, Err, IfOk, ◌≡◌, ℕ, List, [], ◌∷◌, ◌++◌, Bool, true, false, cond, codes, Option, Some, None, is_some, nat_lt, length, ap, ◌∙◌, subst}
-use Rattle.std.specs.List.{AllByRecursion}
+-- Over a port that takes steps, the outcome of a line is the one that `batch` writes, and the port's state after it is the one
+-- that the steps give.
+use Rattle.std.proofs.Common.{Result, Ok, Err, IfOk, ◌≡◌, ℕ, List, [], ◌∷◌, ◌++◌, Bool, true, false, cond, Option, Some, None, is_some, nat_lt, length, refl, sym, ap, ap₂, ◌∙◌, subst}
 use Rattle.jm_json.specs.Call.{Call}
 use Rattle.jm_json.specs.Json.{tree_of}
 use Rattle.jm_json.specs.Reading.{Reading, not_json, not_whole, whole, reading_of}
@@ -8,70 +8,82 @@ use Rattle.jm_json.specs.declared.invocation.Created.{Created}
 use Rattle.jm_json.specs.declared.invocation.Replied.{Replied}
 use Rattle.method_batch.specs.Method.{core_capability, mail_capability}
 use Rattle.method_batch.specs.Request.{request_of, problem_in, uses}
-use Rattle.method_batch.specs.Prepared.{Preparation, refused, ready, preparation, error_of}
+use Rattle.method_batch.specs.Prepared.{Preparation, refused, ready, preparation}
 use Rattle.method_batch.specs.Answer.{Asked, Runs, RepliesPrepared, RepliesAlone, Answers, after_reply, is_echo}
-use Rattle.method_batch.specs.Outcome.{IsAnswer, IsAnswerBy, IsRefusal, IsOutcomeBy, IsOutcomeUnless, beginning, response_tree, problem_tree}
+use Rattle.method_batch.specs.Outcome.{IsAnswer, IsAnswerBy, IsRefusal, IsOutcomeBy, IsOutcomeUnless, beginning, response_tree}
 use Rattle.method_batch.specs.declared.request.Request.{Request}
 use Rattle.method_batch.specs.declared.progress.Progress.{Progress}
 use Rattle.method_batch.specs.declared.outcome.Outcome.{Outcome}
 use Rattle.method_batch.specs.declared.outcome.Problem.{Problem}
 use Rattle.method_batch.specs.declared.outcome.Problem.TheVariants.{TooLarge}
 use Rattle.jm_base.specs.declared.memory.NoMemory.{NoMemory}
-use Rattle.jmap_main.specs.Batch.{response_of, progress_after, unless_problem, response_to, tree_to, line_tree, begins_with_plus}
+use Rattle.jmap_main.specs.Steps.{Steps, IsDetermined}
+use Rattle.jmap_main.specs.Batch.{Reached, Answered, alone, without_port, by_port, after_prepared, after_calls, shown, problem_at, unless_problem, request_answered, reading_answered, line_answered, begins_with_plus}
 
-abbrev pub unknown : Call → Replied
-unknown c = record { responses = error_of (codes "unknownMethod") c.id ∷ []; made = [] }
+-- the outcome shows this answer, with which the port came to this state
+abbrev pub Shows : {S : Type 0} → Answered S → Outcome → S → Type 0
+Shows a o s = (tree_of o.tree ≡ a.tree) × (s ≡ a.state)
 
-abbrev IsUnknown : Asked → Type 0
-IsUnknown a = a.replied ≡ unknown a.call
+module _ {S : Type 0} (answers : S → Call → List Created → Replied → S → Type 0) (steps : Steps S) (known : IsDetermined answers steps) where
+  -- where one comes to, from a progress and a state
+  abbrev reached : Progress → S → Reached S
+  reached p s = record { progress = p; state = s }
 
-echo_at : (e : Bool) (c : Call) (made : List Created) (first : List Asked) (r : Replied) → AllByRecursion IsUnknown first
-    → cond e (RepliesAlone c first r) (first ≡ record { call = c; made = made; replied = r } ∷ []) → r ≡ record { responses = cond e c (error_of (codes "unknownMethod") c.id) ∷ []; made = [] }
-echo_at true c made first r all h = h.1
-echo_at false c made first r all h = (subst (AllByRecursion IsUnknown) h all).0
+  runs_none : (s m : S) (asked : List Asked) → asked ≡ [] → Runs answers s asked m → m ≡ s
+  runs_none s m asked e runs = subst (λ (xs : List Asked). Runs answers s xs m) e runs
 
-one_at : (p : Preparation) (made : List Created) (first : List Asked) (r : Replied) → AllByRecursion IsUnknown first → RepliesPrepared p made first r → r ≡ record { responses = response_of p ∷ []; made = [] }
-one_at (refused response) made first r all h = h.1
-one_at (ready c) made first r all h = echo_at (is_echo c) c made first r all h
+  runs_parts : (s : S) (xs ys : List Asked) (t : S) → Runs answers s (xs ++ ys) t → (m : S) × Runs answers s xs m × Runs answers m ys t
+  runs_parts s [] ys t h = (s, refl, h)
+  runs_parts s (x ∷ xs) ys t h = let r = runs_parts h.0 xs ys t h.2 in (r.0, (h.0, h.1, r.1), r.2)
 
-fronts : (xs ys : List Asked) → AllByRecursion IsUnknown (xs ++ ys) → AllByRecursion IsUnknown xs × AllByRecursion IsUnknown ys
-fronts [] ys h = (tt, h)
-fronts (x ∷ xs) ys h = let r = fronts xs ys h.1 in ((h.0, r.0), r.1)
+  without_is : (p : Progress) (s m : S) (response : Call) (first : List Asked) (r : Replied) → RepliesAlone response first r → Runs answers s first m → reached (after_reply p r) m ≡ without_port response (reached p s)
+  without_is p s m response first r h runs = ap₂ (λ (x : Replied) (t : S). reached (after_reply p x) t) h.1 (runs_none s m first h.0 runs)
 
-progress_is : (core mail : Bool) (cs : List Call) (before : Progress) (asked : List Asked) (after : Progress) → AllByRecursion IsUnknown asked → Answers core mail cs before asked after
-    → after ≡ progress_after core mail cs before
-progress_is core mail [] before asked after all h = h.1
-progress_is core mail (c ∷ cs) before asked after all (first, more, r, e, one, rest) =
-    let parts = fronts first more (subst (AllByRecursion IsUnknown) e all) in
-    progress_is core mail cs (after_reply before r) more after parts.1 rest
-    ∙ ap (λ (x : Replied). progress_after core mail cs (after_reply before x)) (one_at (preparation core mail c before.responses) before.made first r parts.0 one)
+  by_is : (p : Progress) (s m : S) (c : Call) (first : List Asked) (r : Replied) → first ≡ record { call = c; made = p.made; replied = r } ∷ [] → Runs answers s first m → reached (after_reply p r) m ≡ by_port steps c (reached p s)
+  by_is p s m c first r e runs =
+      let one = subst (λ (xs : List Asked). Runs answers s xs m) e runs in
+      let is = known s c p.made r one.0 one.1 in
+      ap₂ (λ (x : Replied) (t : S). reached (after_reply p x) t) is.0 (one.2 ∙ is.1)
 
-module _ {S : Type 0} (answers : S → Call → List Created → Replied → S → Type 0) (known : (s : S) (c : Call) (m : List Created) (r : Replied) (t : S) → answers s c m r t → r ≡ unknown c) where
-  runs_all : (s : S) (asked : List Asked) (s' : S) → Runs answers s asked s' → AllByRecursion IsUnknown asked
-  runs_all s [] s' h = tt
-  runs_all s (a ∷ rest) s' h = (known s a.call a.made a.replied h.0 h.1, runs_all h.0 rest s' h.2)
+  echo_is : (e : Bool) (p : Progress) (s m : S) (c : Call) (first : List Asked) (r : Replied)
+      → cond e (RepliesAlone c first r) (first ≡ record { call = c; made = p.made; replied = r } ∷ []) → Runs answers s first m → reached (after_reply p r) m ≡ cond e (without_port c (reached p s)) (by_port steps c (reached p s))
+  echo_is true p s m c first r h runs = without_is p s m c first r h runs
+  echo_is false p s m c first r h runs = by_is p s m c first r h runs
 
-  unless_is : (s s' : S) (r : Request) (p : Option Problem) (o : Outcome) → IsOutcomeUnless answers s s' r p o → tree_of o.tree ≡ unless_problem r p
-  unless_is s s' r None o (asked, after, runs, here, is) =
-      is.1 ∙ ap (response_tree (is_some r.created)) (progress_is (uses core_capability r.using) (uses mail_capability r.using) r.calls (beginning r.created) asked after (runs_all s asked s' runs) here)
-  unless_is s s' r (Some p) o h = h.1.1
+  one_is : (q : Preparation) (p : Progress) (s m : S) (first : List Asked) (r : Replied) → RepliesPrepared q p.made first r → Runs answers s first m → reached (after_reply p r) m ≡ after_prepared steps q (reached p s)
+  one_is (refused response) p s m first r h runs = without_is p s m response first r h runs
+  one_is (ready c) p s m first r h runs = echo_is (is_echo c) p s m c first r h runs
 
-  outcome_is : (s s' : S) (r : Option Request) (o : Outcome) → IsOutcomeBy answers s s' r o → tree_of o.tree ≡ response_to r
-  outcome_is s s' None o h = h.1.1
-  outcome_is s s' (Some r) o h = unless_is s s' r (problem_in r) o h
+  reached_is : (core mail : Bool) (cs : List Call) (p : Progress) (s : S) (asked : List Asked) (after : Progress) (t : S) → Runs answers s asked t → Answers core mail cs p asked after
+      → reached after t ≡ after_calls steps core mail cs (reached p s)
+  reached_is core mail [] p s asked after t runs h = ap₂ reached h.1 (runs_none s t asked h.0 runs)
+  reached_is core mail (c ∷ cs) p s asked after t runs (first, more, r, e, one, rest) =
+      let parts = runs_parts s first more t (subst (λ (xs : List Asked). Runs answers s xs t) e runs) in
+      reached_is core mail cs (after_reply p r) parts.0 more after t parts.2 rest
+      ∙ ap (after_calls steps core mail cs) (one_is (preparation core mail c p.responses) p s parts.0 first r one parts.1)
 
-  answer_is : (s s' : S) (r : Reading) (o : Outcome) → IsAnswerBy answers s s' r o → tree_of o.tree ≡ tree_to r
-  answer_is s s' not_json o h = h.1.1
-  answer_is s s' (not_whole path) o h = h.1.1
-  answer_is s s' (whole t) o h = outcome_is s s' (request_of t) o h
+  unless_is : (s t : S) (r : Request) (p : Option Problem) (o : Outcome) → IsOutcomeUnless answers s t r p o → Shows (unless_problem steps s r p) o t
+  unless_is s t r None o (asked, after, runs, here, is) =
+      let e = reached_is (uses core_capability r.using) (uses mail_capability r.using) r.calls (beginning r.created) s asked after t runs here in
+      (is.1 ∙ ap (λ (x : Reached S). response_tree (is_some r.created) x.progress) e, ap (λ (x : Reached S). x.state) e)
+  unless_is s t r (Some p) o h = (h.1.1, h.0)
 
-  limited_is : (b : Bool) (s s' : S) (r : Reading) (o : Outcome) → cond b ((s' ≡ s) × IsRefusal TooLarge o) (IsAnswerBy answers s s' r o) → tree_of o.tree ≡ cond b (problem_tree TooLarge) (tree_to r)
-  limited_is true s s' r o h = h.1.1
-  limited_is false s s' r o h = answer_is s s' r o h
+  outcome_is : (s t : S) (r : Option Request) (o : Outcome) → IsOutcomeBy answers s t r o → Shows (request_answered steps s r) o t
+  outcome_is s t None o h = (h.1.1, h.0)
+  outcome_is s t (Some r) o h = unless_is s t r (problem_in r) o h
 
-  pub line_is : (s s' : S) (line : List ℕ) (o : Outcome) → IsAnswer answers s s' line o → tree_of o.tree ≡ cond (nat_lt 10000000 (length line)) (problem_tree TooLarge) (tree_to (reading_of line))
-  line_is s s' line o h = limited_is (nat_lt 10000000 (length line)) s s' (reading_of line) o h
+  answer_is : (s t : S) (r : Reading) (o : Outcome) → IsAnswerBy answers s t r o → Shows (reading_answered steps s r) o t
+  answer_is s t not_json o h = (h.1.1, h.0)
+  answer_is s t (not_whole path) o h = (h.1.1, h.0)
+  answer_is s t (whole x) o h = outcome_is s t (request_of x) o h
 
-  pub lines_are : (s s' : S) (line : List ℕ) (r : Result Outcome NoMemory) → begins_with_plus line ≡ false → IfOk r (IsAnswer answers s s' line) → IfOk r (λ o. tree_of o.tree ≡ line_tree line)
-  lines_are s s' line (Ok o) e h = rw e (line_is s s' line o h)
-  lines_are s s' line (Err y) e h = tt
+  limited_is : (b : Bool) (s t : S) (r : Reading) (o : Outcome) → cond b ((t ≡ s) × IsRefusal TooLarge o) (IsAnswerBy answers s t r o) → Shows (cond b (problem_at s TooLarge) (reading_answered steps s r)) o t
+  limited_is true s t r o h = (h.1.1, h.0)
+  limited_is false s t r o h = answer_is s t r o h
+
+  pub line_is : (s t : S) (line : List ℕ) (o : Outcome) → begins_with_plus line ≡ false → IsAnswer answers s t line o → Shows (line_answered steps s line) o t
+  line_is s t line o e h = rw e (limited_is (nat_lt 10000000 (length line)) s t (reading_of line) o h)
+
+  pub lines_are : (s t : S) (line : List ℕ) (r : Result Outcome NoMemory) → begins_with_plus line ≡ false → IfOk r (IsAnswer answers s t line) → IfOk r (λ o. Shows (line_answered steps s line) o t)
+  lines_are s t line (Ok o) e h = line_is s t line o e h
+  lines_are s t line (Err y) e h = tt

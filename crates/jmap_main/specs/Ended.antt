@@ -4,7 +4,8 @@ use Rattle.std.specs.Io.KnownBytes.{Appends}
 use Rattle.jm_edge.specs.Causes.{Rose}
 use Rattle.jmap_main.specs.declared.words.Command.{Command}
 use Rattle.jmap_main.specs.declared.words.Command.TheVariants.{Read}
-use Rattle.jmap_main.specs.Run.{HasAnswered, IsTooLong}
+use Rattle.jmap_main.specs.Run.{HasAnsweredAll, IsLongerThan, IsTooLong}
+use Rattle.jmap_main.specs.Words.{out_of, most_of}
 use Rattle.jmap_main.specs.declared.ending.Ending.{Ending}
 use Rattle.jmap_main.specs.declared.ending.Ending.TheVariants.{Done, Usage, ReadFault, WriteFault, NoMemory, TooLong}
 
@@ -19,14 +20,18 @@ pub record Seen : Type 0 where
   pub writes : ℕ
   pub writes_after : ℕ
 
+-- why a command came to this end that writes this for what it reads, and may read so many bytes
+abbrev pub ExplainsAll : (List ℕ → List ℕ) → ℕ → Ending → Seen → Type 0
+ExplainsAll out most Done s = HasAnsweredAll out most s.left s.left_after s.held s.held_after
+ExplainsAll out most Usage s = ⊥
+ExplainsAll out most ReadFault s = Rose s.reads s.reads_after
+ExplainsAll out most WriteFault s = Rose s.writes s.writes_after
+ExplainsAll out most NoMemory s = ⊤
+ExplainsAll out most TooLong s = IsLongerThan most s.left s.left_after
+
 -- why a command came to this end
 abbrev pub Explains : Command → Ending → Seen → Type 0
-Explains c Done s = HasAnswered c s.left s.left_after s.held s.held_after
-Explains c Usage s = ⊥
-Explains c ReadFault s = Rose s.reads s.reads_after
-Explains c WriteFault s = Rose s.writes s.writes_after
-Explains c NoMemory s = ⊤
-Explains c TooLong s = IsTooLong c s.left s.left_after
+Explains c = ExplainsAll (out_of c) (most_of c)
 
 -- why the replies to a piece were not all put
 abbrev pub StopsFor : Ending → ℕ → ℕ → Type 0

@@ -1,4 +1,6 @@
 pub mod Lines
+pub mod Steps
+pub mod Unknown
 pub mod Batch
 pub mod Read
 pub mod Words

@@ -2,9 +2,9 @@
 ghost use Rattle.std.specs.Prelude.{◌≡◌, ◌-◌, ℕ, [], ◌∷◌, ◌++◌, length, take, IfOk, OnOk, OnErr, MatchOption};
 ghost use Rattle.jm_json.specs.Json.{tree_of};
 ghost use Rattle.jmap_main.specs.Lines.{IsOneLine};
-ghost use Rattle.jmap_main.specs.Batch.{begins_with_plus, line_text, line_tree, reply_or_none};
+ghost use Rattle.jmap_main.specs.Batch.{begins_with_plus, line_answered, line_text, reply_or_none, state_after};
 
-use crate::unknown::UnknownPort;
+use crate::steps::StepPort;
 use jm_base::{Bytes, NoMemory};
 use jm_json::{Scratch, write_after};
 use memchr::memchr;
@@ -49,37 +49,41 @@ pub(crate) fn hold(line: &mut Bytes, more: &[u8]) -> Result<(), NoMemory>
 
 /// Answers the line that is held and ends with these bytes, and begins the next. After want of memory a front of the reply
 /// may stand there.
-pub(crate) fn end_line(
+pub(crate) fn end_line<P: StepPort>(
     alloc: Global,
     scratch: &mut Scratch,
+    port: &mut P,
     line: &mut Bytes,
     last: &[u8],
     replies: &mut Bytes,
 ) -> Result<(), NoMemory>
-    ensures ok { OnOk result (replies.new ≡ replies.old ++ reply_or_none (line.old ++ last.now)) }
+    ensures ok { OnOk result (replies.new ≡ replies.old ++ reply_or_none P.steps port.old (line.old ++ last.now)) }
+    ensures state { OnOk result (port.new ≡ state_after P.steps port.old (line.old ++ last.now)) }
     ensures begun { OnOk result (line.new ≡ []) }
-    ensures err { OnErr result ((n : ℕ) × (replies.new ≡ replies.old ++ take n (reply_or_none (line.old ++ last.now)))) }
+    ensures err { OnErr result ((n : ℕ) × (replies.new ≡ replies.old ++ take n (reply_or_none P.steps port.old (line.old ++ last.now)))) }
 {
     if line.is_empty() {
-        return answer_line(alloc, scratch, last, replies);
+        return answer_line(alloc, scratch, port, last, replies);
     }
     match hold(line, last) {
-        Ok(()) => answer_held(alloc, scratch, line, replies),
+        Ok(()) => answer_held(alloc, scratch, port, line, replies),
         Err(refused) => Err(refused),
     }
 }
 
-fn answer_held(
+fn answer_held<P: StepPort>(
     alloc: Global,
     scratch: &mut Scratch,
+    port: &mut P,
     line: &mut Bytes,
     replies: &mut Bytes,
 ) -> Result<(), NoMemory>
-    ensures ok { OnOk result (replies.new ≡ replies.old ++ reply_or_none line.old) }
+    ensures ok { OnOk result (replies.new ≡ replies.old ++ reply_or_none P.steps port.old line.old) }
+    ensures state { OnOk result (port.new ≡ state_after P.steps port.old line.old) }
     ensures begun { OnOk result (line.new ≡ []) }
-    ensures err { OnErr result ((n : ℕ) × (replies.new ≡ replies.old ++ take n (reply_or_none line.old))) }
+    ensures err { OnErr result ((n : ℕ) × (replies.new ≡ replies.old ++ take n (reply_or_none P.steps port.old line.old))) }
 {
-    match answer_line(alloc, scratch, line.as_slice(), replies) {
+    match answer_line(alloc, scratch, port, line.as_slice(), replies) {
         Ok(()) => {
             line.clear();
             Ok(())
@@ -88,19 +92,21 @@ fn answer_held(
     }
 }
 
-fn answer_line(
+fn answer_line<P: StepPort>(
     alloc: Global,
     scratch: &mut Scratch,
+    port: &mut P,
     line: &[u8],
     replies: &mut Bytes,
 ) -> Result<(), NoMemory>
-    ensures ok { OnOk result (replies.new ≡ replies.old ++ reply_or_none line.now) }
-    ensures err { OnErr result ((n : ℕ) × (replies.new ≡ replies.old ++ take n (reply_or_none line.now))) }
+    ensures ok { OnOk result (replies.new ≡ replies.old ++ reply_or_none P.steps port.old line.now) }
+    ensures state { OnOk result (port.new ≡ state_after P.steps port.old line.now) }
+    ensures err { OnErr result ((n : ℕ) × (replies.new ≡ replies.old ++ take n (reply_or_none P.steps port.old line.now))) }
 {
     if line.is_empty() {
         return Ok(());
     }
-    match outcome_of(alloc, scratch, line) {
+    match outcome_of(alloc, scratch, port, line) {
         Ok(outcome) => write_line(alloc, &outcome, replies),
         Err(refused) => Err(refused),
     }
@@ -117,13 +123,18 @@ fn write_line(alloc: Global, outcome: &Outcome, replies: &mut Bytes) -> Result<(
     }
 }
 
-fn outcome_of(alloc: Global, scratch: &mut Scratch, line: &[u8]) -> Result<Outcome, NoMemory>
-    ensures { IfOk result (λ o. tree_of o.tree ≡ line_tree line.now) }
+fn outcome_of<P: StepPort>(
+    alloc: Global,
+    scratch: &mut Scratch,
+    port: &mut P,
+    line: &[u8],
+) -> Result<Outcome, NoMemory>
+    ensures { IfOk result (λ o. (tree_of o.tree ≡ (line_answered P.steps port.old line.now).tree) × (port.new ≡ (line_answered P.steps port.old line.now).state)) }
 {
     if begins_with_plus(line) {
         return Outcome::refusal(alloc, Problem::NotJson);
     }
-    answer_request_with(alloc, scratch, &mut UnknownPort, line)
+    answer_request_with(alloc, scratch, port, line)
 }
 
 fn begins_with_plus(line: &[u8]) -> bool

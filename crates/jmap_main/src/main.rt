@@ -2,11 +2,16 @@
 #![tactic(auto)]
 
 mod batch;
+#[cfg(test)]
+mod edge_tests;
 mod ending;
 mod leaves;
 mod line;
 mod read;
+#[cfg(test)]
+mod read_tests;
 mod run;
+mod steps;
 #[cfg(test)]
 mod tests;
 mod unknown;

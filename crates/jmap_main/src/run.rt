@@ -9,6 +9,7 @@ ghost use Rattle.jmap_main.specs.Ended.{Explains, ExplainsWords};
 use crate::batch::answer_input;
 use crate::ending::{Ending, Status};
 use crate::read::read_message;
+use crate::unknown::UnknownPort;
 use crate::words::Command;
 use jm_edge::{Sink, Source};
 use std::alloc::Global;
@@ -97,7 +98,7 @@ fn perform_command<S: Source, O: Sink>(
     ensures begun { HasBegun command (S.left source.old) (S.left source.new) (O.held out.old) (O.held out.new) }
 {
     match command {
-        Command::Batch => answer_input(alloc, source, out),
+        Command::Batch => answer_input(alloc, &mut UnknownPort, source, out),
         Command::Read => read_message(alloc, source, out),
     }
 }

@@ -273,67 +273,6 @@ fn writes_a_front_whatever_fails(rt: HostRuntime) -> Result<(), Fail> {
 }
 
 #[test]
-fn reads_the_leaves_of_a_message(rt: HostRuntime) -> Result<(), Fail> {
-    let rows = [
-        (
-            "",
-            "{\"parts\":[{\"partId\":\"1\",\"size\":0,\"type\":\"text/plain\"}]}\n",
-        ),
-        (
-            "Content-Type: multipart/mixed; boundary=a\n\n--a\n\none\n--ab\n--a \n\ntwo",
-            "{\"parts\":[{\"partId\":\"1\",\"size\":8,\"type\":\"text/plain\"},{\"partId\":\"2\",\"size\":3,\"type\":\"text/plain\"}]}\n",
-        ),
-        (
-            "Content-Type: image/PNG\nContent-Transfer-Encoding: base64\n\nAAEC\n",
-            "{\"parts\":[{\"partId\":\"1\",\"size\":3,\"type\":\"image/png\"}]}\n",
-        ),
-    ];
-    for (message, line) in &rows {
-        let done = answer(
-            &rt,
-            rt.alloc(),
-            "read",
-            message,
-            7,
-            never(rt.alloc()),
-            never(rt.alloc()),
-        )?;
-        assert_eq!(rt; done.status, Status(0));
-        assert_eq!(rt; done.out.as_slice(), line.as_bytes());
-    }
-    Ok(())
-}
-
-#[test]
-fn reads_no_message_in_part(rt: HostRuntime) -> Result<(), Fail> {
-    let unread = answer(
-        &rt,
-        rt.alloc(),
-        "read",
-        "abc",
-        2,
-        after(rt.alloc(), 1)?,
-        never(rt.alloc()),
-    )?;
-    assert_eq!(rt; unread.status, Status(3));
-    assert_eq!(rt; unread.out.as_slice(), b"".as_slice());
-    let unput = answer(
-        &rt,
-        rt.alloc(),
-        "read",
-        "abc",
-        2,
-        never(rt.alloc()),
-        after(rt.alloc(), 0)?,
-    )?;
-    assert_eq!(rt; unput.status, Status(4));
-    let longer = repeats(&rt, rt.alloc(), "read", 0, 50000001)?;
-    assert_eq!(rt; longer.status, Status(14));
-    assert_eq!(rt; longer.out.as_slice(), b"".as_slice());
-    Ok(())
-}
-
-#[test]
 fn refuses_other_words(rt: HostRuntime) -> Result<(), Fail> {
     for words in ["read x", "batch batch", "", "Batch"] {
         let other = answer(

@@ -1,7 +1,7 @@
 // The port of a program that has no methods yet.
-ghost use Rattle.std.specs.Prelude.{◌≡◌, [], ◌∷◌, codes};
-ghost use Rattle.method_batch.specs.Prepared.{error_of};
+ghost use Rattle.std.specs.Prelude.{◌≡◌};
 
+use crate::steps::StepPort;
 use jm_base::NoMemory;
 use jm_json::{Invocation, Invocations, Made, Replied};
 use method_batch::{Port, error};
@@ -12,7 +12,9 @@ use std::alloc::Global;
 pub struct UnknownPort;
 
 impl Port for UnknownPort {
-    ghost answers = { λ s c made r t. r ≡ record { responses = error_of (codes "unknownMethod") c.id ∷ []; made = [] } };
+    ghost use Rattle.jmap_main.specs.Unknown.{unknown};
+
+    ghost answers = { λ s c made r t. (r ≡ unknown c) × (t ≡ s) };
 
     fn call(
         &mut self,
@@ -27,4 +29,12 @@ impl Port for UnknownPort {
             made: Made::new(alloc),
         })
     }
+}
+
+impl StepPort for UnknownPort {
+    ghost use Rattle.jmap_main.specs.Unknown.{unknown};
+
+    ghost steps = { record { replied = λ s c made. unknown c; next = λ s c made. s } };
+
+    ghost determined = { λ s c made r t h. h };
 }

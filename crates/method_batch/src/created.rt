@@ -39,12 +39,21 @@ fn read_pairs(alloc: Global, members: Members) -> Result<Option<Made>, NoMemory>
     Ok(Some(made))
 }
 
-/// The members for what was made: of a creation id that was made twice the last counts.
+// What was made, in the order of the creation ids; what was made under one id stays in the order of making.
+fn in_order(made: Made) -> Result<Vec<Created>, NoMemory>
+    ensures { IfOk result (λ cs. put_ids [] cs.items ≡ put_ids [] made) }
+{
+    let mut all = made.into_vec();
+    all.sort_by(|a, b| a.creation.as_bytes().cmp(b.creation.as_bytes()))?;
+    Ok(all)
+}
+
+/// The members for what was made: of a creation id that was made twice the last counts. Each is put last, or in place of the last.
 pub(crate) fn id_members(alloc: Global, made: Made) -> Result<Members, NoMemory>
     ensures { IfOk result (λ ms. ms ≡ put_ids [] made) }
 {
     let mut members = Members::new(alloc);
-    let mut rest = VecDeque::from_vec(made.into_vec());
+    let mut rest = VecDeque::from_vec(in_order(made)?);
     while let Some(created) = rest.pop_front() {
         members.put(created.creation, Json::Text(created.id))?;
     }

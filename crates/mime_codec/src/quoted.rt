@@ -1,7 +1,7 @@
 // Quoted-printable (RFC 2045, section 6.7), line by line; in a line the runs between equals signs are found by memchr.
 ghost use Rattle.std.specs.Prelude.{◌≡◌, true, ◌<◌, ◌≤◌, ◌+◌, ◌*◌, ◌∷◌, ◌++◌, length, take, drop, IfOk, OnOk};
 ghost use Rattle.mime_lines.specs.Lines.{lines, text, is_blank};
-ghost use Rattle.mime_codec.specs.Quoted.{is_hex, hex_value, unescaped, trimmed, quoted_text, quoted_line, quoted_printable};
+ghost use Rattle.mime_codec.specs.Quoted.{is_hex, hex_value, unescaped, without_end_blanks, text_with_end, quoted_line, quoted_printable};
 
 use jm_base::{Bytes, NoMemory};
 use memchr::memchr;
@@ -36,6 +36,7 @@ pub struct First<'a> {
     pub rest: &'a [u8],
 }
 
+/// The byte of the escape at the front, or the first byte itself, and the text after it.
 pub fn split_first(text: &[u8]) -> First<'_>
     requires { 0 < length text.now }
     ensures value { unescaped text.now ≡ result.byte ∷ unescaped result.rest.now }
@@ -109,7 +110,7 @@ fn is_blank_byte(byte: u8) -> bool
 
 /// The text without the spaces and tabs at its end.
 pub fn trim_end(text: &[u8]) -> &[u8]
-    ensures { result.now ≡ trimmed text.now }
+    ensures { result.now ≡ without_end_blanks text.now }
 {
     let mut len = text.len();
     while 0 < len && is_blank_byte(text[len - 1]) {
@@ -120,7 +121,7 @@ pub fn trim_end(text: &[u8]) -> &[u8]
 
 /// Adds what a line stands for, of which this text is left, and which ends so.
 fn push_text(out: &mut Vec<u8>, text: &[u8], end: &[u8]) -> Result<(), NoMemory>
-    ensures { OnOk result (out.new.items ≡ out.old.items ++ quoted_text text.now end.now) }
+    ensures { OnOk result (out.new.items ≡ out.old.items ++ text_with_end text.now end.now) }
 {
     let len = text.len();
     if 0 < len && text[len - 1] == b'=' {

@@ -2,7 +2,7 @@
 ghost use Rattle.std.specs.Prelude.{◌≡◌, ◌≤◌, ◌<◌, ◌+◌, ◌^◌, List, ℕ, length};
 ghost use Rattle.mime_codec.specs.Base64.{letter, with_letter, letters, base64};
 ghost use Rattle.mime_codec.specs.Decoded.{decoded};
-ghost use Rattle.mime_codec.specs.Quoted.{unescaped, quoted_text, quoted_line, quoted_printable};
+ghost use Rattle.mime_codec.specs.Quoted.{unescaped, text_with_end, quoted_line, quoted_printable};
 
 use crate::base64::{NO_LETTER, six_bits};
 use crate::coding::Coding;
@@ -56,7 +56,7 @@ fn unescaped_size(text: &[u8]) -> usize
 
 fn text_size(text: &[u8], end: &[u8]) -> usize
     requires { length text.now + length end.now < 2 ^ 64 }
-    ensures value { result ≡ length (quoted_text text.now end.now) }
+    ensures value { result ≡ length (text_with_end text.now end.now) }
     ensures within { result ≤ length text.now + length end.now }
 {
     let len = text.len();

@@ -13,6 +13,13 @@ fn quoted(alloc: Global, text: &[u8], meant: &[u8]) -> bool {
     decodes(alloc, Coding::Quoted, text, meant)
 }
 
+fn unescapes(alloc: Global, text: &[u8], meant: &[u8]) -> bool {
+    match unescape(alloc, text) {
+        Ok(out) => out.as_slice() == meant,
+        Err(_) => false,
+    }
+}
+
 fn base64(alloc: Global, text: &[u8], meant: &[u8]) -> bool {
     decodes(alloc, Coding::Base64, text, meant)
 }
@@ -41,10 +48,7 @@ fn quoted_printable_escapes(rt: HostRuntime) {
     assert!(rt; quoted(alloc, b"caf=C3=A9=3d=3D\r\n", b"caf\xc3\xa9==\r\n"));
     assert!(rt; quoted(alloc, b"=41\n=42\r\n\r\n", b"A\nB\r\n\r\n"));
     assert!(rt; quoted(alloc, b"=G1=1=\xff=41=4", b"=G1=1=\xffA=4"));
-    let Ok(out) = unescape(alloc, b"a =20\r\n=") else {
-        return;
-    };
-    assert!(rt; out.as_slice() == b"a  \r\n=".as_slice());
+    assert!(rt; unescapes(alloc, b"a =20\r\n=", b"a  \r\n="));
 }
 
 #[test]
@@ -75,6 +79,14 @@ fn bytes_as_they_are(rt: HostRuntime) {
     let alloc = rt.alloc();
     assert!(rt; decodes(alloc, Coding::Plain, b"=41 \n", b"=41 \n"));
     assert!(rt; decodes(alloc, Coding::Unknown, b"=41 \n", b"=41 \n"));
+}
+
+#[test]
+fn zero_and_8_bit_bytes(rt: HostRuntime) {
+    let alloc = rt.alloc();
+    assert!(rt; decodes(alloc, Coding::Plain, b"\0\xff", b"\0\xff"));
+    assert!(rt; quoted(alloc, b"\0=00\xff=FF=\0\x80 \n", b"\0\0\xff\xff=\0\x80\n"));
+    assert!(rt; base64(alloc, b"\0Zm\xff8\x80=\0", b"fo"));
 }
 
 #[test]

@@ -61,3 +61,33 @@ fn folded_value_on_one_line(rt: HostRuntime) -> Result<(), Fail> {
     assert_eq!(rt; line.as_slice(), b" a b\tc\rd".as_slice());
     Ok(())
 }
+
+/// As many copies of a line.
+fn copies(alloc: Global, line: &[u8], count: u32) -> Result<Vec<u8>, NoMemory> {
+    let mut bytes = Vec::new(alloc);
+    for _ in 0..count {
+        bytes.extend_from_slice(line)?;
+    }
+    Ok(bytes)
+}
+
+#[test]
+fn header_of_many_fields(rt: HostRuntime) -> Result<(), Fail> {
+    let bytes = copies(rt.alloc(), b"A:1\n", 100000)?;
+    let head = fields(rt.alloc(), bytes.as_slice())?;
+    assert_eq!(rt; head.fields.as_slice().len(), 100000);
+    let last = head.fields.as_slice().last().ok_or("no field")?;
+    assert!(rt; last.start == 399996 && last.colon == 399997 && last.end == 399999);
+    assert_eq!(rt; head.body, 400000);
+    Ok(())
+}
+
+#[test]
+fn line_of_a_million_bytes(rt: HostRuntime) -> Result<(), Fail> {
+    let mut bytes = copies(rt.alloc(), b"A:\0\xff", 250000)?;
+    bytes.extend_from_slice(b"\nB:\n\n")?;
+    let found = places(rt.alloc(), bytes.as_slice())?;
+    let want: &[u64] = &[0, 1, 1000000, 1000001, 1000002, 1000003, 1000005];
+    assert_eq!(rt; found.as_slice(), want);
+    Ok(())
+}

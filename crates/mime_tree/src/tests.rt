@@ -46,7 +46,7 @@ fn outline(alloc: Global, message: &[u8]) -> Result<Vec<u8>, NoMemory> {
 
 #[test]
 fn outlines_of_messages(rt: HostRuntime) -> Result<(), Fail> {
-    let table: [(&[u8], &[u8]); 9] = [
+    let table: [(&[u8], &[u8]); 11] = [
         (b"", b"1 text/plain \n"),
         (
             b"Content-Type: multipart/mixed; boundary=a\n\n--a\n\none\n--ab\n--a \n\ntwo",
@@ -84,6 +84,16 @@ fn outlines_of_messages(rt: HostRuntime) -> Result<(), Fail> {
         (
             b"Content-Type: multipart/mixed; boundary=a\n\n--a\nx\n--a\n--a--",
             b"- multipart/mixed\n1 text/plain \n2 text/plain \n",
+        ),
+        // Zeros and 8-bit bytes in boundaries and bodies.
+        (
+            b"Content-Type: multipart/mixed; boundary=\"\0\xc3\xa9\"\n\n--\0\xc3\xa9\n\n\0\xff\n--\0\xc3\n--\0\xc3\xa9--",
+            b"- multipart/mixed\n1 text/plain \0\xff\n--\0\xc3\n",
+        ),
+        // A byte of a boundary that is no UTF-8 stands for U+FFFD, and so finds no delimiter of its own.
+        (
+            b"Content-Type: multipart/mixed; boundary=\"\xff\"\n\n--\xff\n\na\n--\xef\xbf\xbd\n\nb",
+            b"- multipart/mixed\n1 text/plain b\n",
         ),
     ];
     for (message, want) in table {
@@ -124,23 +134,104 @@ fn example_with_preamble_and_epilogue(rt: HostRuntime) -> Result<(), Fail> {
 }
 
 #[test]
-fn multiparts_within_one_another(rt: HostRuntime) -> Result<(), Fail> {
-    let alloc = rt.alloc();
+fn example_of_alternatives(rt: HostRuntime) -> Result<(), Fail> {
+    let message: &[u8] = b"From:  Nathaniel Borenstein <nsb@bellcore.com>\r\n\
+        To: Ned Freed <ned@innosoft.com>\r\n\
+        Date: Mon, 22 Mar 1993 09:41:09 -0800 (PST)\r\n\
+        Subject: Formatted text mail\r\n\
+        MIME-Version: 1.0\r\n\
+        Content-Type: multipart/alternative; boundary=boundary42\r\n\r\n\
+        --boundary42\r\n\
+        Content-Type: text/plain; charset=us-ascii\r\n\r\n\
+        ... plain text version of message goes here ...\r\n\r\n\
+        --boundary42\r\n\
+        Content-Type: text/enriched\r\n\r\n\
+        ... RFC 1896 text/enriched version of same message\r\n goes here ...\r\n\r\n\
+        --boundary42\r\n\
+        Content-Type: application/x-whatever\r\n\r\n\
+        ... fanciest version of same message goes here ...\r\n\r\n\
+        --boundary42--\r\n";
+    let want: &[u8] = b"- multipart/alternative\n\
+        1 text/plain ... plain text version of message goes here ...\r\n\n\
+        2 text/enriched ... RFC 1896 text/enriched version of same message\r\n goes here ...\r\n\n\
+        3 application/x-whatever ... fanciest version of same message goes here ...\r\n\n";
+    let found = outline(rt.alloc(), message)?;
+    assert_eq!(rt; found.as_slice(), want);
+    Ok(())
+}
+
+#[test]
+fn example_of_a_digest(rt: HostRuntime) -> Result<(), Fail> {
+    let message: &[u8] = b"From: Moderator-Address\r\n\
+        To: Recipient-List\r\n\
+        Date: Mon, 22 Mar 1994 13:34:51 +0000\r\n\
+        Subject: Internet Digest, volume 42\r\n\
+        MIME-Version: 1.0\r\n\
+        Content-Type: multipart/mixed;\r\n   boundary=\"---- main boundary ----\"\r\n\r\n\
+        ------ main boundary ----\r\n\r\n\
+        ...Introductory text or table of contents...\r\n\r\n\
+        ------ main boundary ----\r\n\
+        Content-Type: multipart/digest;\r\n   boundary=\"---- next message ----\"\r\n\r\n\
+        ------ next message ----\r\n\r\n\
+        From: someone-else\r\n\
+        Subject: my opinion\r\n\r\n ...body goes here ...\r\n\r\n\
+        ------ next message ----\r\n\r\n\
+        From: someone-else-again\r\n\
+        Subject: my different opinion\r\n\r\n ... another body goes here ...\r\n\r\n\
+        ------ next message ------\r\n\r\n\
+        ------ main boundary ------\r\n";
+    let want: &[u8] = b"- multipart/mixed\n\
+        1 text/plain ...Introductory text or table of contents...\r\n\n\
+        - multipart/digest\n\
+        2 message/rfc822 From: someone-else\r\n\
+        Subject: my opinion\r\n\r\n ...body goes here ...\r\n\n\
+        3 message/rfc822 From: someone-else-again\r\n\
+        Subject: my different opinion\r\n\r\n ... another body goes here ...\r\n\n";
+    let found = outline(rt.alloc(), message)?;
+    assert_eq!(rt; found.as_slice(), want);
+    Ok(())
+}
+
+/// As many multiparts, each within the one before; the last has an empty part.
+fn nest(alloc: Global, count: u32) -> Result<Vec<u8>, NoMemory> {
     let mut message = Vec::new(alloc);
-    let mut want = Vec::new(alloc);
-    for depth in 1..34u8 {
+    for depth in 1..=count {
         let head = format!(in alloc;
             "Content-Type: multipart/mixed; boundary=b{depth}\n\n--b{depth}\n"
         )?;
         message.extend_from_slice(head.as_bytes())?;
-        want.extend_from_slice(if depth < 33 {
-            b"- multipart/mixed\n"
-        } else {
-            b"1 application/octet-stream --b33\n\n"
-        })?;
     }
-    let found = outline(alloc, message.as_slice())?;
-    assert_eq!(rt; found.as_slice(), want.as_slice());
+    Ok(message)
+}
+
+/// An outline of as many multiparts, each within the one before, down to a leaf.
+fn nested_outline(alloc: Global, count: u32, leaf: &[u8]) -> Result<Vec<u8>, NoMemory> {
+    let mut want = Vec::new(alloc);
+    for _ in 0..count {
+        want.extend_from_slice(b"- multipart/mixed\n")?;
+    }
+    want.extend_from_slice(leaf)?;
+    Ok(want)
+}
+
+#[test]
+fn multiparts_within_one_another(rt: HostRuntime) -> Result<(), Fail> {
+    let last = outline(rt.alloc(), nest(rt.alloc(), 32)?.as_slice())?;
+    let want = nested_outline(rt.alloc(), 32, b"1 text/plain \n")?;
+    assert_eq!(rt; last.as_slice(), want.as_slice());
+    let past = outline(rt.alloc(), nest(rt.alloc(), 33)?.as_slice())?;
+    let want = nested_outline(rt.alloc(), 32, b"1 application/octet-stream --b33\n\n")?;
+    assert_eq!(rt; past.as_slice(), want.as_slice());
+    Ok(())
+}
+
+#[test]
+fn ten_thousand_multiparts_within_one_another(rt: HostRuntime) -> Result<(), Fail> {
+    let message = nest(rt.alloc(), 10000)?;
+    let found = outline(rt.alloc(), message.as_slice())?;
+    let want = nested_outline(rt.alloc(), 32, b"1 application/octet-stream --b33\n")?;
+    assert!(rt; found.as_slice().starts_with(want.as_slice()));
+    assert!(rt; found.as_slice().ends_with(b"--b10000\n\n"));
     Ok(())
 }
 
@@ -149,7 +240,7 @@ fn parts_past_the_limit(rt: HostRuntime) -> Result<(), Fail> {
     let alloc = rt.alloc();
     let mut message = Vec::from_slice(alloc, b"Content-Type: multipart/mixed; boundary=a\n\n")?;
     let mut want = Vec::from_slice(alloc, b"- multipart/mixed\n")?;
-    for number in 1..1005u32 {
+    for number in 1..5001u32 {
         message.extend_from_slice(b"--a\n\nx\n")?;
         if number < 1000 {
             want.extend_from_slice(format!(in alloc; "{number} text/plain x\n")?.as_bytes())?;

@@ -1,40 +1,42 @@
--- Reading parameters one after the other, as a loop does.
-use Rattle.std.proofs.Common.{◌≡◌, ℕ, zero, suc, ◌≤◌, ◌<◌, Bool, true, false, List, [], ◌∷◌, ◌++◌, length, sym, ap, ◌∙◌, append_assoc, arith}
-use Rattle.std.proofs.lemmas.List.{append-nil}
-use Rattle.mime_type.specs.Grammar.{Pair, Params, Turn, ends, breaks, skips, gives, turn_at, by_turn, before_params, params_in}
+-- Going over parameters, turn after turn, with an eye on something of what is found.
+use Rattle.std.proofs.Common.{◌≡◌, ℕ, zero, suc, ◌≤◌, ◌<◌, true, false, List, [], length, refl, sym, ap, ◌∙◌, arith}
+use Rattle.mime_type.specs.Grammar.{Pair, Params, Turn, ends, breaks, skips, gives, turn_at, by_turn, onto_params, params_in, params_of}
 
-abbrev params : Bool → List Pair → Params
-params whole found = record { found = found; whole = whole }
+-- what is seen of the parameters of the rest is what is seen of all
+abbrev pub Sees : {A : Type 0} → (Params → A) → A → List ℕ → Type 0
+Sees see total rest = (n : ℕ) × (length rest < n) × (see (params_in n rest) ≡ total)
 
-pub ended : (front : List Pair) (n : ℕ) (rest : List ℕ) (total : Params) → length rest < n → turn_at rest ≡ ends
-    → before_params front (params_in n rest) ≡ total → record { found = front; whole = true } ≡ total
+pub begun : {A : Type 0} (see : Params → A) (text : List ℕ) → Sees see (see (params_of text)) text
+begun see text = (suc (length text), omega arith, refl)
+
+turned : {A : Type 0} (see : Params → A) (total : A) (rest : List ℕ) (t : Turn) → Sees see total rest → turn_at rest ≡ t
+    → (n : ℕ) × (length rest ≤ n) × (see (by_turn t (params_in n)) ≡ total)
 unfolding params_in
-ended front zero rest total h t e = absurd (omega arith)
-ended front (suc n) rest total h t e =
-    let one : before_params front (by_turn (turn_at rest) (params_in n)) ≡ before_params front (by_turn ends (params_in n)) = ap (λ (u : Turn). before_params front (by_turn u (params_in n))) t in
-    ap (params true) (sym (append-nil front)) ∙ sym one ∙ e
+turned see total rest t (zero, h, e) is = absurd (omega (arith, h))
+turned see total rest t (suc n, h, e) is = (n, omega (arith, h), sym (ap (λ u. see (by_turn u (params_in n))) is) ∙ e)
 
-pub broke : (front : List Pair) (n : ℕ) (rest : List ℕ) (total : Params) → length rest < n → turn_at rest ≡ breaks
-    → before_params front (params_in n rest) ≡ total → record { found = front; whole = false } ≡ total
-unfolding params_in
-broke front zero rest total h t e = absurd (omega arith)
-broke front (suc n) rest total h t e =
-    let one : before_params front (by_turn (turn_at rest) (params_in n)) ≡ before_params front (by_turn breaks (params_in n)) = ap (λ (u : Turn). before_params front (by_turn u (params_in n))) t in
-    ap (params false) (sym (append-nil front)) ∙ sym one ∙ e
+pub ended : {A : Type 0} (see : Params → A) (total : A) (rest : List ℕ) → Sees see total rest → turn_at rest ≡ ends
+    → see (record { found = []; whole = true }) ≡ total
+ended see total rest s is = (turned see total rest ends s is).2
 
-pub skipped : (front : List Pair) (n : ℕ) (rest after : List ℕ) (total : Params) → length rest < n → suc (length after) ≤ length rest → turn_at rest ≡ skips after
-    → before_params front (params_in n rest) ≡ total → (m : ℕ) × (length after < m) × (before_params front (params_in m after) ≡ total)
-unfolding params_in
-skipped front zero rest after total h less t e = absurd (omega arith)
-skipped front (suc n) rest after total h less t e =
-    let one : before_params front (by_turn (turn_at rest) (params_in n)) ≡ before_params front (by_turn (skips after) (params_in n)) = ap (λ (u : Turn). before_params front (by_turn u (params_in n))) t in
-    (n, omega arith, sym one ∙ e)
+pub broke : {A : Type 0} (see : Params → A) (total : A) (rest : List ℕ) → Sees see total rest → turn_at rest ≡ breaks
+    → see (record { found = []; whole = false }) ≡ total
+broke see total rest s is = (turned see total rest breaks s is).2
 
-pub gave : (front : List Pair) (n : ℕ) (rest after : List ℕ) (p : Pair) (total : Params) → length rest < n → suc (length after) ≤ length rest → turn_at rest ≡ gives p after
-    → before_params front (params_in n rest) ≡ total → (m : ℕ) × (length after < m) × (before_params (front ++ p ∷ []) (params_in m after) ≡ total)
-unfolding params_in
-gave front zero rest after p total h less t e = absurd (omega arith)
-gave front (suc n) rest after p total h less t e =
-    let one : before_params front (by_turn (turn_at rest) (params_in n)) ≡ before_params front (by_turn (gives p after) (params_in n)) = ap (λ (u : Turn). before_params front (by_turn u (params_in n))) t in
-    let later = params_in n after in
-    (n, omega arith, ap (params later.whole) (append_assoc front (p ∷ []) later.found) ∙ sym one ∙ e)
+pub skipped : {A : Type 0} (see : Params → A) (total : A) (rest after : List ℕ) → Sees see total rest → turn_at rest ≡ skips after
+    → suc (length after) ≤ length rest → Sees see total after
+skipped see total rest after s is less =
+    let t = turned see total rest (skips after) s is in
+    (t.0, omega (arith, t.1, less), t.2)
+
+-- what a parameter shows, where the rest begins with it
+pub gave : {A : Type 0} (see : Params → A) (total : A) (rest after : List ℕ) (p : Pair) → Sees see total rest → turn_at rest ≡ gives p after
+    → (n : ℕ) × (length rest ≤ n) × (see (onto_params p (params_in n after)) ≡ total)
+gave see total rest after p s is = turned see total rest (gives p after) s is
+
+-- where it shows nothing
+pub passed : {A : Type 0} (see : Params → A) (total : A) (rest after : List ℕ) (p : Pair) → Sees see total rest → turn_at rest ≡ gives p after
+    → suc (length after) ≤ length rest → ((later : Params) → see (onto_params p later) ≡ see later) → Sees see total after
+passed see total rest after p s is less same =
+    let t = gave see total rest after p s is in
+    (t.0, omega (arith, t.1, less), sym (same (params_in t.0 after)) ∙ t.2)

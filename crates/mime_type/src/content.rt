@@ -7,7 +7,7 @@ ghost use Rattle.mime_type.specs.Texts.{IsText};
 ghost use Rattle.mime_type.specs.Views.{kind_of};
 
 use crate::kind::Kind;
-use crate::params::{copy_text, first_text};
+use crate::params::{first_text, into_text};
 use jm_base::{NoMemory, Text};
 use std::alloc::Global;
 
@@ -31,11 +31,11 @@ fn default_charset(alloc: Global, kind: &[u8]) -> Result<Option<Text>, NoMemory>
 }
 
 /// The charset of a type, in lower case.
-pub fn read_charset(alloc: Global, kind: &Kind) -> Result<Option<Text>, NoMemory>
+pub fn read_charset(alloc: Global, kind: &Kind<'_>) -> Result<Option<Text>, NoMemory>
     requires { IsText (kind_of kind.now) }
     ensures { IfOk result (λ c. c ≡ Rattle.mime_type.specs.Content.charset_of (kind_of kind.now)) }
 {
-    match first_text(alloc, kind.params.as_slice(), b"charset")? {
+    match first_text(alloc, kind.params, b"charset")? {
         Some(charset) => Ok(Some(lower_text(charset))),
         None => default_charset(alloc, kind.kind.as_slice()),
     }
@@ -64,58 +64,62 @@ fn if_any(boundary: Option<Text>) -> Option<Text>
 }
 
 /// The boundary of a multipart.
-pub fn read_boundary(alloc: Global, kind: &Kind) -> Result<Option<Text>, NoMemory>
+pub fn read_boundary(alloc: Global, kind: &Kind<'_>) -> Result<Option<Text>, NoMemory>
     requires { IsText (kind_of kind.now) }
     ensures { IfOk result (λ b. b ≡ Rattle.mime_type.specs.Content.boundary_of (kind_of kind.now)) }
 {
     if !is_multipart(kind.kind.as_slice()) {
         return Ok(None);
     }
-    Ok(if_any(first_text(alloc, kind.params.as_slice(), b"boundary")?))
+    Ok(if_any(first_text(alloc, kind.params, b"boundary")?))
 }
 
 /// The type that a part is taken for, where its boundary is known.
-pub fn read_media(alloc: Global, kind: &Kind, boundary: &Option<Text>) -> Result<Text, NoMemory>
-    requires text { IsText (kind_of kind.now) }
-    requires boundary { boundary.now ≡ Rattle.mime_type.specs.Content.boundary_of (kind_of kind.now) }
-    ensures { IfOk result (λ m. m ≡ Rattle.mime_type.specs.Content.media_of (kind_of kind.now)) }
+pub fn read_media(alloc: Global, kind: Kind<'_>, boundary: &Option<Text>) -> Result<Text, NoMemory>
+    requires text { IsText (kind_of kind) }
+    requires boundary { boundary.now ≡ Rattle.mime_type.specs.Content.boundary_of (kind_of kind) }
+    ensures { IfOk result (λ m. m ≡ Rattle.mime_type.specs.Content.media_of (kind_of kind.entry)) }
 {
     if boundary.is_none() && is_multipart(kind.kind.as_slice()) {
         return Text::from_str(alloc, "application/octet-stream");
     }
-    copy_text(alloc, kind.kind.as_slice())
+    Ok(into_text(kind.kind))
 }
 
 /// The filename of a disposition.
-fn read_filename(alloc: Global, shown: &Option<Kind>) -> Result<Option<Text>, NoMemory>
+fn read_filename(alloc: Global, shown: &Option<Kind<'_>>) -> Result<Option<Text>, NoMemory>
     requires { ForSome shown.now (λ k. IsText (kind_of k)) }
     ensures { IfOk result (λ n. n ≡ Rattle.mime_type.specs.Content.filename_of (option_map kind_of shown.now)) }
 {
     match shown {
-        Some(kind) => first_text(alloc, kind.params.as_slice(), b"filename"),
+        Some(kind) => first_text(alloc, kind.params, b"filename"),
         None => Ok(None),
     }
 }
 
 /// The name of a part, before its encoded words are decoded.
-pub fn read_name(alloc: Global, shown: &Option<Kind>, kind: &Kind) -> Result<Option<Text>, NoMemory>
+pub fn read_name(
+    alloc: Global,
+    shown: &Option<Kind<'_>>,
+    kind: &Kind<'_>,
+) -> Result<Option<Text>, NoMemory>
     requires shown { ForSome shown.now (λ k. IsText (kind_of k)) }
     requires kind { IsText (kind_of kind.now) }
     ensures { IfOk result (λ n. n ≡ Rattle.mime_type.specs.Content.name_of (option_map kind_of shown.now) (kind_of kind.now)) }
 {
     match read_filename(alloc, shown)? {
         Some(name) => Ok(Some(name)),
-        None => first_text(alloc, kind.params.as_slice(), b"name"),
+        None => first_text(alloc, kind.params, b"name"),
     }
 }
 
 /// The disposition's name.
-pub fn read_shown(alloc: Global, shown: &Option<Kind>) -> Result<Option<Text>, NoMemory>
-    requires { ForSome shown.now (λ k. IsText (kind_of k)) }
-    ensures { IfOk result (λ d. d ≡ option_map (λ k. k.kind) (option_map kind_of shown.now)) }
+pub fn read_shown(shown: Option<Kind<'_>>) -> Option<Text>
+    requires { ForSome shown (λ k. IsText (kind_of k)) }
+    ensures { result ≡ option_map (λ k. k.kind) (option_map kind_of shown.entry) }
 {
     match shown {
-        Some(kind) => Ok(Some(copy_text(alloc, kind.kind.as_slice())?)),
-        None => Ok(None),
+        Some(kind) => Some(into_text(kind.kind)),
+        None => None,
     }
 }

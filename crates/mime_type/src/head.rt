@@ -68,11 +68,11 @@ fn read_content(
     let shown = read_disposition(alloc, &shown_text)?;
     let boundary = read_boundary(alloc, &kind)?;
     Ok(Content {
-        media: read_media(alloc, &kind, &boundary)?,
         charset: read_charset(alloc, &kind)?,
-        boundary,
-        disposition: read_shown(alloc, &shown)?,
         name: read_name(alloc, &shown, &kind)?,
+        media: read_media(alloc, kind, &boundary)?,
+        boundary,
+        disposition: read_shown(shown),
     })
 }
 

@@ -1,5 +1,5 @@
 // Content-Type and Content-Disposition as a name with parameters (RFC 2045, section 5.1; RFC 2183, section 2).
-ghost use Rattle.std.specs.Prelude.{◌≡◌, ◌++◌, ◌∷◌, map, option_map, IfOk, IfSome, List, ℕ, Some};
+ghost use Rattle.std.specs.Prelude.{◌≡◌, ◌++◌, ◌∷◌, option_map, IfOk, IfSome, List, ℕ, Some};
 ghost use Rattle.mime_lines.specs.Named.{lowered};
 ghost use Rattle.mime_type.specs.Grammar;
 ghost use Rattle.mime_type.specs.Grammar.{type_at};
@@ -10,16 +10,16 @@ ghost use Rattle.mime_type.specs.Views.{kind_of};
 
 use crate::characters::{lower_copy, push_lowered};
 use crate::gap::{skip_gap, skip_mark};
-use crate::params::{Param, all_params};
+use crate::params::is_whole;
 use crate::values::token;
 use jm_base::{NoMemory, Text};
 use std::alloc::Global;
 
-/// A type or a disposition in lower case, with its parameters.
+/// A type or a disposition in lower case, and the text that has its parameters.
 #[derive(Debug, Drop)]
-pub struct Kind {
+pub struct Kind<'a> {
     pub kind: Vec<u8>,
-    pub params: Vec<Param>,
+    pub params: &'a [u8],
 }
 
 /// A type and a subtype, as one text in lower case.
@@ -33,7 +33,7 @@ fn join_type(alloc: Global, main: &[u8], sub: &[u8]) -> Result<Vec<u8>, NoMemory
 }
 
 #[tactic(auto, unfolding(crate::specs::Grammar::type_at))]
-fn take_type(alloc: Global, text: &[u8]) -> Result<Option<Kind>, NoMemory>
+fn take_type(alloc: Global, text: &[u8]) -> Result<Option<Kind<'_>>, NoMemory>
     ensures { IfOk result (λ r. option_map kind_of r ≡ Rattle.mime_type.specs.Grammar.type_at text.now) }
 {
     let Some(at) = skip_gap(text) else {
@@ -48,18 +48,17 @@ fn take_type(alloc: Global, text: &[u8]) -> Result<Option<Kind>, NoMemory>
     let Some(sub) = token(rest) else {
         return Ok(None);
     };
-    let params = all_params(alloc, sub.rest)?;
-    if !params.whole {
+    if !is_whole(sub.rest) {
         return Ok(None);
     }
     Ok(Some(Kind {
         kind: join_type(alloc, main.text, sub.text)?,
-        params: params.found,
+        params: sub.rest,
     }))
 }
 
 #[tactic(auto, unfolding(crate::specs::Grammar::disposition_at))]
-fn take_disposition(alloc: Global, text: &[u8]) -> Result<Option<Kind>, NoMemory>
+fn take_disposition(alloc: Global, text: &[u8]) -> Result<Option<Kind<'_>>, NoMemory>
     ensures { IfOk result (λ r. option_map kind_of r ≡ Rattle.mime_type.specs.Grammar.disposition_at text.now) }
 {
     let Some(at) = skip_gap(text) else {
@@ -68,21 +67,21 @@ fn take_disposition(alloc: Global, text: &[u8]) -> Result<Option<Kind>, NoMemory
     let Some(name) = token(at) else {
         return Ok(None);
     };
-    let params = all_params(alloc, name.rest)?;
     Ok(Some(Kind {
         kind: lower_copy(alloc, name.text)?,
-        params: params.found,
+        params: name.rest,
     }))
 }
 
 /// A type without parameters.
-fn plain_type(alloc: Global, kind: &str) -> Result<Kind, NoMemory>
+#[tactic(auto, unfolding(crate::specs::Grammar::params_in))]
+fn plain_type(alloc: Global, kind: &str) -> Result<Kind<'static>, NoMemory>
     ensures value { IfOk result (λ k. kind_of k ≡ Rattle.mime_type.specs.Content.plain_type kind.now) }
     ensures text { IfOk result (λ k. IsText (kind_of k)) }
 {
     Ok(Kind {
         kind: Vec::from_slice(alloc, kind.as_bytes())?,
-        params: Vec::new(alloc),
+        params: &[],
     })
 }
 
@@ -91,7 +90,7 @@ const PLAIN: &str = "text/plain";
 const MESSAGE: &str = "message/rfc822";
 
 /// The type of a part by its Content-Type field, if it has one.
-pub fn read_type(alloc: Global, field: &Option<Text>, digest: bool) -> Result<Kind, NoMemory>
+pub fn read_type(alloc: Global, field: &Option<Text>, digest: bool) -> Result<Kind<'_>, NoMemory>
     ensures value { IfOk result (λ k. kind_of k ≡ Rattle.mime_type.specs.Content.type_of digest field.now) }
     ensures texts { IfOk result (λ k. IsText (kind_of k)) }
 {
@@ -105,7 +104,7 @@ pub fn read_type(alloc: Global, field: &Option<Text>, digest: bool) -> Result<Ki
 }
 
 /// The disposition of a part by its Content-Disposition field, if it has one.
-pub fn read_disposition(alloc: Global, field: &Option<Text>) -> Result<Option<Kind>, NoMemory>
+pub fn read_disposition(alloc: Global, field: &Option<Text>) -> Result<Option<Kind<'_>>, NoMemory>
     ensures value { IfOk result (λ r. option_map kind_of r ≡ Rattle.mime_type.specs.Content.disposition_of field.now) }
     ensures texts { IfOk result (λ r. IfSome r (λ k. IsText (kind_of k))) }
 {

@@ -3,9 +3,9 @@ ghost use Rattle.std.specs.Prelude.{◌≡◌, ◌++◌, ◌∷◌, [], List, �
 ghost use Rattle.mime_type.specs.Content;
 ghost use Rattle.mime_type.specs.Labels.{trimmed, without_open, without_close, id_in, items, languages_in, coding_in, coding_named};
 ghost use Rattle.mime_lines.specs.Named.{lowered};
+ghost use Rattle.std.specs.Str.{IsUtf8};
 
 use crate::characters::lower_copy;
-use crate::params::copy_text;
 use jm_base::{NoMemory, Sequence, Text, Texts};
 use mime_codec::Coding;
 use std::alloc::Global;
@@ -29,6 +29,14 @@ fn without_brackets(text: &[u8]) -> &[u8]
         [front @ .., b'>'] => front,
         _ => inner,
     }
+}
+
+/// Bytes that are a text, in memory of their own.
+fn copy_text(alloc: Global, bytes: &[u8]) -> Result<Text, NoMemory>
+    requires { IsUtf8 bytes.now }
+    ensures { IfOk result (λ t. t ≡ bytes.now) }
+{
+    Ok(Text::from_string(String::from_utf8_lossy(alloc, bytes)?))
 }
 
 /// The identifier of a Content-Id field, if there is one.

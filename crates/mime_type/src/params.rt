@@ -1,70 +1,57 @@
-// The parameters of a field (RFC 2045, section 5.1).
-ghost use Rattle.std.specs.Prelude.{◌≡◌, ◌≤◌, ◌<◌, ◌∷◌, ◌++◌, length, map, option_map, Some, None, IfSome, IfOk, ℕ, suc};
-ghost use Rattle.mime_type.specs.Grammar.{param_at, turn_of, slot_at, turn_from, turn_at, params_in, params_of, first_named};
+// The parameters of a field (RFC 2045, section 5.1). They are found in the text of the field where they are asked for, so
+// that no list of them takes memory.
+ghost use Rattle.std.specs.Prelude.{◌≡◌, ◌≤◌, length, option_map, IfSome, IfOk, ℕ, suc, bytes_eq};
+ghost use Rattle.mime_lines.specs.Named.{lowered};
+ghost use Rattle.mime_type.specs.Grammar.{param_at, turn_of, slot_at, turn_at, params_of, first_named};
 ghost use Rattle.std.specs.Str.{IsUtf8};
 ghost use Rattle.mime_type.specs.Texts.{AreTexts};
-ghost use Rattle.mime_type.specs.Views.{pair, taken, turn, turn_size, params_view};
+ghost use Rattle.mime_type.specs.Views.{pair, taken, turn, turn_size, leading_value};
 
-use crate::characters::lower_copy;
 use crate::gap::{skip_gap, skip_mark};
-use crate::values::{take_value, token};
+use crate::values::{copy_value, skip_value, token};
 use jm_base::{NoMemory, Text};
 use std::alloc::Global;
 
-/// A parameter; its name is in lower case.
-#[derive(Debug, Drop)]
-pub struct Param {
-    pub name: Vec<u8>,
-    pub value: Vec<u8>,
+/// A parameter as it is written: its name, and the text that begins with its value.
+#[derive(Clone, Copy)]
+struct Param<'a> {
+    name: &'a [u8],
+    value: &'a [u8],
 }
 
 /// A parameter, and the text after it.
-#[derive(Drop)]
+#[derive(Clone, Copy)]
 struct Taken<'a> {
-    param: Param,
+    param: Param<'a>,
     rest: &'a [u8],
 }
 
 /// What stands where a semicolon or the end may stand: the end, what isn't of the form, nothing before the next
 /// semicolon, or a parameter.
-#[derive(Drop)]
+#[derive(Clone, Copy)]
 enum Turn<'a> {
     Ends,
     Breaks,
     Skips(&'a [u8]),
-    Gives(Param, &'a [u8]),
-}
-
-/// The parameters before the first place that isn't of the form, and whether there is no such place.
-#[derive(Debug, Drop)]
-pub struct Params {
-    pub found: Vec<Param>,
-    pub whole: bool,
+    Gives(Param<'a>, &'a [u8]),
 }
 
 /// The parameter at the front: a name, an equals sign and a value.
 #[tactic(auto, unfolding(crate::specs::Grammar::param_at))]
-fn take_param(alloc: Global, text: &[u8]) -> Result<Option<Taken<'_>>, NoMemory>
-    ensures value { IfOk result (λ r. option_map taken r ≡ param_at text.now) }
-    ensures within { IfOk result (λ o. IfSome o (λ r. length r.rest.now ≤ length text.now)) }
+fn take_param(text: &[u8]) -> Option<Taken<'_>>
+    ensures value { option_map taken result ≡ param_at text.now }
+    ensures within { IfSome result (λ r. length r.rest.now ≤ length text.now) }
 {
-    let Some(name) = token(text) else {
-        return Ok(None);
-    };
-    let Some(start) = skip_mark(b'=', name.rest) else {
-        return Ok(None);
-    };
-    let Some(value) = take_value(alloc, start)? else {
-        return Ok(None);
-    };
-    let param = Param {
-        name: lower_copy(alloc, name.text)?,
-        value: value.text,
-    };
-    Ok(Some(Taken {
-        param,
-        rest: value.rest,
-    }))
+    let name = token(text)?;
+    let value = skip_mark(b'=', name.rest)?;
+    let rest = skip_value(value)?;
+    Some(Taken {
+        param: Param {
+            name: name.text,
+            value,
+        },
+        rest,
+    })
 }
 
 fn turn_with(found: Option<Taken<'_>>) -> Turn<'_>
@@ -78,87 +65,96 @@ fn turn_with(found: Option<Taken<'_>>) -> Turn<'_>
 }
 
 /// What stands behind a semicolon and the gap after it.
-fn take_slot(alloc: Global, text: Option<&[u8]>) -> Result<Turn<'_>, NoMemory>
-    ensures value { IfOk result (λ t. turn t ≡ slot_at (option_map (λ r. r.now) text.entry)) }
-    ensures within { (n : ℕ) → IfSome text.entry (λ r. length r.now ≤ n) → IfOk result (λ t. turn_size t ≤ suc n) }
+fn take_slot(text: Option<&[u8]>) -> Turn<'_>
+    ensures value { turn result ≡ slot_at (option_map (λ r. r.now) text.entry) }
+    ensures within { (n : ℕ) → IfSome text.entry (λ r. length r.now ≤ n) → turn_size result ≤ suc n }
 {
     match text {
-        None => Ok(Turn::Breaks),
+        None => Turn::Breaks,
         Some(text) => match text {
-            [] => Ok(Turn::Ends),
-            [b';', ..] => Ok(Turn::Skips(text)),
-            [_, ..] => Ok(turn_with(take_param(alloc, text)?)),
+            [] => Turn::Ends,
+            [b';', ..] => Turn::Skips(text),
+            [_, ..] => turn_with(take_param(text)),
         },
     }
 }
 
-fn take_turn(alloc: Global, text: &[u8]) -> Result<Turn<'_>, NoMemory>
-    ensures value { IfOk result (λ t. turn t ≡ turn_at text.now) }
-    ensures within { IfOk result (λ t. turn_size t ≤ length text.now) }
+fn take_turn(text: &[u8]) -> Turn<'_>
+    ensures value { turn result ≡ turn_at text.now }
+    ensures within { turn_size result ≤ length text.now }
 {
     let Some(text) = skip_gap(text) else {
-        return Ok(Turn::Breaks);
+        return Turn::Breaks;
     };
     match text {
-        [] => Ok(Turn::Ends),
-        [b';', rest @ ..] => take_slot(alloc, skip_gap(rest)),
-        [_, ..] => Ok(Turn::Breaks),
+        [] => Turn::Ends,
+        [b';', rest @ ..] => take_slot(skip_gap(rest)),
+        [_, ..] => Turn::Breaks,
     }
 }
 
-/// The parameters before the first place that isn't of the form.
-pub fn all_params(alloc: Global, text: &[u8]) -> Result<Params, NoMemory>
-    ensures value { IfOk result (λ ps. params_view ps ≡ params_of text.now) }
-    // More turns would find the same.
-    ensures enough { IfOk result (λ ps. (n : ℕ) → length text.now < n → params_view ps ≡ params_in n text.now) }
+/// Whether there is no place among the parameters that isn't of the form.
+pub fn is_whole(text: &[u8]) -> bool
+    ensures { result ≡ (params_of text.now).whole }
 {
-    let mut found = Vec::new(alloc);
     let mut rest = text;
     loop {
-        match take_turn(alloc, rest)? {
-            Turn::Ends => return Ok(Params { found, whole: true }),
-            Turn::Breaks => {
-                return Ok(Params {
-                    found,
-                    whole: false,
-                });
-            }
+        match take_turn(rest) {
+            Turn::Ends => return true,
+            Turn::Breaks => return false,
+            Turn::Skips(after) => rest = after,
+            Turn::Gives(_, after) => rest = after,
+        }
+    }
+}
+
+impl Param<'_> {
+    /// Whether the parameter has this name, in either case.
+    fn is_named(&self, name: &[u8]) -> bool
+        ensures { result ≡ bytes_eq (pair self.now).name (lowered name.now) }
+    {
+        self.name.eq_ignore_ascii_case(name)
+    }
+}
+
+/// The text that begins with the value of the first parameter of a name, before the first place that isn't of the form.
+fn find_value<'a>(text: &'a [u8], name: &[u8]) -> Option<&'a [u8]>
+    ensures { option_map (λ v. leading_value v.now) result ≡ first_named (lowered name.now) (params_of text.now).found }
+{
+    let mut rest = text;
+    loop {
+        match take_turn(rest) {
+            Turn::Ends => return None,
+            Turn::Breaks => return None,
             Turn::Skips(after) => rest = after,
             Turn::Gives(param, after) => {
-                found.push(param)?;
+                if param.is_named(name) {
+                    return Some(param.value);
+                }
                 rest = after;
             }
         }
     }
 }
 
-/// The value of the first parameter of a name.
-fn first_value<'a>(params: &'a [Param], name: &[u8]) -> Option<&'a [u8]>
-    ensures { option_map (λ v. v.now) result ≡ first_named name.now (map pair params.now) }
+/// Bytes that are a text, as one. It takes no memory.
+pub fn into_text(bytes: Vec<u8>) -> Text
+    requires { IsUtf8 bytes.items }
+    ensures { result ≡ bytes.items }
 {
-    for param in params {
-        if param.name.as_slice() == name {
-            return Some(param.value.as_slice());
-        }
+    match Text::from_utf8(bytes) {
+        Some(text) => text,
+        None => unreachable!(),
     }
-    None
 }
 
-/// Bytes that are a text, in memory of their own.
-pub fn copy_text(alloc: Global, bytes: &[u8]) -> Result<Text, NoMemory>
-    requires { IsUtf8 bytes.now }
-    ensures { IfOk result (λ t. t ≡ bytes.now) }
+/// The value of the first parameter of a name, before the first place that isn't of the form.
+pub fn first_text(alloc: Global, params: &[u8], name: &[u8]) -> Result<Option<Text>, NoMemory>
+    requires { AreTexts (params_of params.now).found }
+    ensures { IfOk result (λ t. t ≡ first_named (lowered name.now) (params_of params.now).found) }
 {
-    Ok(Text::from_string(String::from_utf8_lossy(alloc, bytes)?))
-}
-
-/// The value of the first parameter of a name, as a text.
-pub fn first_text(alloc: Global, params: &[Param], name: &[u8]) -> Result<Option<Text>, NoMemory>
-    requires { AreTexts (map pair params.now) }
-    ensures { IfOk result (λ t. t ≡ first_named name.now (map pair params.now)) }
-{
-    match first_value(params, name) {
-        Some(value) => Ok(Some(copy_text(alloc, value)?)),
+    match find_value(params, name) {
+        Some(value) => Ok(Some(into_text(copy_value(alloc, value)?))),
         None => Ok(None),
     }
 }

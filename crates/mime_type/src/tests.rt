@@ -3,6 +3,7 @@ use crate::{Part, part_head};
 use jm_base::{Text, Texts};
 use mime_codec::Coding;
 use std::alloc::Global;
+use std::test::Fail;
 
 fn read(alloc: Global, header: &[u8]) -> Option<Part> {
     match part_head(alloc, header, 0, header.len() as u64, false) {
@@ -11,29 +12,32 @@ fn read(alloc: Global, header: &[u8]) -> Option<Part> {
     }
 }
 
-/// Whether there is this text, or none where an empty one is meant.
-fn is_text(text: &Option<Text>, meant: &[u8]) -> bool {
+/// Whether there is the text that is meant, or none where none is.
+fn is_text(text: &Option<Text>, meant: Option<&[u8]>) -> bool {
     match text {
-        Some(text) => text.as_bytes() == meant,
-        None => meant.is_empty(),
+        Some(text) => match meant {
+            Some(meant) => text.as_bytes() == meant,
+            None => false,
+        },
+        None => meant.is_none(),
     }
 }
 
-fn types(alloc: Global, header: &[u8], media: &[u8], charset: &[u8]) -> bool {
+fn types(alloc: Global, header: &[u8], media: &[u8], charset: Option<&[u8]>) -> bool {
     match read(alloc, header) {
         Some(part) => part.media.as_bytes() == media && is_text(&part.charset, charset),
         None => false,
     }
 }
 
-fn bounds(alloc: Global, header: &[u8], media: &[u8], boundary: &[u8]) -> bool {
+fn bounds(alloc: Global, header: &[u8], media: &[u8], boundary: Option<&[u8]>) -> bool {
     match read(alloc, header) {
         Some(part) => part.media.as_bytes() == media && is_text(&part.boundary, boundary),
         None => false,
     }
 }
 
-fn shows(alloc: Global, header: &[u8], disposition: &[u8], name: &[u8]) -> bool {
+fn shows(alloc: Global, header: &[u8], disposition: Option<&[u8]>, name: Option<&[u8]>) -> bool {
     match read(alloc, header) {
         Some(part) => is_text(&part.disposition, disposition) && is_text(&part.name, name),
         None => false,
@@ -47,9 +51,16 @@ fn codes(alloc: Global, header: &[u8], coding: Coding) -> bool {
     }
 }
 
-fn labels(alloc: Global, header: &[u8], cid: &[u8], location: &[u8]) -> bool {
+fn labels(alloc: Global, header: &[u8], cid: Option<&[u8]>, location: Option<&[u8]>) -> bool {
     match read(alloc, header) {
         Some(part) => is_text(&part.cid, cid) && is_text(&part.location, location),
+        None => false,
+    }
+}
+
+fn lists(alloc: Global, header: &[u8], first: &[u8], second: &[u8]) -> bool {
+    match read(alloc, header) {
+        Some(part) => are_tags(&part.language, first, second),
         None => false,
     }
 }
@@ -73,7 +84,7 @@ fn types_of_the_form(rt: HostRuntime) {
             alloc,
             b"Content-type: text/plain; charset=us-ascii (Plain text)\r\n",
             b"text/plain",
-            b"us-ascii"
+            Some(b"us-ascii")
         )
     );
     assert!(rt;
@@ -81,7 +92,7 @@ fn types_of_the_form(rt: HostRuntime) {
             alloc,
             b"Content-type: text/plain; charset=\"us-ascii\"\r\n",
             b"text/plain",
-            b"us-ascii"
+            Some(b"us-ascii")
         )
     );
     assert!(rt;
@@ -89,7 +100,7 @@ fn types_of_the_form(rt: HostRuntime) {
             alloc,
             b"CONTENT-TYPE: Text/(a(b\\))c)Html ;; Charset = UTF-8; charset=x;",
             b"text/html",
-            b"utf-8"
+            Some(b"utf-8")
         )
     );
     assert!(rt;
@@ -97,7 +108,7 @@ fn types_of_the_form(rt: HostRuntime) {
             alloc,
             b"Content-Type: text/html; charset=\"x\\\"\r\n y\"\r\n",
             b"text/html",
-            b"x\" y"
+            Some(b"x\" y")
         )
     );
     assert!(rt;
@@ -105,10 +116,10 @@ fn types_of_the_form(rt: HostRuntime) {
             alloc,
             b"Content-Type: image/png; charset=A",
             b"image/png",
-            b"a"
+            Some(b"a")
         )
     );
-    assert!(rt; types(alloc, b"Content-Type: image/png", b"image/png", b""));
+    assert!(rt; types(alloc, b"Content-Type: image/png", b"image/png", None));
 }
 
 #[test]
@@ -119,7 +130,7 @@ fn types_that_break_the_form(rt: HostRuntime) {
             alloc,
             b"Content-Type: text/html; name=my file.pdf",
             b"text/plain",
-            b"us-ascii"
+            Some(b"us-ascii")
         )
     );
     assert!(rt;
@@ -127,7 +138,7 @@ fn types_that_break_the_form(rt: HostRuntime) {
             alloc,
             b"Content-Type: image/png; name",
             b"text/plain",
-            b"us-ascii"
+            Some(b"us-ascii")
         )
     );
     assert!(rt;
@@ -135,11 +146,30 @@ fn types_that_break_the_form(rt: HostRuntime) {
             alloc,
             b"Content-Type: image/png (x",
             b"text/plain",
-            b"us-ascii"
+            Some(b"us-ascii")
         )
     );
-    assert!(rt; types(alloc, b"Content-Type: text", b"text/plain", b"us-ascii"));
-    assert!(rt; types(alloc, b"Subject: x", b"text/plain", b"us-ascii"));
+    assert!(rt;
+        types(
+            alloc,
+            b"Content-Type: text",
+            b"text/plain",
+            Some(b"us-ascii")
+        )
+    );
+    assert!(rt; types(alloc, b"Subject: x", b"text/plain", Some(b"us-ascii")));
+}
+
+#[test]
+fn zero_and_8_bit_bytes(rt: HostRuntime) {
+    let alloc = rt.alloc();
+    let quoted = b"Content-Type: multipart/a; boundary=\"\0\xc3\xa9\"; charset=\"A\0\xff\"";
+    assert!(rt; bounds(alloc, quoted, b"multipart/a", Some(b"\0\xc3\xa9")));
+    assert!(rt; types(alloc, quoted, b"multipart/a", Some(b"a\0\xef\xbf\xbd")));
+    let bare = b"Content-Type: a/b; charset=\0";
+    assert!(rt; types(alloc, bare, b"text/plain", Some(b"us-ascii")));
+    let named = b"Content-Disposition: a; filename=\"\0\xff\"";
+    assert!(rt; shows(alloc, named, Some(b"a"), Some(b"\0\xef\xbf\xbd")));
 }
 
 #[test]
@@ -150,7 +180,7 @@ fn the_last_field_and_the_first_parameter(rt: HostRuntime) {
             alloc,
             b"Content-Type: image/png\r\nContent-Type: text/css; charset=a; charset=b\r\n",
             b"text/css",
-            b"a"
+            Some(b"a")
         )
     );
 }
@@ -163,7 +193,7 @@ fn boundaries(rt: HostRuntime) {
             alloc,
             b"Content-Type: multipart/mixed; boundary=gc0p4Jq0M2Yt08j34c0p",
             b"multipart/mixed",
-            b"gc0p4Jq0M2Yt08j34c0p"
+            Some(b"gc0p4Jq0M2Yt08j34c0p")
         )
     );
     assert!(rt;
@@ -171,7 +201,7 @@ fn boundaries(rt: HostRuntime) {
             alloc,
             b"Content-Type: multipart/mixed; boundary=a=b",
             b"multipart/mixed",
-            b"a=b"
+            Some(b"a=b")
         )
     );
     assert!(rt;
@@ -179,7 +209,7 @@ fn boundaries(rt: HostRuntime) {
             alloc,
             b"Content-Type: multipart/mixed; boundary=\"\"; boundary=a",
             b"application/octet-stream",
-            b""
+            None
         )
     );
     assert!(rt;
@@ -187,7 +217,7 @@ fn boundaries(rt: HostRuntime) {
             alloc,
             b"Content-Type: multipart/mixed",
             b"application/octet-stream",
-            b""
+            None
         )
     );
     assert!(rt;
@@ -195,7 +225,7 @@ fn boundaries(rt: HostRuntime) {
             alloc,
             b"Content-Type: text/css; boundary=a",
             b"text/css",
-            b""
+            None
         )
     );
 }
@@ -208,32 +238,32 @@ fn dispositions(rt: HostRuntime) {
         shows(
             alloc,
             b"Content-Disposition: attachment; filename=genome.jpeg;\r\n modification-date=\"Wed, 12 Feb 1997 16:29:51 -0500\";\r\n",
-            b"attachment",
-            b"genome.jpeg"
+            Some(b"attachment"),
+            Some(b"genome.jpeg")
         )
     );
     assert!(rt;
         shows(
             alloc,
             b"Content-Disposition: Attachment; filename=a b.txt; name=c",
-            b"attachment",
-            b"a"
+            Some(b"attachment"),
+            Some(b"a")
         )
     );
     assert!(rt;
         shows(
             alloc,
             b"Content-Disposition: ; filename=a\r\nContent-Type: a/b; name==?utf-8?Q?x?=",
-            b"",
-            b"=?utf-8?Q?x?="
+            None,
+            Some(b"=?utf-8?Q?x?=")
         )
     );
     assert!(rt;
         shows(
             alloc,
             b"Content-Disposition: inline; filename=\"\xff\"\r\nContent-Type: a/b; name=c",
-            b"inline",
-            b"\xef\xbf\xbd"
+            Some(b"inline"),
+            Some(b"\xef\xbf\xbd")
         )
     );
 }
@@ -268,31 +298,36 @@ fn codings(rt: HostRuntime) {
 }
 
 #[test]
+fn example_of_a_coded_text(rt: HostRuntime) {
+    let alloc = rt.alloc();
+    // RFC 2045, section 6.
+    let example =
+        b"Content-Type: text/plain; charset=ISO-8859-1\r\nContent-transfer-encoding: base64\r\n";
+    assert!(rt; codes(alloc, example, Coding::Base64));
+    assert!(rt; types(alloc, example, b"text/plain", Some(b"iso-8859-1")));
+}
+
+#[test]
 fn labels_of_a_part(rt: HostRuntime) {
     let alloc = rt.alloc();
     assert!(rt;
         labels(
             alloc,
             b"Content-ID: <a@b> \r\nContent-Location: http://c/ \r\n",
-            b"a@b",
-            b"http://c/"
+            Some(b"a@b"),
+            Some(b"http://c/")
         )
     );
-    assert!(rt; labels(alloc, b"Content-ID: <<a>>", b"<a>", b""));
-    let Some(part) = read(alloc, b"Content-Language: en, , de\r\n") else {
-        return;
-    };
-    assert!(rt; are_tags(&part.language, b"en", b"de"));
+    assert!(rt; labels(alloc, b"Content-ID: <<a>>", Some(b"<a>"), None));
+    assert!(rt; lists(alloc, b"Content-Language: en, , de\r\n", b"en", b"de"));
 }
 
 #[test]
-fn a_part_within_a_message(rt: HostRuntime) {
-    let alloc = rt.alloc();
-    let Ok(part) = part_head(alloc, b"--x\r\n\r\nbody\r\n--x--", 5, 11, true) else {
-        return;
-    };
+fn a_part_within_a_message(rt: HostRuntime) -> Result<(), Fail> {
+    let part = part_head(rt.alloc(), b"--x\r\n\r\nbody\r\n--x--", 5, 11, true)?;
     assert!(rt; part.start == 5 && part.body == 7 && part.end == 11);
     assert!(rt; part.media.as_bytes() == b"message/rfc822".as_slice());
     assert!(rt; part.charset.is_none() && part.number.is_none());
     assert!(rt; part.parts.as_slice().is_empty());
+    Ok(())
 }

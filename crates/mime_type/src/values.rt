@@ -3,7 +3,7 @@ ghost use Rattle.std.specs.Prelude.{◌≡◌, ◌≢◌, ◌≤◌, ◌<◌, �
 ghost use Rattle.std.specs.List.{prefix_len};
 ghost use Rattle.mime_type.specs.Characters;
 ghost use Rattle.mime_type.specs.Grammar.{run_at, quoted_from, value_at, with_front, quoted_text};
-ghost use Rattle.mime_type.specs.Views.{run_of, value_of};
+ghost use Rattle.mime_type.specs.Views.{run_of, value_of, rest_found, leading_value};
 
 use crate::characters::{is_bare, is_token};
 use jm_base::NoMemory;
@@ -132,6 +132,64 @@ pub fn take_value(alloc: Global, text: &[u8]) -> Result<Option<Value<'_>>, NoMem
         [b'"', rest @ ..] => quoted_rest(alloc, rest),
         [_, ..] => copied(alloc, bare(text)),
         [] => Ok(None),
+    }
+}
+
+/// The value that a text begins with, in memory of its own; nothing where it begins with none.
+pub fn copy_value(alloc: Global, text: &[u8]) -> Result<Vec<u8>, NoMemory>
+    ensures { IfOk result (λ v. v.items ≡ leading_value text.now) }
+{
+    match take_value(alloc, text)? {
+        Some(value) => Ok(value.text),
+        None => Ok(Vec::new(alloc)),
+    }
+}
+
+/// Whether a byte of a quoted string that isn't its end quotes the next.
+fn quotes_next(quoted: bool, byte: u8) -> bool
+    requires { quoted ≡ false → byte ≢ 34 }
+    ensures { (rest : List ℕ) → rest_found (quoted_from result rest) ≡ rest_found (quoted_from quoted (byte ∷ rest)) }
+{
+    !quoted && byte == b'\\'
+}
+
+/// What stands after the rest of a quoted string, behind its first quote mark.
+fn skip_quoted(text: &[u8]) -> Option<&[u8]>
+    ensures value { option_map (λ r. r.now) result ≡ rest_found (quoted_from false text.now) }
+    ensures within { IfSome result (λ r. length r.now ≤ length text.now) }
+{
+    let mut quoted = false;
+    let mut rest = text;
+    while let [byte, after @ ..] = rest {
+        if !quoted && *byte == b'"' {
+            return Some(after);
+        }
+        quoted = quotes_next(quoted, *byte);
+        rest = after;
+    }
+    None
+}
+
+/// What stands after a run.
+fn after_run(run: Option<Run<'_>>) -> Option<&[u8]>
+    ensures value { option_map (λ r. r.now) result ≡ rest_found (option_map run_of run.entry) }
+    ensures within { (n : ℕ) → IfSome run.entry (λ r. length r.rest.now ≤ n) → IfSome result (λ r. length r.now ≤ n) }
+{
+    match run {
+        Some(run) => Some(run.rest),
+        None => None,
+    }
+}
+
+/// What stands after the value that a text begins with; none where it begins with none.
+pub fn skip_value(text: &[u8]) -> Option<&[u8]>
+    ensures value { option_map (λ r. r.now) result ≡ rest_found (value_at text.now) }
+    ensures within { IfSome result (λ r. length r.now ≤ length text.now) }
+{
+    match text {
+        [b'"', rest @ ..] => skip_quoted(rest),
+        [_, ..] => after_run(bare(text)),
+        [] => None,
     }
 }
 

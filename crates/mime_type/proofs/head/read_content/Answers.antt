@@ -16,7 +16,7 @@ returns-clause-boundary c = c.in_ok-boundary.ensures ∙ ap boundary_of (c.in_ok
 
 pub returns-clause-disposition : goal.returns-clause-disposition
 returns-clause-disposition c =
-    c.in_ok-read_shown.ensures ∙ ap (option_map (λ (k : Kind). k.kind)) (c.in_ok-shown.ensures.value ∙ ap disposition_of c.in_ok-shown_text.ensures)
+    c.read_shown.ensures ∙ ap (option_map (λ (k : Kind). k.kind)) (c.in_ok-shown.ensures.value ∙ ap disposition_of c.in_ok-shown_text.ensures)
 
 pub returns-clause-name : goal.returns-clause-name
 returns-clause-name c =

@@ -1,7 +1,13 @@
-use Rattle.std.proofs.Common.{map, sym}
-use Rattle.mime_type.specs.Views.{pair}
+use Rattle.std.proofs.Common.{◌≡◌, Some, sym}
+use Rattle.std.specs.Str.{IsUtf8}
+use Rattle.mime_lines.specs.Named.{lowered}
+use Rattle.mime_type.specs.Grammar.{params_of, first_named}
+use Rattle.mime_type.specs.Views.{leading_value}
 use Rattle.mime_type.proofs.Utf8.{first_named-utf8}
 use Rattle.mime_type.proofs.params.first_text.Goals as goal
 
-pub copy_text-requires : goal.copy_text-requires
-copy_text-requires c = first_named-utf8 c.args.name.now (map pair c.args.params.now) c.in-Some.value.now c.requires (sym c.in-Some.ensures)
+pub into_text-requires : goal.into_text-requires
+into_text-requires c =
+    let found : first_named (lowered c.args.name.now) (params_of c.args.params.now).found ≡ Some (leading_value c.in-Some.value.now) = sym c.in-Some.ensures in
+    let utf8 : IsUtf8 (leading_value c.in-Some.value.now) = first_named-utf8 (lowered c.args.name.now) (params_of c.args.params.now).found (leading_value c.in-Some.value.now) c.requires found in
+    rw c.in_ok-copy_value-in-Some.ensures utf8
