@@ -6,3 +6,4 @@ pub mod Runs
 pub mod Ends
 pub mod LeafFacts
 pub mod Messages
+pub mod Replied

@@ -1,6 +1,6 @@
 pub mod Lines
 pub mod Steps
-pub mod Unknown
+pub mod Served
 pub mod Batch
 pub mod Read
 pub mod Words

@@ -2,9 +2,8 @@
 use Rattle.std.specs.Prelude.{ℕ, List, [], ◌∷◌, Option, None, Some, codes, bytes_eq, if◌then◌else◌}
 use Rattle.jmap_main.specs.Batch.{batch_out}
 use Rattle.jmap_main.specs.Read.{read_out}
-use Rattle.jmap_main.specs.Steps.{Steps}
-use Rattle.jmap_main.specs.Unknown.{unknown}
-use Rattle.jmap_main.specs.declared.unknown.UnknownPort.{UnknownPort}
+use Rattle.mail_records.specs.Histories.{empty_history}
+use Rattle.jmap_main.specs.Served.{account_steps}
 use Rattle.jmap_main.specs.declared.words.Command.{Command}
 use Rattle.jmap_main.specs.declared.words.Command.TheVariants.{Batch, Read}
 
@@ -18,16 +17,9 @@ command_of [] = None
 command_of (word ∷ []) = command_named word
 command_of (word ∷ next ∷ more) = None
 
--- the steps of the port that `batch` serves, and the state in which it begins
-abbrev pub steps : Steps UnknownPort
-steps = record { replied = λ s c made. unknown c; next = λ s c made. s }
-
-abbrev pub beginning : UnknownPort
-beginning = record {}
-
 -- what a command writes for what it reads
 abbrev pub out_of : Command → List ℕ → List ℕ
-out_of Batch input = batch_out steps beginning input
+out_of Batch input = batch_out account_steps empty_history input
 out_of Read input = read_out input
 
 -- how many bytes its input may have

@@ -11,10 +11,10 @@ mod read;
 #[cfg(test)]
 mod read_tests;
 mod run;
+mod served;
 mod steps;
 #[cfg(test)]
 mod tests;
-mod unknown;
 mod words;
 
 use crate::ending::Ending;

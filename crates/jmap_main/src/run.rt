@@ -9,7 +9,7 @@ ghost use Rattle.jmap_main.specs.Ended.{Explains, ExplainsWords};
 use crate::batch::answer_input;
 use crate::ending::{Ending, Status};
 use crate::read::read_message;
-use crate::unknown::UnknownPort;
+use crate::served::AccountPort;
 use crate::words::Command;
 use jm_edge::{Sink, Source};
 use std::alloc::Global;
@@ -98,7 +98,27 @@ fn perform_command<S: Source, O: Sink>(
     ensures begun { HasBegun command (S.left source.old) (S.left source.new) (O.held out.old) (O.held out.new) }
 {
     match command {
-        Command::Batch => answer_input(alloc, &mut UnknownPort, source, out),
+        Command::Batch => answer_batch(alloc, source, out),
         Command::Read => read_message(alloc, source, out),
+    }
+}
+
+// Answers the lines of the input over an account in which nothing has been yet.
+fn answer_batch<S: Source, O: Sink>(alloc: Global, source: &mut S, out: &mut O) -> Ending
+    ensures cause { Explains Command.Batch result (record {
+      left = S.left source.old;
+      left_after = S.left source.new;
+      reads = S.faults source.old;
+      reads_after = S.faults source.new;
+      held = O.held out.old;
+      held_after = O.held out.new;
+      writes = O.faults out.old;
+      writes_after = O.faults out.new;
+    }) }
+    ensures begun { HasBegun Command.Batch (S.left source.old) (S.left source.new) (O.held out.old) (O.held out.new) }
+{
+    match AccountPort::begin(alloc) {
+        Ok(mut port) => answer_input(alloc, &mut port, source, out),
+        Err(_) => Ending::NoMemory,
     }
 }

@@ -1,0 +1,216 @@
+// The port of `batch`: one account, in memory.
+ghost use Rattle.std.specs.Prelude.{◌≡◌, ◌∷◌, [], ℕ, List, ◌||◌, codes, bytes_eq, min, ◌+◌, ◌^◌, ◌-◌, length, IfOk, OnErr, MatchOption, option_map, Some, None};
+ghost use Rattle.jm_json.specs.Json.{tree_of};
+ghost use Rattle.jm_json.specs.Invoked.{call_of};
+ghost use Rattle.jm_json.specs.declared.invocation.Replied.{Replied as TheReplied};
+ghost use Rattle.method_batch.specs.Prepared.{error_of};
+ghost use Rattle.mail_records.specs.Histories.{empty_history};
+ghost use Rattle.mail_calls.specs.Plans.{method_plan};
+ghost use Rattle.jmap_main.specs.Served.{IsStep, account_error, account_steps, after_plan, from_error, is_account, is_copy, replied_of, stamp_after, step, text_in, to_error};
+
+use crate::steps::StepPort;
+use account_book::{Ask, Book, Call, Out};
+use jm_base::{NoMemory, Sequence};
+use jm_json::{Created, Invocation, Invocations, Json, Made, Replied};
+use mail_calls::MailRules;
+use mail_records::Stamp;
+use method_batch::{Port, error};
+use std::alloc::Global;
+use std::marker::Model;
+
+// The account's identifier.
+const ACCOUNT: &str = "A1";
+
+/// Serves one account, which its one user may change. Contracts see it as the account's history.
+#[derive(Drop)]
+pub struct AccountPort {
+    book: Book<MailRules>,
+}
+
+impl Model for AccountPort {
+    ghost use Rattle.mail_records.specs.Histories.{History};
+
+    ghost Value = { History };
+
+    ghost view = { λ p. p.book.history };
+}
+
+impl AccountPort {
+    /// An account in which nothing has been yet.
+    pub fn begin(alloc: Global) -> Result<AccountPort, NoMemory>
+        ensures { IfOk result (λ p. p ≡ empty_history) }
+    {
+        Ok(AccountPort {
+            book: Book::begin(alloc, MailRules)?,
+        })
+    }
+
+    // The stamp of the next entry.
+    fn stamp(&self) -> Stamp
+        ensures { result ≡ stamp_after self.now }
+    {
+        Stamp {
+            pass: 1,
+            serial: self.book.account().count().saturating_add(1),
+        }
+    }
+
+    // Performs a call on the account.
+    fn perform(
+        &mut self,
+        alloc: Global,
+        call: Invocation,
+        made: Made,
+    ) -> Result<Replied, NoMemory>
+        ensures step { IfOk result (λ r. IsStep (after_plan self.old (call_of call) (method_plan self.old (call_of call) made false)) r self.new) }
+        ensures same { OnErr result (self.new ≡ self.old) }
+    {
+        let stamp = self.stamp();
+        let call = Call {
+            ask: Ask::Method(call),
+            made,
+            read_only: false,
+        };
+        match self.book.perform(alloc, &call, stamp, 0) {
+            Ok(done) => Ok(replied_of(alloc, done.out)),
+            Err(refused) => Err(refused),
+        }
+    }
+}
+
+// What is replied where methods are asked.
+fn replied_of(alloc: Global, out: Out) -> Replied
+    ensures { result ≡ replied_of out }
+{
+    match out {
+        Out::Replies(replied) => replied,
+        Out::Uploaded(_)
+        | Out::Full
+        | Out::Failed
+        | Out::Blob(_)
+        | Out::Carried(_)
+        | Out::States { .. } => Replied {
+            responses: Invocations::new(alloc),
+            made: Made::new(alloc),
+        },
+    }
+}
+
+// What was made, in memory of its own.
+fn copy_made(alloc: Global, made: &Made) -> Result<Made, NoMemory>
+    ensures { IfOk result (λ m. m ≡ made.now) }
+{
+    let mut copies = Vec::with_capacity(alloc, made.len())?;
+    for created in made.as_slice() {
+        copies.push(Created {
+            creation: created.creation.copy()?,
+            id: created.id.copy()?,
+        })?;
+    }
+    Ok(Sequence::from_vec(copies))
+}
+
+// The text of an argument, where it is one.
+fn text_in<'a>(args: &'a Json, name: &str) -> Option<&'a str>
+    ensures { option_map (λ t. t.now) result ≡ text_in name.now (tree_of args.now) }
+{
+    match args.as_object() {
+        Some(members) => match members.get(name) {
+            Some(value) => match value.as_text() {
+                Some(text) => Some(text.as_str()),
+                None => None,
+            },
+            None => None,
+        },
+        None => None,
+    }
+}
+
+fn is_copy(name: &str) -> bool
+    ensures { result ≡ is_copy name.now }
+{
+    name == "Email/copy" || name == "Blob/copy"
+}
+
+fn is_account(id: &str) -> bool
+    ensures { result ≡ is_account id.now }
+{
+    id == ACCOUNT
+}
+
+fn from_error(from: Option<&str>) -> &'static str
+    ensures { result.now ≡ from_error (option_map (λ t. t.now) from) }
+{
+    match from {
+        None => "invalidArguments",
+        Some(id) => {
+            if is_account(id) {
+                "invalidArguments"
+            } else {
+                "fromAccountNotFound"
+            }
+        }
+    }
+}
+
+fn to_error(copies: bool, from: Option<&str>, to: Option<&str>) -> Option<&'static str>
+    ensures { option_map (λ t. t.now) result ≡ to_error copies (option_map (λ t. t.now) from) (option_map (λ t. t.now) to) }
+{
+    match to {
+        None => Some("invalidArguments"),
+        Some(id) => {
+            if copies && from.is_none() {
+                return Some("invalidArguments");
+            }
+            if !is_account(id) {
+                return Some("accountNotFound");
+            }
+            if copies { Some(from_error(from)) } else { None }
+        }
+    }
+}
+
+/// The error of a call by the accounts that it names.
+fn account_error(call: &Invocation) -> Option<&'static str>
+    ensures { option_map (λ t. t.now) result ≡ account_error (call_of call.now) }
+{
+    let from = text_in(&call.args, "fromAccountId");
+    let to = text_in(&call.args, "accountId");
+    to_error(is_copy(call.name.as_str()), from, to)
+}
+
+// The reply that is one error.
+fn error_reply(alloc: Global, kind: &str, call: &Invocation) -> Result<Replied, NoMemory>
+    ensures { IfOk result (λ r. r ≡ record { responses = error_of kind.now call.now.id ∷ []; made = [] }) }
+{
+    let mut responses = Invocations::new(alloc);
+    responses.push(error(alloc, kind, call.id.copy()?)?)?;
+    Ok(Replied {
+        responses,
+        made: Made::new(alloc),
+    })
+}
+
+impl Port for AccountPort {
+    ghost use Rattle.jmap_main.specs.Served.{IsStep, step};
+
+    ghost answers = { λ s c made r t. IsStep (step s c made) r t };
+
+    fn call(
+        &mut self,
+        alloc: Global,
+        call: &Invocation,
+        made: &Made,
+    ) -> Result<Replied, NoMemory> {
+        match account_error(call) {
+            Some(kind) => error_reply(alloc, kind, call),
+            None => self.perform(alloc, call.copy(alloc)?, copy_made(alloc, made)?),
+        }
+    }
+}
+
+impl StepPort for AccountPort {
+    ghost steps = { account_steps };
+
+    ghost determined = { λ s c made r t h. h };
+}
