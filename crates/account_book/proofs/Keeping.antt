@@ -1,15 +1,29 @@
--- What holds of the content of an account.
-use Rattle.std.proofs.Common.{sym, subst}
+-- What holds of the content of an account, and of its last position and next numbers.
+use Rattle.std.proofs.Common.{ℕ, ◌+◌, ◌≤◌, ◌^◌, List, sym, subst, arith}
 use Rattle.mail_records.specs.Contents.{Content, AreTables, AreNumbered}
-use Rattle.mail_records.specs.Histories.{History, edits_of}
-use Rattle.mail_records.proofs.Growth.{AreTables-after_edits, AreNumbered-after_edits}
+use Rattle.mail_records.specs.Histories.{History, edits_of, end_of}
+use Rattle.mail_records.proofs.Growth.{AreTables-after_edits, AreNumbered-after_edits, NextAtMost-founded}
 use Rattle.state_log.specs.Logs.{Notes}
-use Rattle.account_book.specs.Accounts.{Stands}
+use Rattle.account_book.specs.Accounts.{Stands, IsBounded}
+use Rattle.account_book.specs.Replies.{edit_bytes, edit_limit}
 use Rattle.account_book.specs.declared.entry.Entry.{Entry as KeptEntry}
-use Rattle.std.specs.Prelude.{ℕ, List}
 
-pub tables_of : (h : History) (content : Content) (log : Notes) (entries : List KeptEntry) (blobs : List (List ℕ)) → Stands h content log entries blobs → AreTables content
-tables_of h content log entries blobs s = subst AreTables (sym s.content_is) (AreTables-after_edits (edits_of h) h.base s.founded.tables)
+pub tables_of : (h : History) (content : Content) (log : Notes) (entries : List KeptEntry) (blobs : List (List ℕ)) (bytes : ℕ) → Stands h content log entries blobs bytes → AreTables content
+tables_of h content log entries blobs bytes s = subst AreTables (sym s.content_is) (AreTables-after_edits (edits_of h) h.base s.founded.tables)
 
-pub numbered_of : (h : History) (content : Content) (log : Notes) (entries : List KeptEntry) (blobs : List (List ℕ)) → Stands h content log entries blobs → AreNumbered content
-numbered_of h content log entries blobs s = subst AreNumbered (sym s.content_is) (AreNumbered-after_edits (edits_of h) h.base s.fits s.founded.numbered)
+pub numbered_of : (h : History) (content : Content) (log : Notes) (entries : List KeptEntry) (blobs : List (List ℕ)) (bytes : ℕ) → Stands h content log entries blobs bytes → AreNumbered content
+numbered_of h content log entries blobs bytes s = subst AreNumbered (sym s.content_is) (AreNumbered-after_edits (edits_of h) h.base s.fits s.founded.numbered)
+
+pub IsBounded-within : (h : History) (content : Content) (log : Notes) (entries : List KeptEntry) (blobs : List (List ℕ)) (bytes : ℕ) → Stands h content log entries blobs bytes → edit_bytes (edits_of h) ≤ edit_limit → IsBounded h
+IsBounded-within h content log entries blobs bytes s within =
+    let next = NextAtMost-founded h s.founded s.fits in
+    let low = s.low in
+    let most : end_of h + 1 ≤ 2 ^ 52 + 2 ^ 26 = omega arith in
+    record {
+      end = omega arith;
+      numbers = record {
+        mailbox = let n = next.mailbox in omega arith;
+        email = let n = next.email in omega arith;
+        thread = let n = next.thread in omega arith;
+      };
+    }

@@ -1,1 +1,5 @@
 pub mod Keeping
+pub mod Entering
+pub mod Answering
+pub mod Refusals
+pub mod Lasting

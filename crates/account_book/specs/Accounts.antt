@@ -4,6 +4,7 @@ use Rattle.mail_records.specs.Contents.{Content, NextAtMost}
 use Rattle.mail_records.specs.Edits.{AllFit}
 use Rattle.mail_records.specs.Histories.{History, Entry, Committed, Refused, IsFounded, edits_of, content_of, blobs_of, end_of}
 use Rattle.state_log.specs.Logs.{Notes, IsLogOf}
+use Rattle.account_book.specs.Replies.{edit_bytes}
 use Rattle.account_book.specs.declared.entry.Entry.{Entry as KeptEntry}
 
 -- a history, and for how many edits, entries and blobs room stands ready
@@ -27,9 +28,14 @@ abbrev pub kept_entry : Entry → KeptEntry
 kept_entry (Committed commit) = record { stamp = commit.stamp; edits = commit.edits; blobs = length commit.blobs; refused = false }
 kept_entry (Refused stamp) = record { stamp = stamp; edits = []; blobs = 0; refused = true }
 
--- Content, log, entries and blobs are those of the history. Its base is in order, its edits fit one after the other, and
--- its floor leaves room for positions below 2^53.
-pub record Stands (h : History) (content : Content) (log : Notes) (entries : List KeptEntry) (blobs : List (List ℕ)) : Type 0 where
+-- the history that a log, a base, entries and their blobs are kept of
+abbrev pub history_of : Notes → Content → List KeptEntry → List (List ℕ) → History
+history_of log base entries blobs =
+    record { floor = log.floor; floors = log.floors; base = base; base_blobs = []; entries = entries_with entries blobs }
+
+-- Content, log, entries, blobs and the count of the bytes of edits are those of the history. Its base is in order, its edits
+-- fit one after the other, and its floor leaves room for positions below 2^53.
+pub record Stands (h : History) (content : Content) (log : Notes) (entries : List KeptEntry) (blobs : List (List ℕ)) (bytes : ℕ) : Type 0 where
   pub founded : IsFounded h
   pub low : h.floor < 2 ^ 52
   pub fits : AllFit h.base (edits_of h)
@@ -37,6 +43,7 @@ pub record Stands (h : History) (content : Content) (log : Notes) (entries : Lis
   pub log_is : IsLogOf h log
   pub entries_are : entries ≡ map kept_entry h.entries
   pub blobs_are : blobs ≡ blobs_of h
+  pub bytes_are : bytes ≡ edit_bytes (edits_of h)
 
 -- the last position, and the next number of each kind, that a call on an account may meet
 pub record IsBounded (h : History) : Type 0 where

@@ -1,1 +1,5 @@
+pub mod Replies
 pub mod Accounts
+pub mod Laws
+pub mod Adding
+pub mod Added

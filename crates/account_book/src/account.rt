@@ -1,16 +1,23 @@
 // An account: what it began with, its entries, and what they make of it.
-ghost use Rattle.std.specs.Prelude.{◌≡◌, ◌≤◌, ◌<◌, ◌+◌, ◌^◌, OnOk, length, map};
+ghost use Rattle.std.specs.Prelude.{◌≡◌, ◌↔◌, ◌≤◌, OnOk, IsTrue, length, map};
+ghost use Rattle.std.specs.List.{AllByRecursion};
 ghost use Rattle.mail_records.specs.Contents.{AreNumbered, AreTables};
-ghost use Rattle.mail_records.specs.Histories.{content_of, empty_history};
+ghost use Rattle.mail_records.specs.Edits.{AllFit, IsSmall};
+ghost use Rattle.mail_records.specs.Histories.{Committed, content_of, edits_of, empty_history, grown};
 ghost use Rattle.state_log.specs.Logs.{IsLogOf};
-ghost use Rattle.account_book.specs.Accounts.{kept_entry};
+ghost use Rattle.account_book.specs.Accounts.{IsBounded, kept_entry};
+ghost use Rattle.account_book.specs.Replies.{IsWithin, edit_bytes, edit_limit};
 
 use crate::Entry;
-use jm_base::Bytes;
-use mail_records::Content;
-use state_log::Log;
+use crate::blobs::push_all_ready;
+use jm_base::{Bytes, NoMemory};
+use mail_records::{Commit, Content, Edit, Edits, apply_all_ready};
+use state_log::{Log, note_all_ready};
 use std::alloc::Global;
 use std::marker::Model;
+
+// How many bytes the edits of an account may take: 64 MiB.
+const EDIT_LIMIT: u64 = 67_108_864;
 
 /// An account. Contracts see its history, and for how many edits, entries and blobs room stands ready.
 #[derive(Drop)]
@@ -20,34 +27,24 @@ pub struct Account {
     log: Log,
     entries: Vec<Entry>,
     blobs: Vec<Bytes>,
+    edit_bytes: u64,
 }
 
 impl Model for Account {
-    ghost use Rattle.std.specs.Prelude.{[], min, ◌-◌, vec_len, vec_capacity};
-    ghost use Rattle.account_book.specs.Accounts.{Ledger, Stands, entries_with};
+    ghost use Rattle.std.specs.Prelude.{min, ◌-◌, vec_len, vec_capacity};
+    ghost use Rattle.account_book.specs.Accounts.{Ledger, Stands, history_of};
 
     ghost Value = { Ledger };
 
     ghost view = { λ a. record {
-      history = record {
-        floor = a.log.floor;
-        floors = a.log.floors;
-        base = a.base.content;
-        base_blobs = [];
-        entries = entries_with a.entries.items a.blobs.items;
-      };
+      history = history_of a.log a.base.content a.entries.items a.blobs.items;
       spare = min a.content.spare a.log.spare;
       entry_spare = vec_capacity a.entries - vec_len a.entries;
       blob_spare = vec_capacity a.blobs - vec_len a.blobs;
     } };
 
-    ghost invariant = { λ a. Stands (record {
-      floor = a.log.floor;
-      floors = a.log.floors;
-      base = a.base.content;
-      base_blobs = [];
-      entries = entries_with a.entries.items a.blobs.items;
-    }) a.content.content a.log a.entries.items a.blobs.items };
+    ghost invariant = { λ a. Stands (history_of a.log a.base.content a.entries.items a.blobs.items)
+        a.content.content a.log a.entries.items a.blobs.items a.edit_bytes };
 }
 
 impl Account {
@@ -61,6 +58,7 @@ impl Account {
             log: Log::new(alloc, 0, 0, 0, 0),
             entries: Vec::new(alloc),
             blobs: Vec::new(alloc),
+            edit_bytes: 0,
         }
     }
 
@@ -99,5 +97,64 @@ impl Account {
         ensures { result ≡ length self.now.history.entries }
     {
         self.entries.len() as u64
+    }
+
+    // Where its edits are within the limit, its last position and next numbers are in bounds. Nothing is done.
+    pub(crate) fn bounds(&self)
+        requires { edit_bytes (edits_of self.now.history) ≤ edit_limit }
+        ensures { IsBounded self.now.history }
+    {
+        let _log = &self.log;
+    }
+
+    // Whether with these edits the account would pass the limit.
+    pub(crate) fn would_pass(&self, edits: &[Edit]) -> bool
+        ensures { IsTrue result ↔ ¬ IsWithin edit_bytes self.now.history edits.now }
+    {
+        self.edit_bytes.saturating_add(edits.len() as u64) > EDIT_LIMIT
+    }
+
+    // Makes room for an entry with these edits and so many blobs. Where there is none, all but the room is as before.
+    pub(crate) fn reserve(&mut self, edits: &[Edit], blobs: usize) -> Result<(), NoMemory>
+        ensures same { self.new.history ≡ self.old.history }
+        ensures spare { OnOk result (length edits.now ≤ self.new.spare) }
+        ensures entry_spare { OnOk result (1 ≤ self.new.entry_spare) }
+        ensures blob_spare { OnOk result (blobs ≤ self.new.blob_spare) }
+    {
+        self.content.reserve(edits)?;
+        self.log.reserve(edits)?;
+        self.entries.reserve(1)?;
+        self.blobs.reserve(blobs)?;
+        Ok(())
+    }
+
+    // Enters a commit, for which room stands ready. Its edits are noted, and their copy is applied. It takes no memory.
+    pub(crate) fn commit_ready(&mut self, commit: Commit, copy: Edits)
+        requires spare { length commit.edits ≤ self.old.spare }
+        requires entry_spare { 1 ≤ self.old.entry_spare }
+        requires blob_spare { length commit.blobs ≤ self.old.blob_spare }
+        requires copy { copy ≡ commit.edits }
+        requires fits { AllFit (content_of self.old.history) commit.edits }
+        requires small { AllByRecursion IsSmall commit.edits }
+        requires bounded { IsBounded self.old.history }
+        requires within { IsWithin edit_bytes self.old.history commit.edits }
+        ensures { self.new.history ≡ grown self.old.history (Committed commit) }
+    {
+        let Commit {
+            blobs,
+            edits,
+            stamp,
+        } = commit;
+        let count = blobs.len() as u64;
+        apply_all_ready(&mut self.content, copy);
+        note_all_ready(&mut self.log, edits.as_slice());
+        self.edit_bytes += edits.len() as u64;
+        push_all_ready(&mut self.blobs, blobs);
+        self.entries.push_reserved(Entry {
+            stamp,
+            edits,
+            blobs: count,
+            refused: false,
+        });
     }
 }

@@ -4,7 +4,18 @@
 #![tactic(auto)]
 
 mod account;
+mod asks;
+mod blobs;
+mod book;
 mod entry;
+mod plans;
+mod rules;
+#[cfg(test)]
+mod tests;
 
 pub use account::Account;
+pub use asks::{Ask, Call, Carried};
+pub use book::Book;
 pub use entry::Entry;
+pub use plans::{Done, Out, Plan, Point};
+pub use rules::Rules;

@@ -1,0 +1,59 @@
+-- The rules that the tests perform calls by: a method of a user who may write adds a mailbox, and is answered with its number.
+use Rattle.std.specs.Prelude.{◌≡◌, ℕ, ◌≤◌, Bool, false, [], ◌∷◌, None, ⊤}
+use Rattle.std.specs.List.{AllByRecursion}
+use Rattle.mail_records.specs.Contents.{AreNumbered}
+use Rattle.mail_records.specs.Edits.{AllFit}
+use Rattle.mail_records.specs.Histories.{History, edits_of, content_of}
+use Rattle.mail_records.specs.declared.records.Mailbox.{Mailbox}
+use Rattle.mail_records.specs.declared.edits.Edit.{Edit}
+use Rattle.mail_records.specs.declared.edits.Edit.TheVariants.{PutMailbox}
+use Rattle.account_book.specs.Replies.{edit_bytes, edit_limit}
+use Rattle.account_book.specs.declared.asks.Ask.{Ask}
+use Rattle.account_book.specs.declared.asks.Ask.TheVariants.{Method}
+use Rattle.account_book.specs.declared.asks.Call.{Call}
+use Rattle.account_book.specs.declared.plans.Out.TheVariants.{Uploaded, Full}
+use Rattle.account_book.specs.declared.plans.Plan.{Plan}
+
+-- the mailbox of a number, without a name
+abbrev pub added : ℕ → Mailbox
+added n = record {
+  number = n;
+  name = [];
+  parent = None;
+  role = None;
+  sort_order = 0;
+  subscribed = false;
+  total_emails = 0;
+  unread_emails = 0;
+  total_threads = 0;
+  unread_threads = 0;
+}
+
+-- the plan that adds it
+abbrev pub add : ℕ → Plan
+add n = record { out = Uploaded n; blobs = []; edits = PutMailbox (added n) false false ∷ [] }
+
+-- the plan that changes nothing
+abbrev pub idle : Plan
+idle = record { out = Full; blobs = []; edits = [] }
+
+-- what is planned for what is asked, by whether the user may only read
+abbrev pub plan_with : Ask → Bool → ℕ → Plan
+plan_with (Method call) false n = add n
+plan_with _ _ n = idle
+
+abbrev pub adding_plan : History → Call → Plan
+adding_plan h call = plan_with call.ask call.read_only (content_of h).next_mailbox
+
+-- the edit puts a mailbox
+abbrev pub PutsMailbox : Edit → Type 0
+PutsMailbox (PutMailbox item was counts) = ⊤
+PutsMailbox _ = ⊥
+
+-- all edits put mailboxes, and fit
+pub record IsAdded (h : History) : Type 0 where
+  pub no_emails : h.base.emails ≡ []
+  pub numbered : AreNumbered h.base
+  pub fits : AllFit h.base (edits_of h)
+  pub puts : AllByRecursion PutsMailbox (edits_of h)
+  pub within : edit_bytes (edits_of h) ≤ edit_limit

@@ -1,0 +1,39 @@
+// What an account is asked.
+use jm_base::{Blobs, Bytes, Text};
+use jm_json::{Invocation, Items, Made};
+
+/// What is asked of one account.
+#[derive(Drop)]
+pub enum Ask {
+    /// A method of JMAP (RFC 8620, section 3.2), with its references resolved.
+    Method(Invocation),
+    /// To keep these bytes as a blob (RFC 8620, section 6.1).
+    Upload(Bytes),
+    /// For the bytes of the blob, or of the part of a message, that has this id (RFC 8620, section 6.2).
+    Blob(Text),
+    /// The side of an Email/copy that reads: the emails to be copied, with their blobs (RFC 8621, section 4.7).
+    Fetch(Invocation),
+    /// The side of an Email/copy that writes: to make what the other side read.
+    Place(Invocation, Carried),
+    /// For the present state of each kind of record.
+    States,
+}
+
+/// What is carried from one account to another by Email/copy.
+#[derive(Drop)]
+pub struct Carried {
+    /// The emails, each as an object.
+    pub emails: Items,
+    /// The message of each.
+    pub blobs: Blobs,
+}
+
+/// A call on one account.
+#[derive(Drop)]
+pub struct Call {
+    pub ask: Ask,
+    /// What the request has made so far.
+    pub made: Made,
+    /// Whether the user may only read the account.
+    pub read_only: bool,
+}

@@ -1,0 +1,107 @@
+// What an account answers, and what it is planned to do.
+ghost use Rattle.std.specs.Prelude.{◌≡◌, ◌↔◌, ◌∷◌, [], IfOk, IsTrue};
+ghost use Rattle.jm_json.specs.Invoked.{call_of};
+ghost use Rattle.account_book.specs.Replies.{IsIdle, error_of, refusal};
+
+use crate::{Ask, Carried};
+use jm_base::{Blobs, Bytes, NoMemory, Text};
+use jm_json::{Invocation, Invocations, Json, Made, Members, Replied};
+use mail_records::Edits;
+use std::alloc::Global;
+
+/// What a call is answered.
+#[derive(Drop)]
+pub enum Out {
+    /// The responses of a method, and what it made.
+    Replies(Replied),
+    /// The number of the blob that an upload made.
+    Uploaded(u64),
+    /// There is no room for the blob of an upload.
+    Full,
+    /// An upload could not be kept.
+    Failed,
+    /// The bytes that a blob's id names, or None where it names none.
+    Blob(Option<Bytes>),
+    /// What the side of an Email/copy that reads has read.
+    Carried(Carried),
+    /// The state of each kind of record.
+    States {
+        mailbox: u64,
+        email: u64,
+        thread: u64,
+    },
+}
+
+/// What a call is answered, and what it changes: blobs that it brings, and edits.
+#[derive(Drop)]
+pub struct Plan {
+    pub out: Out,
+    pub blobs: Blobs,
+    pub edits: Edits,
+}
+
+impl Plan {
+    /// Whether it changes nothing.
+    pub fn is_idle(&self) -> bool
+        ensures { IsTrue result ↔ IsIdle self.now }
+    {
+        self.blobs.is_empty() && self.edits.is_empty()
+    }
+}
+
+/// Where in an account's history a call stands: how many entries there were before it and after it, and its moment, in
+/// seconds since the beginning of 1970 in UTC.
+#[derive(Clone, Copy, Debug, PartialEq, Eq)]
+pub struct Point {
+    /// The number of the account among those of a server.
+    pub account: u64,
+    pub before: u64,
+    pub after: u64,
+    pub moment: u64,
+}
+
+/// What a call was answered, and how many entries the account had before it and has after it.
+#[derive(Drop)]
+pub struct Done {
+    pub out: Out,
+    pub before: u64,
+    pub after: u64,
+}
+
+// The response that says an error, to the call with this id.
+fn error(alloc: Global, kind: &str, id: &Text) -> Result<Invocation, NoMemory>
+    ensures { IfOk result (λ c. call_of c ≡ error_of kind.now id.now) }
+{
+    let mut args = Members::new(alloc);
+    let kind = Text::from_str(alloc, kind)?;
+    args.set(alloc, "type", Json::Text(kind))?;
+    Ok(Invocation {
+        name: Text::from_str(alloc, "error")?,
+        args: Json::Object(args),
+        id: id.copy()?,
+    })
+}
+
+// The answer that is one response, which says an error.
+fn error_reply(alloc: Global, kind: &str, id: &Text) -> Result<Out, NoMemory>
+    ensures { IfOk result (λ out. out ≡ Out.Replies (record { responses = error_of kind.now id.now ∷ []; made = [] })) }
+{
+    let mut responses = Invocations::new(alloc);
+    responses.push(error(alloc, kind, id)?)?;
+    Ok(Out::Replies(Replied {
+        responses,
+        made: Made::new(alloc),
+    }))
+}
+
+/// The answer to what can't be done: for a method the error of this type, else `Failed`.
+pub(crate) fn refusal(alloc: Global, kind: &str, ask: &Ask) -> Result<Out, NoMemory>
+    ensures { IfOk result (λ out. out ≡ refusal kind.now ask.now) }
+{
+    match ask {
+        Ask::Method(call) | Ask::Fetch(call) | Ask::Place(call, _) => {
+            error_reply(alloc, kind, &call.id)
+        }
+        Ask::Upload(_) | Ask::Blob(_) | Ask::States => Ok(Out::Failed),
+    }
+}
