@@ -1,0 +1,4 @@
+pub mod Named
+pub mod LeftOut
+pub mod Mentions
+pub mod Answered
