@@ -1,20 +1,17 @@
 -- What a commit more makes of an account.
-use Rattle.std.proofs.Common.{◌≡◌, ℕ, ◌+◌, ◌<◌, ◌≤◌, true, false, List, [], ◌∷◌, ◌++◌, map, flat_map, take, drop, length, refl, sym, ap, ap₂, ◌∙◌, subst, append_assoc}
+use Rattle.std.proofs.Common.{◌≡◌, ℕ, ◌+◌, List, [], ◌∷◌, ◌++◌, map, take, drop, length, refl, sym, ap, ap₂, ◌∙◌, subst, append_assoc}
 use Rattle.std.proofs.Math.Seq.{take-append_seam, drop-append_seam}
 use Rattle.std.proofs.lemmas.List.{append-nil, map-append, length-append}
-use Rattle.std.proofs.lemmas.Grind.{flat_map-append}
 use Rattle.mail_records.specs.Contents.{Content}
 use Rattle.mail_records.specs.Edits.{after_edits, AllFit}
-use Rattle.mail_records.specs.Histories.{History, Floors, Entry, Committed, Refused, IsFounded, entry_edits, entry_blobs, edits_of, content_of, blobs_in, blobs_of, grown}
+use Rattle.mail_records.specs.Histories.{History, Entry, Committed, Refused, edits_of, content_of, blobs_in, grown}
 use Rattle.mail_records.specs.declared.edits.Edit.{Edit}
 use Rattle.mail_records.specs.declared.edits.Commit.{Commit}
 use Rattle.mail_records.proofs.Growth.{AllFit-append}
 use Rattle.mail_records.proofs.Prefixes.{IsFounded-grown_by, edits_of-grown, content_of-grown, blobs_of-grown}
 use Rattle.state_log.proofs.Kept.{IsLogOf-committed}
-use Rattle.state_log.specs.Logs.{Notes, IsLogOf, note_of}
-use Rattle.state_log.specs.declared.notes.Note.{Note}
-use Rattle.account_book.specs.Accounts.{Stands, history_of, entries_with, entry_with, kept_entry}
-use Rattle.account_book.specs.Replies.{edit_bytes}
+use Rattle.state_log.specs.Logs.{Notes, note_of}
+use Rattle.account_book.specs.Accounts.{Stands, history_of, entries_with, kept_entry}
 use Rattle.account_book.specs.declared.entry.Entry.{Entry as KeptEntry}
 
 -- an entry behind others takes the blobs that they leave

@@ -1,8 +1,7 @@
 -- What holds of the content of an account, and of its last position and next numbers.
-use Rattle.std.proofs.Common.{ℕ, ◌≡◌, ◌+◌, ◌≤◌, ◌^◌, List, length, sym, subst, arith}
-use Rattle.mail_records.specs.Contents.{Content, AreTables, AreNumbered, NextAtMost}
-use Rattle.mail_records.specs.Edits.{AllFit}
-use Rattle.mail_records.specs.Histories.{History, IsFounded, edits_of, content_of, end_of}
+use Rattle.std.proofs.Common.{ℕ, ◌+◌, ◌≤◌, ◌^◌, List, sym, subst, arith}
+use Rattle.mail_records.specs.Contents.{Content, AreTables, AreNumbered}
+use Rattle.mail_records.specs.Histories.{History, edits_of, end_of}
 use Rattle.mail_records.proofs.Growth.{AreTables-after_edits, AreNumbered-after_edits, NextAtMost-founded}
 use Rattle.state_log.specs.Logs.{Notes}
 use Rattle.account_book.specs.Accounts.{Stands, IsBounded}

@@ -1,5 +1,5 @@
 -- What was answered at a point of a history stays so as the history grows.
-use Rattle.std.proofs.Common.{ℕ, ◌≡◌, ◌≤◌, List, length, sym, ap₂, subst}
+use Rattle.std.proofs.Common.{ℕ, ◌≤◌, List, length, sym, subst}
 use Rattle.mail_records.specs.Histories.{History, Entry, account_after, grown_by}
 use Rattle.mail_records.specs.declared.edits.Edit.{Edit}
 use Rattle.mail_records.specs.declared.edits.Stamp.{Stamp}

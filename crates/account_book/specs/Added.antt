@@ -1,11 +1,11 @@
 -- The rules of the tests keep what rules promise.
-use Rattle.std.proofs.Common.{◌≡◌, ◌↔◌, ℕ, ◌+◌, ◌<◌, ◌≤◌, Bool, true, false, List, [], ◌∷◌, ◌++◌, length, filter, not, eqb, ne_eqb, is_some, Option, Some, None, refl, sym, ap, ◌∙◌, subst, arith}
+use Rattle.std.proofs.Common.{◌≡◌, ◌↔◌, ℕ, ◌<◌, ◌≤◌, Bool, true, false, List, [], ◌∷◌, ◌++◌, filter, not, eqb, ne_eqb, is_some, None, refl, sym, ap, ◌∙◌, subst, arith}
 use Rattle.std.specs.List.{AllByRecursion}
 use Rattle.std.proofs.lemmas.List.{length-append}
 use Rattle.mail_records.specs.Tables.{lookup}
-use Rattle.mail_records.specs.Contents.{Content, AreNumbered, mailbox_number, empty_content}
+use Rattle.mail_records.specs.Contents.{Content, AreNumbered, mailbox_number}
 use Rattle.mail_records.specs.Commits.{IsFormed}
-use Rattle.mail_records.specs.Edits.{AllFit, IsSmall, after_edits}
+use Rattle.mail_records.specs.Edits.{AllFit, IsSmall}
 use Rattle.mail_records.specs.Histories.{History, Entry, Committed, Refused, is_refused, edits_in, IsSound, NamesThread, edits_of, content_of, grown, empty_history}
 use Rattle.mail_records.specs.declared.records.Email.{Email}
 use Rattle.mail_records.specs.declared.edits.Edit.{Edit}

@@ -1,5 +1,5 @@
 -- The rules that the tests perform calls by: a method of a user who may write adds a mailbox, and is answered with its number.
-use Rattle.std.specs.Prelude.{◌≡◌, ℕ, ◌≤◌, Bool, true, false, List, [], ◌∷◌, None, ⊤, length}
+use Rattle.std.specs.Prelude.{◌≡◌, ℕ, ◌≤◌, Bool, false, [], ◌∷◌, None, ⊤}
 use Rattle.std.specs.List.{AllByRecursion}
 use Rattle.mail_records.specs.Contents.{AreNumbered}
 use Rattle.mail_records.specs.Edits.{AllFit}

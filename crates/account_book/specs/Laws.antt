@@ -1,5 +1,5 @@
 -- What the rules of an account promise.
-use Rattle.std.specs.Prelude.{◌≡◌, ℕ, ◌≤◌, List, [], filter, not, ⊤}
+use Rattle.std.specs.Prelude.{◌≡◌, ℕ, [], filter, not, ⊤}
 use Rattle.mail_records.specs.Histories.{History, Entry, is_refused}
 use Rattle.account_book.specs.Replies.{IsIdle}
 use Rattle.account_book.specs.declared.asks.Ask.{Ask}

@@ -3,7 +3,7 @@
 use Rattle.std.specs.Prelude.{◌≡◌, ℕ, ◌+◌, ◌≤◌, List, [], ◌∷◌, ◌⊎◌, codes, length}
 use Rattle.jm_json.specs.Call.{Call as Response}
 use Rattle.jm_json.specs.Tree.{text, object, fields_of}
-use Rattle.mail_records.specs.Histories.{History, Entry, Committed, edits_of, account_after, grown}
+use Rattle.mail_records.specs.Histories.{History, Committed, edits_of, account_after, grown}
 use Rattle.mail_records.specs.declared.edits.Edit.{Edit}
 use Rattle.mail_records.specs.declared.edits.Commit.{Commit}
 use Rattle.mail_records.specs.declared.edits.Stamp.{Stamp}

@@ -10,13 +10,14 @@ use Rattle.mail_records.specs.Histories.{Entry}
 use Rattle.account_lock.specs.Entries.{StartsWith}
 use Rattle.account_lock.specs.Views.{Origin, View}
 use Rattle.account_lock.specs.Rule.{IsKept}
-use Rattle.account_lock.specs.Passes.{PassFacts, facts_of, origin_of, IsLast, HasNoOthers, KeepsEnded}
+use Rattle.account_lock.specs.Passes.{PassFacts, facts_of, origin_of, IsLast, HasEndedAll, HasNoOthers, KeepsEnded}
 use Rattle.account_lock.proofs.Naming.{ends, all_ended}
 
 -- what is known of a value at the end
 pub record Last {Y : Type 0} (shows : Y → List Entry) (origin : Y → Origin) (k : PassFacts) (y : Y) : Type 0 where
   pub seen : StartsWith (shows y) k.seen
   pub ended : KeepsEnded k (shows y)
+  pub all : HasEndedAll k
   pub names : HasNoOthers k (shows y)
   pub same : origin y ≡ origin_of k
 
@@ -32,4 +33,4 @@ closes shows origin z k me v words slots x is root last f at =
       | no q ↦ e.4 n (inr (lt_of_not-le q))
     ])
     (zero_or n) in
-    (e.0, sym (some-injective _ x (sym (f.4 0 (Some e.0) e.1) ∙ at)), subst (λ (q : PassFacts). Last shows origin q e.0) is (record { seen = e.2; ended = e.3.1; names = others; same = e.5 }))
+    (e.0, sym (some-injective _ x (sym (f.4 0 (Some e.0) e.1) ∙ at)), subst (λ (q : PassFacts). Last shows origin q e.0) is (record { seen = e.2; ended = e.3.1; all = all; names = others; same = e.5 }))

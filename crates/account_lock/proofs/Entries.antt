@@ -1,5 +1,5 @@
 -- The entries under a name, and beginnings of a list.
-use Rattle.std.proofs.Common.{◌≡◌, ◌≢◌, ℕ, Bool, true, false, List, [], ◌∷◌, ◌++◌, eqb, eq-eqb, ne_eqb, sym, refl, ap, ◌∙◌, if◌then◌else◌}
+use Rattle.std.proofs.Common.{◌≡◌, ◌≢◌, ℕ, Bool, true, false, List, [], ◌∷◌, ◌++◌, eqb, eq-eqb, ne_eqb, sym, refl, ap, ◌∙◌, subst, if◌then◌else◌}
 use Rattle.std.proofs.lemmas.List.{append-nil, append_assoc}
 use Rattle.mail_records.specs.Histories.{Entry, entry_pass}
 use Rattle.account_lock.specs.Entries.{under, AreUnder, StartsWith, longer_of}
@@ -60,3 +60,33 @@ longer_other [] (x ∷ xs) (y ∷ ys) s t = absurd (cc (s.1))
 longer_other (e ∷ log) (x ∷ xs) (y ∷ ys) s t =
     let a : e ≡ x = cc (s.1) in let a' : e ≡ y = cc (t.1) in let b : log ≡ xs ++ s.0 = cc (s.1) in let c : log ≡ ys ++ t.0 = cc (t.1) in
     let h = longer_other log xs ys (s.0, b) (t.0, c) in let q : x ≡ y = sym a ∙ a' in (h.0, λ i. q i ∷ h.1 i)
+
+-- What is seen once a pass was joined: what it was, where b is true, and else the longer list.
+abbrev pub seen_then : Bool → List Entry → List Entry → List Entry
+seen_then b xs ys = if b then xs else longer_of xs ys
+
+-- where the whole history was seen, it goes on from there
+pub then_whole : (b : Bool) (log xs ys : List Entry) → xs ≡ log → StartsWith log ys → seen_then b xs ys ≡ log
+then_whole true log xs ys whole s = whole
+then_whole false log xs ys whole s = ap (λ (zs : List Entry). longer_of zs ys) whole ∙ longer_whole log ys s
+
+pub then_starts : (b : Bool) (log xs ys : List Entry) → StartsWith log xs → StartsWith log ys → StartsWith log (seen_then b xs ys)
+then_starts true log xs ys s t = s
+then_starts false log xs ys s t = longer_starts log xs ys s t
+
+pub then_more : (b : Bool) (xs ys : List Entry) → StartsWith (seen_then b xs ys) xs
+then_more true xs ys = ([], sym (append-nil xs))
+then_more false xs ys = longer_more xs ys
+
+pub then_other : (b : Bool) (log xs ys : List Entry) → (b ≡ true → xs ≡ log) → StartsWith log xs → StartsWith log ys → StartsWith (seen_then b xs ys) ys
+then_other true log xs ys whole s t = let e = whole refl in subst (λ (zs : List Entry). StartsWith zs ys) (sym e) t
+then_other false log xs ys whole s t = longer_other log xs ys s t
+
+-- where it begins with what the other had seen, it is the longer list in any case
+pub then_longer : (b : Bool) (xs ys : List Entry) → StartsWith (seen_then b xs ys) ys → seen_then b xs ys ≡ longer_of xs ys
+then_longer true xs ys s = sym (longer_whole xs ys s)
+then_longer false xs ys s = refl
+
+pub then_same : (b : Bool) (xs ys : List Entry) → b ≡ true → seen_then b xs ys ≡ xs
+then_same true xs ys is = refl
+then_same false xs ys is = absurd (cc is)

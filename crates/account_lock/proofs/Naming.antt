@@ -8,11 +8,11 @@ use lib.ListN.{get_elem?}
 use Rattle.atomic_table.specs.Table.{State, Splits, Joins, opening}
 use Rattle.atomic_table.proofs.Lists.{at_set, set_else, at_longer, at_last}
 use Rattle.mail_records.specs.Histories.{Entry}
-use Rattle.account_lock.specs.Entries.{under, StartsWith, longer_of}
+use Rattle.account_lock.specs.Entries.{under, StartsWith}
 use Rattle.account_lock.specs.Views.{Ended, Origin, View, HasName, one_given, newcomer, joined, ended_with, spent, rooted}
 use Rattle.account_lock.specs.Rule.{Fits, IsKept, Knows, weight}
 use Rattle.account_lock.proofs.Places.{not_true, zero_or, same_at, set_at, views_stay, pairs_stay, waiting_set, waiting_append, at_end, at_append, at_after, nothing_there, names_set, names_append, names_two, has_some, cover_stays}
-use Rattle.account_lock.proofs.Entries.{longer_starts, longer_whole, longer_other}
+use Rattle.account_lock.proofs.Entries.{then_whole, then_starts, then_other}
 
 module _ {Y : Type 0} (shows : Y → List Entry) (origin : Y → Origin) where
   abbrev St : Type 0
@@ -207,11 +207,11 @@ module _ {Y : Type 0} (shows : Y → List Entry) (origin : Y → Origin) where
       let first : (k : ℕ) (d : View) → get_elem? one k ≡ some d → P k d = views_stay P s.views me j
       (record {
         ticket = f.ticket;
-        turn = λ q. let b = f.turn q in (b.0, b.1, ap (λ (xs : List Entry). longer_of xs w.seen) b.2 ∙ longer_whole r.log w.seen h.seen);
+        turn = λ q. let b = f.turn q in (b.0, b.1, then_whole v.turn r.log v.seen w.seen b.2 h.seen);
         away = f.away;
-        seen = longer_starts r.log v.seen w.seen f.seen h.seen;
+        seen = then_starts v.turn r.log v.seen w.seen f.seen h.seen;
         knows = (f.knows.0, λ i e at_i. (kept i e at_i).3);
-        heard = longer_other r.log v.seen w.seen f.seen h.seen;
+        heard = then_other v.turn r.log v.seen w.seen (λ q. (f.turn q).2) f.seen h.seen;
         name = f.name;
         ended = λ i e at_i. let b = kept i e at_i in (b.0, b.1, b.2);
         unnamed = f.unnamed;

@@ -1,5 +1,5 @@
 -- Each step of a turn keeps the rule.
-use Rattle.std.proofs.Common.{◌≡◌, ◌≢◌, inl, inr, ℕ, zero, suc, ◌+◌, ◌%◌, ◌^◌, ◌<◌, Bool, true, false, List, [], ◌∷◌, ◌++◌, length, set, get_or, sym, refl, ap, ◌∙◌, subst, ⊎_elim, arith, Option, Some, None}
+use Rattle.std.proofs.Common.{◌≡◌, ◌≢◌, inl, inr, ℕ, zero, suc, ◌+◌, ◌%◌, ◌^◌, ◌<◌, Bool, true, false, List, [], ◌∷◌, ◌++◌, length, set, get_or, eq-eqb, ne_eqb, ◌==◌, if◌then◌else◌, sym, refl, ap, ◌∙◌, subst, ⊎_elim, arith, Option, Some, None}
 use Rattle.std.proofs.lemmas.List.{length-set, set-get_or}
 use Rattle.std.proofs.Math.Nat.{mod-add-mod}
 use mathlib.Core.Option.{some, none}
@@ -12,7 +12,7 @@ use Rattle.mail_records.specs.Histories.{Entry}
 use Rattle.account_lock.specs.Entries.{under, AreUnder, StartsWith}
 use Rattle.account_lock.specs.Views.{Origin, View, HasName}
 use Rattle.account_lock.specs.Rule.{Fits, IsKept, Knows, weight}
-use Rattle.account_lock.specs.Steps.{unchanged, looked_back, drew, watched, left_empty, took_empty, passed_on}
+use Rattle.account_lock.specs.Steps.{unchanged, looked_back, drew, tried, watched, left_empty, took_empty, passed_on}
 use Rattle.account_lock.proofs.Places.{not_true, same_at, set_at, zero_or, views_stay, pairs_stay, waiting_set, waiting_le, names_set, names_one, cover_stays}
 use Rattle.account_lock.proofs.Entries.{under_stays, starts_here, starts_longer, starts_trans}
 
@@ -152,6 +152,24 @@ module _ {Y : Type 0} (shows : Y → List Entry) (origin : Y → Origin) where
         },
         (r.drawn, refl, ap (λ (ws : List ℕ). get_or ws 0 0) r.words),
       )
+
+  next_if : (n expected next : ℕ) → n ≡ expected → (if n == expected then next else n) ≡ next
+  next_if n expected next e = ap (λ (b : Bool). if b then next else n) (eq-eqb n expected e)
+
+  same_if : (n expected next : ℕ) → n ≢ expected → (if n == expected then next else n) ≡ n
+  same_if n expected next ne = ap (λ (b : Bool). if b then next else n) (ne_eqb n expected ne)
+
+  -- a ticket is drawn where the word shows the number expected
+  pub tries : (slots me : ℕ) (v : View) (cs : List (ℕ × Option Y)) (expected : ℕ) → v.waits ≡ false → 0 < v.name
+      → Allows Rule slots me (v, cs) 0 (λ n. if n == expected then (expected + 1) % 2 ^ 64 else n) (tried expected (v, cs))
+  tries slots me v cs expected idle has_name s r deep at fits =
+      let n : ℕ = get_or s.words 0 0 in
+      let next : ℕ = (expected + 1) % 2 ^ 64 in
+      dite (ℕ_discrete n expected)
+      (λ e. let d = draws slots me v cs idle has_name s r deep at fits in
+      let to : (n + 1) % 2 ^ 64 ≡ (if n == expected then next else n) = ap (λ (k : ℕ). (k + 1) % 2 ^ 64) e ∙ sym (next_if n expected next e) in
+      (d.0, d.1, d.2, subst (λ (x : ℕ). Rule (stepped s 0 x me cs d.0 d.1)) to d.3, ((λ _. d.4), λ ne. absurd (ne e))))
+      (λ ne. (v, keeps, tt, subst (λ (x : ℕ). Rule (stepped s 0 x me cs v keeps)) (sym (same_if n expected next ne)) (unmoved s 0 me cs v at r), ((λ e. absurd (ne e)), λ _. refl)))
 
   -- the ticket of the word is the ticket of the view
   its_turn : (s : St) (r : Rule s) (me : ℕ) (v : View) → get_elem? s.views me ≡ some v → v.waits ≡ true → r.served % 2 ^ 64 ≡ v.ticket % 2 ^ 64 → v.ticket ≡ r.served

@@ -1,5 +1,5 @@
 -- What contracts see of a pass.
-use Rattle.std.specs.Prelude.{◌≡◌, ◌≢◌, ℕ, ◌+◌, ◌<◌, Bool, true, false, List, [], ◌∷◌, ◌++◌, length}
+use Rattle.std.specs.Prelude.{◌≡◌, ◌≢◌, ℕ, ◌+◌, ◌<◌, ◌≤◌, Bool, true, false, List, [], ◌∷◌, ◌++◌, length}
 use mathlib.Core.Option.{some}
 use lib.ListN.{get_elem?}
 use Rattle.atomic_table.specs.Seated.{TableId}
@@ -73,6 +73,10 @@ IsLast k = length k.ended ≡ k.given
 -- the entries of each ended name are exactly those kept with it
 abbrev pub KeepsEnded : PassFacts → List Entry → Type 0
 KeepsEnded k log = (i : ℕ) (e : Ended) → get_elem? k.ended i ≡ some e → under e.name log ≡ e.entries
+
+-- each name that was given is an ended one
+abbrev pub HasEndedAll : PassFacts → Type 0
+HasEndedAll k = (n : ℕ) → 0 < n → n ≤ k.given → (i : ℕ) × (e : Ended) × (get_elem? k.ended i ≡ some e) × (e.name ≡ n)
 
 -- each entry of the list has an ended name
 abbrev pub HasNoOthers : PassFacts → List Entry → Type 0

@@ -3,7 +3,8 @@
 -- The lock is a ticket lock. Whoever wants a turn adds one to the ticket word and has drawn the number that stood there. The turn is that
 -- of the ticket which the serving word shows. Who ends a turn adds one to the serving word, which passes the turn on.
 -- The words are numbers below 2^64. The rule counts tickets without end: `drawn` and `served` are those counts, and a word holds the rest.
--- A third word counts the threads that are parked, so that nobody is woken where nobody sleeps. The rule says nothing of it.
+-- A third word shows one more than the last turn over which a thread parked, so that nobody is woken where nobody sleeps. The rule says
+-- nothing of it.
 use Rattle.std.specs.Prelude.{◌≡◌, ◌≢◌, ◌⊎◌, ℕ, ◌+◌, ◌%◌, ◌^◌, ◌<◌, ◌≤◌, Bool, true, false, List, [], ◌∷◌, length, min, Option, Some, None}
 use mathlib.Core.Option.{some}
 use mathlib.Core.Option as maybe

@@ -20,6 +20,10 @@ module _ {Y : Type 0} where
   abbrev pub drew : SeatOf Y → ℕ → SeatOf Y → Type 0
   drew m n m' = (k : ℕ) × (m' ≡ (record m.0 { waits = true; ticket = k }, m.1)) × (n ≡ k % 2 ^ 64)
 
+  -- a ticket was drawn where the ticket word showed the number expected, and else nothing changed
+  abbrev pub tried : ℕ → SeatOf Y → ℕ → SeatOf Y → Type 0
+  tried expected m n m' = (n ≡ expected → drew m n m') × (n ≢ expected → m' ≡ m)
+
   -- the slot went home empty, and the value is with the caller
   abbrev pub left_empty : SeatOf Y → ℕ → SeatOf Y → Type 0
   left_empty m n m' = m' ≡ (record m.0 { away = true }, [])
@@ -28,7 +32,7 @@ module _ {Y : Type 0} where
   abbrev pub took_empty : SeatOf Y → ℕ → SeatOf Y → Type 0
   took_empty m n m' = m' ≡ (record m.0 { away = false }, (0, None) ∷ [])
 
-  -- a thread was counted among the parked ones, or no longer: nothing that the view knows changed
+  -- it was noted over which turn a thread parks: nothing that the view knows changed
   abbrev pub unchanged : SeatOf Y → ℕ → SeatOf Y → Type 0
   unchanged m n m' = m' ≡ m
 

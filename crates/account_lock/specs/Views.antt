@@ -1,6 +1,6 @@
 -- What the holder of a pass knows of the lock: its view. Views are ghost data. The table of words and slots keeps the view of each pass
 -- in its proofs, and only a step of that pass's holder changes it. So what a view says has to stay true whatever the other threads do.
-use Rattle.std.specs.Prelude.{◌≡◌, ◌⊎◌, ℕ, ◌+◌, Bool, true, false, List, [], ◌∷◌, ◌++◌}
+use Rattle.std.specs.Prelude.{◌≡◌, ◌⊎◌, ℕ, ◌+◌, Bool, true, false, List, [], ◌∷◌, ◌++◌, if◌then◌else◌}
 use mathlib.Core.Option.{some}
 use lib.ListN.{get_elem?}
 use Rattle.mail_records.specs.Histories.{Entry, History, empty_history}
@@ -59,9 +59,9 @@ newcomer v =
 abbrev pub ended_with : View → List Ended
 ended_with w = record { name = w.name; entries = w.own } ∷ w.ended
 
--- the view v once a pass with the view w was joined
+-- the view v once a pass with the view w was joined. Who has the turn has seen the whole history, and goes on from it
 abbrev pub joined : View → View → View
-joined v w = record v { seen = longer_of v.seen w.seen; heard = w.seen; ended = v.ended ++ ended_with w }
+joined v w = record v { seen = if v.turn then v.seen else longer_of v.seen w.seen; heard = w.seen; ended = v.ended ++ ended_with w }
 
 -- of a value that never was
 abbrev pub nowhere : Origin

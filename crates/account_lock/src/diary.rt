@@ -1,6 +1,7 @@
 // The simplest value with a history, and one turn at it. It shows how a holder uses the lock, and serves tests and measurements.
 ghost use Rattle.std.specs.Prelude.{◌≡◌, ◌++◌, ◌∷◌, [], true, false, OnOk, OnErr, map};
 ghost use Rattle.mail_records.specs.Histories.{Refused};
+ghost use Rattle.account_lock.specs.Entries.{StartsWith};
 
 use crate::lock::{AccountLock, Pass};
 use crate::standing::Standing;
@@ -64,7 +65,7 @@ impl Diary {
 }
 
 /// One turn: waits for the diary, enters a stamp of the pass's name with this serial number, and gives the diary back. The pass has then
-/// given one entry more. Where no memory is left it has given none.
+/// given one entry more, and seen what it had seen and then more. Where no memory is left it has given none.
 pub fn enter_in_turn<R: Wait>(
     rt: &R,
     lock: &AccountLock<Diary>,
@@ -74,6 +75,7 @@ pub fn enter_in_turn<R: Wait>(
     requires lock { pass.old.lock ≡ lock.now }
     requires free { (pass.old.root ≡ false) × (pass.old.holds ≡ false) }
     ensures same { pass.new ≡ record pass.old { seen = pass.new.seen; own = pass.new.own } }
+    ensures seen { StartsWith pass.new.seen pass.old.seen }
     ensures ok { OnOk result (pass.new.own ≡ pass.old.own ++ Refused record { pass = pass.old.name; serial = serial } ∷ []) }
     ensures err { OnErr result (pass.new.own ≡ pass.old.own) }
 {

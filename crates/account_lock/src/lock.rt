@@ -1,7 +1,7 @@
 // The lock and its passes.
 ghost use Rattle.std.specs.Prelude.{◌≡◌, ◌<◌, ◌^◌, ◌+◌, ◌∷◌, [], true, false, IfOk, IfErr, Some, Ok, length, ◌≤◌};
 ghost use Rattle.account_lock.specs.Entries.{under, StartsWith, ExtendsUnder};
-ghost use Rattle.account_lock.specs.Passes.{KeepsEnded, IsLast, HasNoOthers, root_of, split_off, taken_in};
+ghost use Rattle.account_lock.specs.Passes.{KeepsEnded, IsLast, HasEndedAll, HasNoOthers, root_of, split_off, taken_in};
 
 use crate::rule::{Naming, Turns};
 use crate::standing::Standing;
@@ -21,7 +21,7 @@ use std::sync::Wait;
 /// value keeps the turn for ever, and every other `take` waits for ever.
 #[derive(Drop)]
 pub struct AccountLock<B: Standing> {
-    table: Table<Option<Box<B>>, PassView, Snapshot<Box<B>>, Turns<B>, Global>,
+    pub(crate) table: Table<Option<Box<B>>, PassView, Snapshot<Box<B>>, Turns<B>, Global>,
 }
 
 impl<B: Standing> Model for AccountLock<B> {
@@ -110,7 +110,7 @@ impl<B: Standing> AccountLock<B> {
     {
         let words = &self.table.shared;
         let mut place = mem::replace(&mut pass.badge, Badge::blank()).into_seat::<Option<Box<B>>>();
-        let ticket = draw_ticket(words, &mut place);
+        let ticket = draw_ticket(rt, words, &mut place);
         await_turn(rt, words, &mut place, ticket);
         let value = lift(words, &mut place);
         pass.badge = place.into_badge();
@@ -153,13 +153,14 @@ impl<B: Standing> AccountLock<B> {
     }
 
     /// Ends `other`, and adds to the pass's ended names its name with the entries that it gave, and its ended names. The pass has then
-    /// seen the longer of what the two have seen.
+    /// seen the longer of what the two have seen. Where its holder has the value, that is what it had seen, so the value can be given as before.
     pub fn join(&self, pass: &mut Pass, other: Pass)
         requires lock { (pass.old.lock ≡ self.now) × (other.lock ≡ self.now) }
         requires other { (other.root ≡ false) × (other.holds ≡ false) }
         ensures pass { pass.new ≡ taken_in pass.old other }
         ensures seen { StartsWith pass.new.seen pass.old.seen }
         ensures heard { StartsWith pass.new.seen other.seen }
+        ensures held { pass.old.holds ≡ true → pass.new.seen ≡ pass.old.seen }
         ensures count { pass.old.root ≡ true → length pass.new.ended ≤ pass.new.given }
     {
         let words = &self.table.shared;
@@ -170,13 +171,14 @@ impl<B: Standing> AccountLock<B> {
         pass.badge = place.into_badge();
     }
 
-    /// The value, once each pass that the root split off was joined, with the root or with one that was. Each of its entries is under an
-    /// ended name, and under each ended name stand exactly the entries kept with it.
+    /// The value, once each pass that the root split off was joined, with the root or with one that was. Then each name that was given has
+    /// ended. Each entry of the value is under an ended name, and under each ended name stand exactly the entries kept with it.
     pub fn close(self, pass: Pass) -> Box<B>
         requires lock { pass.lock ≡ self }
         requires root { (pass.root ≡ true) × IsLast pass }
         ensures seen { StartsWith (B.entries result.value) pass.seen }
         ensures ended { KeepsEnded pass (B.entries result.value) }
+        ensures all { HasEndedAll pass }
         ensures names { HasNoOthers pass (B.entries result.value) }
         ensures before { B.before result.value ≡ pass.before }
         ensures opening { B.opening result.value ≡ pass.opening }

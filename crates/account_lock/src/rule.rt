@@ -39,6 +39,17 @@ impl<B: Standing> Play<Option<Box<B>>, PassView> for DrawTicket<B> {
     ghost then = { λ _. drew };
 }
 
+// A ticket is drawn where the ticket word shows the number that was expected.
+pub(crate) struct TryTicket<B> {
+    of: PhantomData<B>,
+}
+
+impl<B: Standing> Play<Option<Box<B>>, PassView> for TryTicket<B> {
+    ghost use Rattle.account_lock.specs.Steps.{tried};
+
+    ghost then = { λ s. tried s.first };
+}
+
 // The serving word is watched. Where it shows the ticket, the turn has come and the slot is in hand.
 pub(crate) struct WatchServing<B> {
     of: PhantomData<B>,
@@ -83,10 +94,10 @@ impl<B: Standing> Play<Option<Box<B>>, PassView> for PassTurn<B> {
     ghost then = { λ _. passed_on (λ b. B.entries b.value) };
 }
 
-// The number of parked threads changes, and nothing else.
-pub(crate) struct CountParked;
+// It is noted over which turn a thread parks, and nothing else changes.
+pub(crate) struct MarkParked;
 
-impl<B: Standing> Play<Option<Box<B>>, PassView> for CountParked {
+impl<B: Standing> Play<Option<Box<B>>, PassView> for MarkParked {
     ghost use Rattle.account_lock.specs.Steps.{unchanged};
 
     ghost then = { λ _. unchanged };

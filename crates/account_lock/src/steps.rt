@@ -1,10 +1,11 @@
 // The steps of a turn on the words and the slot.
 ghost use Rattle.std.specs.Prelude.{◌≡◌, ◌%◌, ◌^◌, ◌<◌, ◌∷◌, true, false, [], Some, length, ◌≤◌};
 ghost use Rattle.account_lock.specs.Entries.{StartsWith, ExtendsUnder, under};
-ghost use Rattle.account_lock.specs.Steps.{IsLockTable, Got};
+ghost use Rattle.account_lock.specs.Steps.{IsLockTable, Got, drew};
 
 use crate::rule::{
-    CountParked, DrawTicket, LeaveEmpty, LookBack, PassTurn, Place, TakeEmpty, WatchServing, Words,
+    DrawTicket, LeaveEmpty, LookBack, MarkParked, PassTurn, Place, TakeEmpty, TryTicket,
+    WatchServing, Words,
 };
 use crate::standing::Standing;
 use std::hint;
@@ -14,26 +15,54 @@ use std::sync::Wait;
 const TICKET: usize = 0;
 
 // The word that shows the ticket which is served.
-const SERVING: usize = 1;
+pub(crate) const SERVING: usize = 1;
 
-// The word that counts the threads which are parked, or are about to park.
-const PARKED: usize = 2;
+// The word that shows one more than the last turn over which a thread parked.
+pub(crate) const PARKED: usize = 2;
 
-// How often a waiter looks at the serving word before it parks.
+// How often a waiter looks at the words before it parks.
 const LOOKS: u32 = 1000;
 
-// Draws a ticket, and answers what the ticket word showed.
-pub(crate) fn draw_ticket<B: Standing>(words: &Words<B>, place: &mut Place<B>) -> u64
+// How often it looks before it draws a ticket of a lock that isn't free. It has then parked three times.
+const PATIENCE: u32 = 3003;
+
+// Draws a ticket, and answers what the ticket word showed. It is drawn where the lock looks free, so that threads that don't run mostly
+// hold none, and those that run needn't wait for them. Who has parked some times without finding it free draws in any case, and so has
+// a place in the order.
+pub(crate) fn draw_ticket<B: Standing, R: Wait>(
+    rt: &R,
+    words: &Words<B>,
+    place: &mut Place<B>,
+) -> u64
     requires table { (place.old.table_id ≡ words.now.table_id) × IsLockTable words.now.table_id }
     requires ready { (place.old.me.0.waits ≡ false) × (0 < place.old.me.0.name) }
     ensures table { place.new.table_id ≡ place.old.table_id }
-    ensures ticket { (k : _) × (place.new.me ≡ (record place.old.me.0 { waits = true; ticket = k }, place.old.me.1)) × (result ≡ k % 2 ^ 64) }
+    ensures ticket { drew place.old.me result place.new.me }
 {
+    let mut looks = 0;
+    for _ in 0..PATIENCE {
+        let found = words.peek(SERVING);
+        if words.peek(TICKET) == found && try_ticket(words, place, found) {
+            return found;
+        }
+        looks = look_again(rt, words, place, found, looks);
+    }
     words.fetch_add::<DrawTicket<B>>(place, TICKET, 1)
 }
 
-// Waits until the ticket is served. The slot is then in hand, with the value in it. A waiter looks at the serving word some
-// thousand times, since most turns are short, and then parks until somebody passes a turn on.
+// Draws the ticket with this number, where the ticket word still shows it.
+fn try_ticket<B: Standing>(words: &Words<B>, place: &mut Place<B>, found: u64) -> bool
+    requires table { (place.old.table_id ≡ words.now.table_id) × IsLockTable words.now.table_id }
+    requires ready { (place.old.me.0.waits ≡ false) × (0 < place.old.me.0.name) }
+    ensures table { place.new.table_id ≡ place.old.table_id }
+    ensures drawn { result ≡ true → drew place.old.me found place.new.me }
+    ensures not { result ≡ false → place.new.me ≡ place.old.me }
+{
+    let next = found.wrapping_add(1);
+    words.compare_exchange::<TryTicket<B>>(place, TICKET, found, next) == found
+}
+
+// Waits until the ticket is served. The slot is then in hand, with the value in it.
 pub(crate) fn await_turn<B: Standing, R: Wait>(
     rt: &R,
     words: &Words<B>,
@@ -51,25 +80,39 @@ pub(crate) fn await_turn<B: Standing, R: Wait>(
         if found == ticket {
             return;
         }
-        if looks < LOOKS {
-            looks += 1;
-            hint::spin_loop();
-        } else {
-            park(rt, words, place, found);
-        }
+        looks = look_again(rt, words, place, found, looks);
     }
     unreachable!()
 }
 
-// Parks while the serving word is as it was found, until somebody passes a turn on. It counts itself as parked first. So whoever
-// passes a turn on and then finds nobody parked did so before the count rose, and the thread won't park over the new turn.
+// Goes on to the next look, and answers how many there were. A waiter looks some thousand times, since most turns are short, and then
+// parks until somebody passes a turn on.
+fn look_again<B: Standing, R: Wait>(
+    rt: &R,
+    words: &Words<B>,
+    place: &mut Place<B>,
+    found: u64,
+    looks: u32,
+) -> u32
+    requires table { (place.old.table_id ≡ words.now.table_id) × IsLockTable words.now.table_id }
+    ensures { (place.new.table_id ≡ place.old.table_id) × (place.new.me ≡ place.old.me) }
+{
+    if looks < LOOKS {
+        hint::spin_loop();
+        return looks + 1;
+    }
+    park(rt, words, place, found);
+    0
+}
+
+// Parks while the serving word is as it was found, until somebody passes that turn on. It first notes over which turn it parks. Whoever
+// passes that turn on finds the note, or else passed it on before, and then the thread doesn't park.
 fn park<B: Standing, R: Wait>(rt: &R, words: &Words<B>, place: &mut Place<B>, found: u64)
     requires table { (place.old.table_id ≡ words.now.table_id) × IsLockTable words.now.table_id }
     ensures { (place.new.table_id ≡ place.old.table_id) × (place.new.me ≡ place.old.me) }
 {
-    words.fetch_add::<CountParked>(place, PARKED, 1);
+    words.fetch_max::<MarkParked>(place, PARKED, found.wrapping_add(1));
     words.park(rt, SERVING, (found % (1 << 32)) as u32);
-    words.fetch_sub::<CountParked>(place, PARKED, 1);
 }
 
 // Takes the value out of the slot, once the turn has come.
@@ -102,8 +145,8 @@ pub(crate) fn lay_back<B: Standing>(words: &Words<B>, place: &mut Place<B>, valu
         None => {}
         Some(_) => unreachable!(),
     }
-    words.fetch_add::<PassTurn<B>>(place, SERVING, 1);
-    if words.peek(PARKED) > 0 {
+    let served = words.fetch_add::<PassTurn<B>>(place, SERVING, 1);
+    if words.peek(PARKED) > served {
         words.wake_all(SERVING);
     }
 }

@@ -1,22 +1,21 @@
-// Threads that take turns at a small value, and a waiter that parks.
+// Threads that take turns at a small value, a waiter that parks, and passes that are joined.
 ghost use Rattle.std.specs.Prelude.{◌≡◌, ◌+◌, ◌<◌, ◌^◌, [], true, false, length, IfOk, IfSome, OnOk, ◌++◌, ◌∷◌};
 
+use crate::steps::{PARKED, SERVING};
 use crate::{AccountLock, Diary, Pass, enter_in_turn};
 use jm_base::NoMemory;
 use mail_records::Stamp;
 use std::sync::Wait;
 use std::sync::atomic::{AtomicBool, Ordering};
 use std::test::*;
-use std::thread::{Threads, join, yield_now};
+use std::thread::{Threads, join, sleep};
+use std::time::{Clock, Duration};
 
 // How many turns each of the four threads takes.
 const TURNS: u64 = 10_000;
 
-// How often a thread looks at a flag before it goes on without it.
-const LOOKS: u64 = 1_000_000;
-
-// How often a holder yields while the other thread parks.
-const PAUSE: u64 = 5_000;
+// How many milliseconds a thread looks for another before it goes on without it.
+const LOOKS: u64 = 10_000;
 
 fn turns<R: Wait>(
     rt: &R,
@@ -127,24 +126,37 @@ fn four_threads_enter_each_stamp_once_and_in_order(rt: HostRuntime) -> Result<()
     Ok(())
 }
 
-// Looks at a flag until it is set, and gives up after many looks.
-fn look_for(flag: &AtomicBool) -> bool {
+// Looks each millisecond whether a flag is set, and gives up after many looks.
+fn look_for<R: Clock>(rt: &R, flag: &AtomicBool) -> bool {
     for _ in 0..LOOKS {
         if flag.load(Ordering::SeqCst) {
             return true;
         }
-        yield_now();
+        sleep(rt, Duration::from_millis(1));
     }
     false
 }
 
-// Takes the turn, waits until the other thread comes, and lets it wait for a while.
-fn hold<R: Wait>(
+// Looks each millisecond whether a thread is counted as parked, and then lets it fall asleep. Gives up after many looks.
+fn look_for_parked<R: Clock>(rt: &R, lock: &AccountLock<Diary>) -> bool {
+    for _ in 0..LOOKS {
+        if lock.table.shared.peek(PARKED) > 0 {
+            sleep(rt, Duration::from_millis(50));
+            return true;
+        }
+        sleep(rt, Duration::from_millis(1));
+    }
+    false
+}
+
+// Takes the turn, keeps it until the other thread is parked, and looks whether that one then has its turn. At last it wakes who still
+// sleeps, so that the test ends where nobody else did.
+fn hold<R: Wait + Clock>(
     rt: &R,
     lock: &AccountLock<Diary>,
     mut pass: Pass,
     held: &AtomicBool,
-    coming: &AtomicBool,
+    done: &AtomicBool,
 ) -> Option<Pass>
     requires lock { pass.lock ≡ lock.now }
     requires free { (pass.root ≡ false) × (pass.holds ≡ false) }
@@ -152,40 +164,39 @@ fn hold<R: Wait>(
 {
     let diary = lock.take(rt, &mut pass);
     held.store(true, Ordering::SeqCst);
-    let came = look_for(coming);
-    for _ in 0..PAUSE {
-        yield_now();
-    }
+    let parked = look_for_parked(rt, lock);
     lock.give(&mut pass, diary);
-    if came {
+    let woken = look_for(rt, done);
+    lock.table.shared.wake_all(SERVING);
+    if parked && woken {
         return Some(pass);
     }
     None
 }
 
 // Comes once the turn is taken, and enters a stamp in the next one.
-fn come<R: Wait>(
+fn come<R: Wait + Clock>(
     rt: &R,
     lock: &AccountLock<Diary>,
     mut pass: Pass,
     held: &AtomicBool,
-    coming: &AtomicBool,
+    done: &AtomicBool,
 ) -> Option<Pass>
     requires lock { pass.lock ≡ lock.now }
     requires free { (pass.root ≡ false) × (pass.holds ≡ false) }
     ensures { IfSome result (λ p. p ≡ record pass { seen = p.seen; own = p.own }) }
 {
-    let found = look_for(held);
-    coming.store(true, Ordering::SeqCst);
+    let found = look_for(rt, held);
     let entered = enter_in_turn(rt, lock, &mut pass, 7);
+    done.store(true, Ordering::SeqCst);
     if found && entered.is_ok() {
         return Some(pass);
     }
     None
 }
 
-// One thread holds the diary while the other parks. Answers the diary, where both had their turn.
-fn hold_and_come<R: Threads + Wait + Sync>(
+// One thread holds the diary while the other parks. Answers the diary, where the other did, and was woken.
+fn hold_and_come<R: Threads + Wait + Clock + Sync>(
     rt: &R,
     lock: AccountLock<Diary>,
     mut root: Pass,
@@ -197,17 +208,17 @@ fn hold_and_come<R: Threads + Wait + Sync>(
         return None;
     };
     let held = AtomicBool::new(false);
-    let coming = AtomicBool::new(false);
+    let done = AtomicBool::new(false);
     let (one, two) = join(
         rt,
         || -> Option<Pass>
             requires { (first.lock ≡ lock) × (first.root ≡ false) × (first.holds ≡ false) }
             ensures { IfSome result (λ p. p ≡ record first { seen = p.seen; own = p.own }) }
-        { hold(rt, &lock, first, &held, &coming) },
+        { hold(rt, &lock, first, &held, &done) },
         || -> Option<Pass>
             requires { (second.lock ≡ lock) × (second.root ≡ false) × (second.holds ≡ false) }
             ensures { IfSome result (λ p. p ≡ record second { seen = p.seen; own = p.own }) }
-        { come(rt, &lock, second, &held, &coming) },
+        { come(rt, &lock, second, &held, &done) },
     );
     end(&lock, &mut root, one?);
     end(&lock, &mut root, two?);
@@ -222,10 +233,59 @@ fn a_waiter_that_parks_is_woken(rt: HostRuntime) -> Result<(), Fail> {
         return Err(Fail::from(std::alloc::AllocError));
     };
     let diary = hold_and_come(&rt, lock, root);
-    assert!(rt; diary.is_some(), "a thread gave up");
+    assert!(rt; diary.is_some(), "the waiter didn't park, or wasn't woken");
     if let Some(diary) = diary {
         let stamp = Stamp { pass: 2, serial: 7 };
         assert_eq!(rt; diary.stamps(), [stamp].as_slice());
     }
+    Ok(())
+}
+
+// A pass takes the diary, joins another while it has it, and gives it back.
+fn join_in_turn<R: Wait>(rt: &R, lock: &AccountLock<Diary>, pass: &mut Pass, other: Pass)
+    requires lock { (pass.old.lock ≡ lock.now) × (other.lock ≡ lock.now) }
+    requires free { (pass.old.root ≡ false) × (pass.old.holds ≡ false) }
+    requires other { (other.root ≡ false) × (other.holds ≡ false) × (other.ended ≡ []) }
+    ensures pass { pass.new ≡ record pass.old { seen = pass.new.seen; own = pass.new.own; ended = pass.new.ended } }
+    ensures ended { length pass.new.ended ≡ length pass.old.ended + 1 }
+{
+    let diary = lock.take(rt, pass);
+    lock.join(pass, other);
+    lock.give(pass, diary);
+}
+
+// The second pass ends with the first, and the first with the root. Answers the diary with an entry of the second and two of the first.
+fn one_through_another<R: Wait>(
+    rt: &R,
+    lock: AccountLock<Diary>,
+    mut root: Pass,
+) -> Result<Box<Diary>, NoMemory>
+    requires lock { root.lock ≡ lock }
+    requires root { (root.root ≡ true) × (root.given ≡ 0) × (root.ended ≡ []) }
+{
+    let mut first = lock.split(&mut root)?;
+    let mut second = lock.split(&mut root)?;
+    enter_in_turn(rt, &lock, &mut first, 5)?;
+    enter_in_turn(rt, &lock, &mut second, 6)?;
+    join_in_turn(rt, &lock, &mut first, second);
+    enter_in_turn(rt, &lock, &mut first, 7)?;
+    lock.join(&mut root, first);
+    Ok(lock.close(root))
+}
+
+#[test]
+fn a_pass_ends_through_another(rt: HostRuntime) -> Result<(), Fail> {
+    let alloc = rt.alloc();
+    let diary = Box::new(alloc, Diary::new(alloc))?;
+    let Ok((lock, root)) = AccountLock::build(alloc, diary) else {
+        return Err(Fail::from(std::alloc::AllocError));
+    };
+    let diary = one_through_another(&rt, lock, root)?;
+    let wanted = [
+        Stamp { pass: 1, serial: 5 },
+        Stamp { pass: 2, serial: 6 },
+        Stamp { pass: 1, serial: 7 },
+    ];
+    assert_eq!(rt; diary.stamps(), wanted.as_slice());
     Ok(())
 }

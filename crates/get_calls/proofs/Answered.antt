@@ -6,8 +6,8 @@ use Rattle.jm_json.specs.Tree.{Tree, text, object, fields_of}
 use Rattle.mail_records.specs.declared.records.Mailbox.{Mailbox}
 use Rattle.get_calls.specs.Arguments.{account_in, ids_in, names_in, is_selection, are_properties, bad_argument}
 use Rattle.get_calls.specs.Mailboxes.{asked_mailboxes, unknown_ids, mailbox_properties, shown_mailbox}
-use Rattle.get_calls.specs.Get.{got, asked_count, get_asked, get_by, get_unless, mailboxes_reply}
-use Rattle.get_calls.specs.Parts.{left_out, mailbox_without, reply_of}
+use Rattle.get_calls.specs.Get.{got, asked_count, get_asked, get_by, get_unless, mailboxes_reply, reply_tree}
+use Rattle.get_calls.specs.Parts.{left_out, mailbox_without}
 use Rattle.get_calls.proofs.LeftOut.{shown_members}
 
 none_bad : (a b c : Bool) (x y z : List ℕ) → a ≡ false → b ≡ true → c ≡ true → (if a then Some x else if not b then Some y else if not c then Some z else None) ≡ None
@@ -33,7 +33,7 @@ asked mailboxes state args read_only e = rw e refl
 pub answered : (mailboxes : List Mailbox) (state : ℕ) (args : List (List ℕ × Tree)) (read_only : Bool) (account : List ℕ) (ids : Option (List (List ℕ))) (hidden : List (List ℕ)) (objects unknown : List Tree)
     → account_in args ≡ Some account → ids ≡ ids_in args → is_selection (codes "ids") args ≡ true → hidden ≡ left_out (names_in args) → are_properties mailbox_properties args ≡ true
     → asked_count mailboxes ids ≤ 500 → objects ≡ map (mailbox_without read_only hidden) (asked_mailboxes mailboxes ids) → unknown ≡ map text (unknown_ids mailboxes ids)
-    → get_by (Some args) mailboxes state read_only ≡ got (reply_of account objects unknown state)
+    → get_by (Some args) mailboxes state read_only ≡ got (reply_tree account objects unknown state)
 answered mailboxes state args read_only account ids hidden objects unknown known same selected left properties count shown nothing =
     let no : bad_argument mailbox_properties args ≡ None = good args account known selected properties in
     let less : nat_lt 500 (asked_count mailboxes (ids_in args)) ≡ false = few _ (subst (λ i. asked_count mailboxes i ≤ 500) same count) in
@@ -43,5 +43,5 @@ answered mailboxes state args read_only account ids hidden objects unknown known
     ∙ ap (λ i. map (shown_mailbox read_only (names_in args)) (asked_mailboxes mailboxes i)) same) in
     let unknown_is : map text (unknown_ids mailboxes (ids_in args)) ≡ unknown = sym (nothing ∙ ap (λ i. map text (unknown_ids mailboxes i)) same) in
     ap (λ o. get_unless o mailboxes state args read_only) no ∙ asked mailboxes state args read_only less
-    ∙ ap (λ a. got (reply_of a (map (shown_mailbox read_only (names_in args)) (asked_mailboxes mailboxes (ids_in args))) (map text (unknown_ids mailboxes (ids_in args))) state)) (ap (λ o. unwrap_or o []) known)
-    ∙ ap₂ (λ xs ys. got (reply_of account xs ys state)) list_is unknown_is
+    ∙ ap (λ a. got (reply_tree a (map (shown_mailbox read_only (names_in args)) (asked_mailboxes mailboxes (ids_in args))) (map text (unknown_ids mailboxes (ids_in args))) state)) (ap (λ o. unwrap_or o []) known)
+    ∙ ap₂ (λ xs ys. got (reply_tree account xs ys state)) list_is unknown_is

@@ -23,14 +23,14 @@ abbrev pub asked_count : List Mailbox → Option (List (List ℕ)) → ℕ
 asked_count mailboxes None = length mailboxes
 asked_count mailboxes (Some ids) = length ids
 
--- the arguments of a response: of this account, with these objects and these identifiers that name none, in this state
-abbrev pub reply_tree : List ℕ → List Tree → List (List ℕ) → ℕ → Tree
+-- the arguments of a response: of this account, with these objects and these texts of identifiers that name none, in this state
+abbrev pub reply_tree : List ℕ → List Tree → List Tree → ℕ → Tree
 reply_tree account objects unknown state =
     object
     (fields_of
     ((codes "accountId", text account)
     ∷ (codes "list", list (trees_of objects))
-    ∷ (codes "notFound", list (trees_of (map text unknown)))
+    ∷ (codes "notFound", list (trees_of unknown))
     ∷ (codes "state", text (state_text state))
     ∷ []))
 
@@ -38,7 +38,7 @@ reply_tree account objects unknown state =
 abbrev pub mailboxes_reply : List Mailbox → ℕ → List (List ℕ × Tree) → Bool → Tree
 mailboxes_reply mailboxes state args read_only =
     reply_tree (unwrap_or (account_in args) []) (map (shown_mailbox read_only (names_in args)) (asked_mailboxes mailboxes (ids_in args)))
-    (unknown_ids mailboxes (ids_in args)) state
+    (map text (unknown_ids mailboxes (ids_in args))) state
 
 -- a get may ask for 500 objects (RFC 8620, 2: maxObjectsInGet)
 abbrev pub get_asked : List Mailbox → ℕ → List (List ℕ × Tree) → Bool → Got

@@ -1,7 +1,6 @@
 -- For private clauses: the parts of an answer, by the properties that are left out.
-use Rattle.std.specs.Prelude.{ℕ, List, [], ◌∷◌, Bool, not, Option, filter, codes}
-use Rattle.jm_base.specs.Ids.{state_text}
-use Rattle.jm_json.specs.Tree.{Tree, text, list, object, trees_of, fields_of}
+use Rattle.std.specs.Prelude.{ℕ, List, [], ◌∷◌, Bool, not, Option, filter}
+use Rattle.jm_json.specs.Tree.{Tree, object, fields_of}
 use Rattle.jm_json.specs.Patch.{take_away}
 use Rattle.mail_records.specs.declared.records.Mailbox.{Mailbox}
 use Rattle.mail_counts.specs.Views.{mailbox_members}
@@ -28,14 +27,3 @@ take_all_away (h ∷ hs) members = take_all_away hs (take_away h members)
 -- a mailbox without these properties
 abbrev pub mailbox_without : Bool → List (List ℕ) → Mailbox → Tree
 mailbox_without read_only hidden m = object (fields_of (without hidden (mailbox_members read_only m)))
-
--- the arguments of a response with these objects, and with these texts of identifiers that name none
-abbrev pub reply_of : List ℕ → List Tree → List Tree → ℕ → Tree
-reply_of account objects unknown state =
-    object
-    (fields_of
-    ((codes "accountId", text account)
-    ∷ (codes "list", list (trees_of objects))
-    ∷ (codes "notFound", list (trees_of unknown))
-    ∷ (codes "state", text (state_text state))
-    ∷ []))

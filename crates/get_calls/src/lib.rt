@@ -3,13 +3,13 @@
 //! The answer of an account to any arguments stands in `specs/Get.antt`. A get that is refused answers a [`GetFault`].
 #![tactic(auto)]
 
+mod answers;
 mod arguments;
 mod fault;
-mod get;
 mod objects;
 mod properties;
 #[cfg(test)]
 mod tests;
 
+pub use answers::{get, get_mailboxes};
 pub use fault::GetFault;
-pub use get::{get, get_mailboxes};

@@ -1,12 +1,13 @@
 -- The lines that end in a piece, and what is put of their replies.
-use Rattle.std.proofs.Common.{◌≡◌, ℕ, List, [], ◌∷◌, ◌++◌, take, length, Option, Result, Ok, Err, OnOk, OnErr, sym, ap, ◌∙◌, subst, append_assoc, append-nil, arith}
+use Rattle.std.proofs.Common.{◌≡◌, ◌≢◌, ℕ, List, [], ◌∷◌, ◌++◌, take, length, Option, Result, Ok, Err, OnOk, OnErr, refl, sym, ap, ◌∙◌, subst, append_assoc, append-nil, arith}
 use Rattle.std.proofs.Math.Seq.{take-append_seam}
 use Rattle.std.proofs.lemmas.List.{take_all}
 use Rattle.std.specs.Io.KnownBytes.{Appends}
+use Rattle.jm_json.specs.Tree.{Tree}
 use Rattle.jm_base.specs.declared.memory.NoMemory.{NoMemory}
 use Rattle.jmap_main.specs.Lines.{IsOneLine}
 use Rattle.jmap_main.specs.Steps.{Steps}
-use Rattle.jmap_main.specs.Batch.{batch_out, reply_or_none, state_after, Done, IsFrontFor}
+use Rattle.jmap_main.specs.Batch.{batch_out, line_answered, line_text, reply_or_none, state_after, Done, IsFrontFor}
 use Rattle.jmap_main.specs.declared.ending.Ending.{Ending}
 use Rattle.jmap_main.proofs.Lines.{done_on, done_line, done_front, front_on, front_wider, line_front, shorter_front, both_lines, front_line}
 use Rattle.jmap_main.proofs.Held.{held, done_hold, reply_of_held, state_of_held}
@@ -22,6 +23,14 @@ whole_front h k xs a = (length xs, subst (Appends h k) (sym (take_all (length xs
 pub text_stands : (r : Kept) (old mid new text : List ℕ) → mid ≡ old ++ text → OnErr r (new ≡ mid) → OnErr r ((n : ℕ) × (new ≡ old ++ take n (text ++ 10 ∷ [])))
 text_stands (Ok u) old mid new text e h = tt
 text_stands (Err x) old mid new text e h = (length text, h ∙ e ∙ ap (λ bs. old ++ bs) (sym (take-append_seam text (10 ∷ []))))
+
+-- the text of a line's answer is the reply to the line
+pub reply_is : {S : Type 0} (steps : Steps S) (s : S) (line : List ℕ) (t : Tree) → line ≢ [] → t ≡ (line_answered steps s line).tree → line_text t ≡ reply_or_none steps s line
+reply_is steps s [] t some e = absurd (some refl)
+reply_is steps s (x ∷ xs) t some e = ap line_text e
+
+pub front_of_same : (r : Kept) (old new a b : List ℕ) → a ≡ b → OnErr r ((n : ℕ) × (new ≡ old ++ take n a)) → OnErr r ((n : ℕ) × (new ≡ old ++ take n b))
+front_of_same r old new a b e h = subst (λ (x : List ℕ). OnErr r ((n : ℕ) × (new ≡ old ++ take n x))) e h
 
 pub held_ok : {S : Type 0} (steps : Steps S) (s : S) (r : Kept) (old new mid line last : List ℕ) → mid ≡ held line last → OnOk r (new ≡ old ++ reply_or_none steps s mid) → OnOk r (new ≡ old ++ reply_or_none steps s (line ++ last))
 held_ok steps s (Ok u) old new mid line last e h = h ∙ ap (λ bs. old ++ bs) (ap (reply_or_none steps s) e ∙ reply_of_held steps s line last)

@@ -1,4 +1,4 @@
-use Rattle.std.proofs.Common.{◌≡◌, ap, ap₂, sym, ◌∙◌, subst, IfOk}
+use Rattle.std.proofs.Common.{◌≡◌, ap, ap₂, sym, ◌∙◌, subst}
 use Rattle.mail_records.specs.Histories.{Committed, grown}
 use Rattle.mail_records.specs.declared.edits.Stamp.{Stamp}
 use Rattle.account_book.specs.Replies.{IsWithin, commit_of, edit_bytes}

@@ -28,6 +28,14 @@ returns-clause-ended g c =
     let same : e.0 ≡ c.unwrap.result = cc (e.1, c.unwrap.ensures) in
     (subst (Last shows origin c.args.pass) same e.2).ended
 
+pub returns-clause-all : goal.returns-clause-all
+returns-clause-all g c =
+    let shows : Box g.row.B.Denot Global → List _ = λ b. g.B.Standing.entries b.value in
+    let origin : Box g.row.B.Denot Global → Origin = λ b. record { before = g.B.Standing.before b.value; opening = g.B.Standing.opening b.value } in
+    let e = closes shows origin c.pass.inside.badge.table_id _ _ _ _ _ c.take-value.result (sym (ap (facts c.pass.inside.badge.table_id) c.into_seat.ensures.2) ∙ c.pass.view_is) c.requires.root.0 c.requires.root.1 c.close_with-closed.ensures.values.2 c.take-value.ensures.value in
+    let same : e.0 ≡ c.unwrap.result = cc (e.1, c.unwrap.ensures) in
+    (subst (Last shows origin c.args.pass) same e.2).all
+
 pub returns-clause-names : goal.returns-clause-names
 returns-clause-names g c =
     let shows : Box g.row.B.Denot Global → List _ = λ b. g.B.Standing.entries b.value in

@@ -1,10 +1,8 @@
 // Gets of mailboxes (RFC 8620, section 5.1; RFC 8621, section 2.1).
-ghost use Rattle.std.specs.Prelude.{◌≡◌, Some, IfOk, IfErr, nat_lt, option_map, map, unwrap_or};
+ghost use Rattle.std.specs.Prelude.{◌≡◌, Some, IfOk, IfErr, option_map, map};
 ghost use Rattle.jm_json.specs.Json.{tree_of};
-ghost use Rattle.jm_json.specs.Tree.{text};
 ghost use Rattle.get_calls.specs.Explained.{Explains};
-ghost use Rattle.get_calls.specs.Get.{asked_count, get_by, get_in, get_mailboxes, got};
-ghost use Rattle.get_calls.specs.Parts.{reply_of};
+ghost use Rattle.get_calls.specs.Get.{asked_count, get_by, get_in, get_mailboxes, got, reply_tree};
 
 use crate::GetFault;
 use crate::arguments::{account, selection};
@@ -32,7 +30,7 @@ fn asked_count(content: &Content, ids: &Option<Vec<&str>>) -> usize
 
 // The arguments of a response.
 fn reply(alloc: Global, account: &str, found: Found, state: u64) -> Result<Json, NoMemory>
-    ensures { IfOk result (λ t. tree_of t ≡ reply_of account.now found.objects found.unknown state) }
+    ensures { IfOk result (λ t. tree_of t ≡ reply_tree account.now found.objects found.unknown state) }
 {
     let Found { objects, unknown } = found;
     let mut reply = Members::with_room(alloc, 4)?;

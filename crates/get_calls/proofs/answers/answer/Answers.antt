@@ -1,7 +1,7 @@
 use Rattle.std.proofs.Common.{◌≤◌, ◌∙◌, subst, sym, ap, map, option_map}
 use Rattle.get_calls.specs.Get.{got}
 use Rattle.get_calls.proofs.Answered.{answered}
-use Rattle.get_calls.proofs.get.answer.Goals as goal
+use Rattle.get_calls.proofs.answers.answer.Goals as goal
 
 pub returns-clause-ok : goal.returns-clause-ok
 returns-clause-ok c =

@@ -1,0 +1,48 @@
+//! The program `measure`: how long calls of the library take, beside a plain way to do the same work. The benchmarks run it.
+//!
+//! Times go to the error output, and counts, which are the same whatever the schedule, to standard output. Status 2 comes where the
+//! words name nothing to measure, and 1 where the clock, the memory or the output failed.
+#![tactic(auto)]
+
+mod lock;
+mod task;
+
+use crate::lock::measure_lock;
+use crate::task::{Task, USAGE};
+use std::process::ExitCode;
+use std::{env, io};
+
+fn main(rt: HostRuntime) -> ExitCode {
+    let task = match words_of(&rt) {
+        Ok(words) => Task::of_words(words.as_slice()),
+        Err(refused) => {
+            if refused.kind() == io::ErrorKind::OutOfMemory {
+                return ExitCode::from(1);
+            }
+            None
+        }
+    };
+    match task {
+        Some(Task::Lock { rounds }) => status_of(measure_lock(&rt, rt.alloc(), rounds)),
+        None => {
+            let _ = eprintln!(rt; "{}", USAGE);
+            ExitCode::from(2)
+        }
+    }
+}
+
+fn status_of(measured: io::Result<()>) -> ExitCode {
+    match measured {
+        Ok(()) => ExitCode::from(0),
+        Err(_) => ExitCode::from(1),
+    }
+}
+
+// The words behind the program's name.
+fn words_of(rt: &(impl env::Env + AllocGlobal)) -> io::Result<Vec<String>> {
+    let mut words = Vec::new(rt.alloc());
+    for word in env::args(rt)?.skip(1) {
+        words.push(word)?;
+    }
+    Ok(words)
+}
