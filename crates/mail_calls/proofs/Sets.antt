@@ -1,76 +1,39 @@
--- What each plan keeps: the edits that it makes put new mailboxes, and leave a tidy content.
-use Rattle.std.proofs.Common.{◌≡◌, ℕ, Bool, true, false, List, [], ◌∷◌, codes, bytes_eq, if◌then◌else◌, refl, sym, subst}
-use Rattle.std.specs.List.{AllByRecursion}
+-- The plan of a set, from what its outcome is over the account's content and log.
+use Rattle.std.proofs.Common.{◌≡◌, ℕ, List, [], ◌∷◌, Result, IfOk, codes, refl, sym, ap, ap₂, ◌∙◌, subst}
+use Rattle.jm_base.specs.declared.memory.NoMemory.{NoMemory}
+use Rattle.jm_base.specs.declared.identifiers.Kind.TheVariants.{Mailbox as OfMailbox}
 use Rattle.jm_json.specs.Call.{Call as Invocation}
-use Rattle.jm_json.specs.Invoked.{call_of}
+use Rattle.jm_json.specs.Tree.{Tree}
 use Rattle.jm_json.specs.declared.invocation.Created.{Created}
 use Rattle.mail_records.specs.Contents.{Content}
-use Rattle.mail_records.specs.Edits.{AllFit, after_edits}
-use Rattle.mail_records.specs.Histories.{History, content_of}
-use Rattle.mail_records.specs.declared.edits.Edit.{Edit}
-use Rattle.mail_records.specs.declared.edits.Edit.TheVariants.{PutMailbox}
-use Rattle.mail_records.specs.declared.records.Mailbox.{Mailbox}
-use Rattle.mail_counts.specs.Tidy.{IsTidy}
-use Rattle.get_calls.specs.Get.{Got, invalid, too_large, got, get_in}
-use Rattle.mailbox_set.specs.Plans.{Ground, Outcome, set_outcome}
+use Rattle.mail_records.specs.Histories.{History, content_of, end_of}
+use Rattle.mail_records.specs.States.{state_of}
+use Rattle.mail_counts.specs.declared.plan.SetFault.{SetFault}
+use Rattle.mail_counts.specs.declared.plan.SetFault.TheVariants.{Invalid, TooLarge, StateMismatch}
+use Rattle.state_log.specs.Logs.{Notes, IsLogOf}
+use Rattle.state_log.proofs.Agreement.{log_end-of, state_of-log}
+use Rattle.mailbox_set.specs.Plans.{Ground, Outcome, ExplainsSet, ground_of, set_outcome}
 use Rattle.mailbox_set.specs.Plans as sets
-use Rattle.account_book.specs.declared.asks.Ask.{Ask}
-use Rattle.account_book.specs.declared.asks.Ask.TheVariants.{Method, Upload, Blob, Fetch, Place, States}
-use Rattle.account_book.specs.declared.asks.Call.{Call}
+use Rattle.account_book.specs.declared.plans.Out.TheVariants.{Replies}
 use Rattle.account_book.specs.declared.plans.Plan.{Plan}
-use Rattle.mail_calls.specs.Plans.{silent, answered, refused, get_plan, set_plan, ground_of, method_plan, ask_plan, call_plan}
+use Rattle.mail_calls.specs.Plans.{refused, response_to, set_plan, ground_in}
 
--- the edit puts a new mailbox
-abbrev pub IsNew : Edit → Type 0
-IsNew e = (m : Mailbox) × (e ≡ PutMailbox m false false)
+-- the outcome over a content and a log that are those of a history
+pub same_outcome : (h : History) (c : Content) (l : Notes) (args : Tree) (made : List Created) → c ≡ content_of h → IsLogOf h l → set_outcome (ground_of c l) args made ≡ set_outcome (ground_in h) args made
+same_outcome h c l args made content log =
+    let state = state_of-log h l OfMailbox log in
+    let last = log_end-of h l log in
+    ap (λ (g : Ground). set_outcome g args made)
+    (ap₂ (λ (x : Content) (n : ℕ). record { content = x; state = n; last = (ground_of c l).last }) content state
+    ∙ ap (λ n. record { content = content_of h; state = state_of h OfMailbox; last = n }) last)
 
--- the plan brings no blobs, and its edits fit, put new mailboxes, and leave a tidy content
-pub record Keeps (c : Content) (p : Plan) : Type 0 where
-  pub blobs : p.blobs ≡ []
-  pub fits : AllFit c p.edits
-  pub new : AllByRecursion IsNew p.edits
-  pub tidy : IsTidy (after_edits c p.edits)
+-- a set that is planned is answered by its one response
+pub planned_set : (r : Result Plan NoMemory) (c : Invocation) (o : Outcome) (p : sets.Plan) (response : Invocation) → o ≡ sets.planned p → response ≡ response_to c p.reply
+    → IfOk r (λ x. x ≡ record { out = Replies (record { responses = response ∷ []; made = p.made }); blobs = []; edits = p.edits }) → IfOk r (λ x. x ≡ set_plan c o)
+planned_set r c o p response is same h =
+    subst (λ (x : Outcome). IfOk r (λ y. y ≡ set_plan c x)) (sym is)
+    (subst (λ (s : Invocation). IfOk r (λ y. y ≡ record { out = Replies (record { responses = s ∷ []; made = p.made }); blobs = []; edits = p.edits })) same h)
 
-idle_keeps : (c : Content) (p : Plan) → IsTidy c → p.blobs ≡ [] → p.edits ≡ [] → Keeps c p
-idle_keeps c p tidy blobs edits = record {
-  blobs = blobs;
-  fits = subst (AllFit c) (sym edits) tt;
-  new = subst (AllByRecursion IsNew) (sym edits) tt;
-  tidy = subst (λ es. IsTidy (after_edits c es)) (sym edits) tidy;
-}
-
-get_keeps : (c : Content) (call : Invocation) (g : Got) → IsTidy c → Keeps c (get_plan call g)
-get_keeps c call (invalid name) tidy = idle_keeps c _ tidy refl refl
-get_keeps c call too_large tidy = idle_keeps c _ tidy refl refl
-get_keeps c call (got t) tidy = idle_keeps c _ tidy refl refl
-
-set_keeps : (h : History) (call : Invocation) (made : List Created) (o : Outcome) → IsTidy (content_of h) → set_outcome (ground_of h) call.args made ≡ o → Keeps (content_of h) (set_plan call o)
-set_keeps h call made (sets.invalid name) tidy is = idle_keeps (content_of h) _ tidy refl refl
-set_keeps h call made sets.too_large tidy is = idle_keeps (content_of h) _ tidy refl refl
-set_keeps h call made sets.state_mismatch tidy is = idle_keeps (content_of h) _ tidy refl refl
-set_keeps h call made (sets.planned p) tidy is = ?
-
-by_set : (b : Bool) (h : History) (call : Invocation) (made : List Created) → IsTidy (content_of h)
-    → Keeps (content_of h) (if b then set_plan call (set_outcome (ground_of h) call.args made) else refused call (codes "unknownMethod"))
-by_set true h call made tidy = set_keeps h call made (set_outcome (ground_of h) call.args made) tidy refl
-by_set false h call made tidy = idle_keeps (content_of h) _ tidy refl refl
-
-by_get : (b : Bool) (h : History) (call : Invocation) (made : List Created) (read_only : Bool) (other : Plan) → IsTidy (content_of h) → Keeps (content_of h) other
-    → Keeps (content_of h) (if b then get_plan call (get_in h call.args read_only) else other)
-by_get true h call made read_only other tidy keep = get_keeps (content_of h) call (get_in h call.args read_only) tidy
-by_get false h call made read_only other tidy keep = keep
-
-method_keeps : (h : History) (call : Invocation) (made : List Created) (read_only : Bool) → IsTidy (content_of h) → Keeps (content_of h) (method_plan h call made read_only)
-method_keeps h call made read_only tidy =
-    by_get (bytes_eq call.name (codes "Mailbox/get")) h call made read_only _ tidy (by_set (bytes_eq call.name (codes "Mailbox/set")) h call made tidy)
-
-ask_keeps : (h : History) (ask : Ask) (made : List Created) (read_only : Bool) → IsTidy (content_of h) → Keeps (content_of h) (ask_plan h ask made read_only)
-ask_keeps h (Method c) made read_only tidy = method_keeps h (call_of c) made read_only tidy
-ask_keeps h (Upload bytes) made read_only tidy = idle_keeps (content_of h) _ tidy refl refl
-ask_keeps h (Blob name) made read_only tidy = idle_keeps (content_of h) _ tidy refl refl
-ask_keeps h (Fetch c) made read_only tidy = idle_keeps (content_of h) _ tidy refl refl
-ask_keeps h (Place c carried) made read_only tidy = idle_keeps (content_of h) _ tidy refl refl
-ask_keeps h States made read_only tidy = idle_keeps (content_of h) _ tidy refl refl
-
-pub call_keeps : (h : History) (call : Call) → IsTidy (content_of h) → Keeps (content_of h) (call_plan h call)
-call_keeps h call tidy = ask_keeps h call.ask call.made call.read_only tidy
+-- a set that is refused is answered by its error
+pub refused_set : (r : Result Plan NoMemory) (c : Invocation) (o q : Outcome) (kind : List ℕ) → o ≡ q → set_plan c q ≡ refused c kind → IfOk r (λ x. x ≡ refused c kind) → IfOk r (λ x. x ≡ set_plan c o)
+refused_set r c o q kind is plan h = subst (λ (p : Plan). IfOk r (λ y. y ≡ p)) (sym (ap (set_plan c) is ∙ plan)) h

@@ -1,2 +1,4 @@
 pub mod Whole
 pub mod Plans
+pub mod Kept
+pub mod Promises

@@ -47,15 +47,15 @@ set_plan c sets.state_mismatch = refused c (codes "stateMismatch")
 set_plan c (sets.planned p) = record { out = Replies (record { responses = response_to c p.reply ∷ []; made = p.made }); blobs = []; edits = p.edits }
 
 -- what a set of mailboxes is planned on
-abbrev pub ground_of : History → Ground
-ground_of h = record { content = content_of h; state = state_of h OfMailbox; last = end_of h }
+abbrev pub ground_in : History → Ground
+ground_in h = record { content = content_of h; state = state_of h OfMailbox; last = end_of h }
 
 -- the plan of a method, over an account with this history, with what the request has made so far, of a user to whom the
 -- account is read-only or not
 abbrev pub method_plan : History → Invocation → List Created → Bool → Plan
 method_plan h c made read_only =
     if bytes_eq c.name (codes "Mailbox/get") then get_plan c (get_in h c.args read_only)
-    else (if bytes_eq c.name (codes "Mailbox/set") then set_plan c (set_outcome (ground_of h) c.args made)
+    else (if bytes_eq c.name (codes "Mailbox/set") then set_plan c (set_outcome (ground_in h) c.args made)
     else refused c (codes "unknownMethod"))
 
 -- of what is asked, methods alone are built

@@ -4,7 +4,7 @@ ghost use Rattle.jm_json.specs.Invoked.{call_of};
 ghost use Rattle.jm_json.specs.Json.{tree_of};
 ghost use Rattle.get_calls.specs.Get.{get_in};
 ghost use Rattle.mailbox_set.specs.Plans.{set_outcome};
-ghost use Rattle.mail_calls.specs.Plans.{answered, get_plan, ground_of, method_plan, refused, response_to, set_plan, silent};
+ghost use Rattle.mail_calls.specs.Plans.{answered, get_plan, ground_in, method_plan, refused, response_to, set_plan, silent};
 ghost use Rattle.account_book.specs.Accounts.{IsBounded};
 
 use account_book::{Account, Out, Plan};
@@ -100,7 +100,7 @@ fn plan_set(
     made: &Made,
 ) -> Result<Plan, NoMemory>
     requires { IsBounded account.now.history }
-    ensures { IfOk result (λ p. p ≡ set_plan (call_of call.now) (set_outcome (ground_of account.now.history) (tree_of call.now.args) made.now)) }
+    ensures { IfOk result (λ p. p ≡ set_plan (call_of call.now) (set_outcome (ground_in account.now.history) (tree_of call.now.args) made.now)) }
 {
     match plan_mailbox_set(alloc, account.content(), account.log(), &call.args, made) {
         Ok(plan) => {

@@ -26,7 +26,7 @@ use Rattle.account_book.specs.declared.asks.Call.{Call}
 use Rattle.account_book.specs.declared.plans.Plan.{Plan}
 use Rattle.mail_calls.specs.Plans.{call_plan, ask_plan}
 use Rattle.mail_calls.specs.Whole.{IsWhole, HasMessage, AreBlobsFew}
-use Rattle.mail_calls.proofs.Sets.{IsNew, Keeps, call_keeps}
+use Rattle.mail_calls.specs.Kept.{IsNew, Keeps, call_keeps}
 
 -- whole, whatever the summary of a message is
 abbrev pub IsWholeAlways : History → Type 0

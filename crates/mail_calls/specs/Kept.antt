@@ -1,0 +1,89 @@
+-- What each plan keeps: the edits that it makes put new mailboxes, and leave a tidy content.
+use Rattle.std.proofs.Common.{◌≡◌, ℕ, Bool, true, false, List, [], ◌∷◌, codes, bytes_eq, if◌then◌else◌, refl, sym, ap₂, subst}
+use Rattle.std.specs.List.{AllByRecursion}
+use Rattle.jm_json.specs.Call.{Call as Invocation}
+use Rattle.jm_json.specs.Invoked.{call_of}
+use Rattle.jm_json.specs.declared.invocation.Created.{Created}
+use Rattle.mail_records.specs.Contents.{Content}
+use Rattle.mail_records.specs.Edits.{AllFit, after_edits}
+use Rattle.mail_records.specs.Histories.{History, content_of}
+use Rattle.mail_records.proofs.Growth.{all_map}
+use Rattle.mail_records.specs.declared.edits.Edit.{Edit}
+use Rattle.mail_records.specs.declared.edits.Edit.TheVariants.{PutMailbox, DropMailbox, PutEmail, DropEmail, PutThread, DropThread}
+use Rattle.mail_records.specs.declared.records.Mailbox.{Mailbox}
+use Rattle.mail_counts.specs.Tidy.{IsTidy}
+use Rattle.get_calls.specs.Get.{Got, invalid, too_large, got, get_in}
+use Rattle.mailbox_set.specs.Plans.{Ground, Outcome, set_outcome}
+use Rattle.mailbox_set.specs.Plans as sets
+use Rattle.mailbox_set.specs.Promises.{PutsNew}
+use Rattle.mailbox_set.proofs.Promising.{promised}
+use Rattle.account_book.specs.declared.asks.Ask.{Ask}
+use Rattle.account_book.specs.declared.asks.Ask.TheVariants.{Method, Upload, Blob, Fetch, Place, States}
+use Rattle.account_book.specs.declared.asks.Call.{Call}
+use Rattle.account_book.specs.declared.plans.Plan.{Plan}
+use Rattle.mail_calls.specs.Plans.{silent, answered, refused, get_plan, set_plan, ground_in, method_plan, ask_plan, call_plan}
+
+-- the edit puts a new mailbox
+abbrev pub IsNew : Edit → Type 0
+IsNew e = (m : Mailbox) × (e ≡ PutMailbox m false false)
+
+new_of : (e : Edit) → PutsNew e → IsNew e
+new_of (PutMailbox item was counts) puts = (item, ap₂ (λ a b. PutMailbox item a b) puts.0 puts.1)
+new_of (DropMailbox number) puts = absurd puts
+new_of (PutEmail item was) puts = absurd puts
+new_of (DropEmail number thread) puts = absurd puts
+new_of (PutThread item was) puts = absurd puts
+new_of (DropThread number) puts = absurd puts
+
+-- the plan brings no blobs, and its edits fit, put new mailboxes, and leave a tidy content
+pub record Keeps (c : Content) (p : Plan) : Type 0 where
+  pub blobs : p.blobs ≡ []
+  pub fits : AllFit c p.edits
+  pub new : AllByRecursion IsNew p.edits
+  pub tidy : IsTidy (after_edits c p.edits)
+
+idle_keeps : (c : Content) (p : Plan) → IsTidy c → p.blobs ≡ [] → p.edits ≡ [] → Keeps c p
+idle_keeps c p tidy blobs edits = record {
+  blobs = blobs;
+  fits = subst (AllFit c) (sym edits) tt;
+  new = subst (AllByRecursion IsNew) (sym edits) tt;
+  tidy = subst (λ es. IsTidy (after_edits c es)) (sym edits) tidy;
+}
+
+get_keeps : (c : Content) (call : Invocation) (g : Got) → IsTidy c → Keeps c (get_plan call g)
+get_keeps c call (invalid name) tidy = idle_keeps c _ tidy refl refl
+get_keeps c call too_large tidy = idle_keeps c _ tidy refl refl
+get_keeps c call (got t) tidy = idle_keeps c _ tidy refl refl
+
+set_keeps : (h : History) (call : Invocation) (made : List Created) (o : Outcome) → IsTidy (content_of h) → set_outcome (ground_in h) call.args made ≡ o → Keeps (content_of h) (set_plan call o)
+set_keeps h call made (sets.invalid name) tidy is = idle_keeps (content_of h) _ tidy refl refl
+set_keeps h call made sets.too_large tidy is = idle_keeps (content_of h) _ tidy refl refl
+set_keeps h call made sets.state_mismatch tidy is = idle_keeps (content_of h) _ tidy refl refl
+set_keeps h call made (sets.planned p) tidy is =
+    let all = promised (ground_in h) call.args made p tidy.numbered is in
+    record { blobs = refl; fits = all.fits; new = all_map PutsNew IsNew p.edits new_of all.puts; tidy = all.tidy tidy }
+
+by_set : (b : Bool) (h : History) (call : Invocation) (made : List Created) → IsTidy (content_of h)
+    → Keeps (content_of h) (if b then set_plan call (set_outcome (ground_in h) call.args made) else refused call (codes "unknownMethod"))
+by_set true h call made tidy = set_keeps h call made (set_outcome (ground_in h) call.args made) tidy refl
+by_set false h call made tidy = idle_keeps (content_of h) _ tidy refl refl
+
+by_get : (b : Bool) (h : History) (call : Invocation) (made : List Created) (read_only : Bool) (other : Plan) → IsTidy (content_of h) → Keeps (content_of h) other
+    → Keeps (content_of h) (if b then get_plan call (get_in h call.args read_only) else other)
+by_get true h call made read_only other tidy keep = get_keeps (content_of h) call (get_in h call.args read_only) tidy
+by_get false h call made read_only other tidy keep = keep
+
+method_keeps : (h : History) (call : Invocation) (made : List Created) (read_only : Bool) → IsTidy (content_of h) → Keeps (content_of h) (method_plan h call made read_only)
+method_keeps h call made read_only tidy =
+    by_get (bytes_eq call.name (codes "Mailbox/get")) h call made read_only _ tidy (by_set (bytes_eq call.name (codes "Mailbox/set")) h call made tidy)
+
+ask_keeps : (h : History) (ask : Ask) (made : List Created) (read_only : Bool) → IsTidy (content_of h) → Keeps (content_of h) (ask_plan h ask made read_only)
+ask_keeps h (Method c) made read_only tidy = method_keeps h (call_of c) made read_only tidy
+ask_keeps h (Upload bytes) made read_only tidy = idle_keeps (content_of h) _ tidy refl refl
+ask_keeps h (Blob name) made read_only tidy = idle_keeps (content_of h) _ tidy refl refl
+ask_keeps h (Fetch c) made read_only tidy = idle_keeps (content_of h) _ tidy refl refl
+ask_keeps h (Place c carried) made read_only tidy = idle_keeps (content_of h) _ tidy refl refl
+ask_keeps h States made read_only tidy = idle_keeps (content_of h) _ tidy refl refl
+
+pub call_keeps : (h : History) (call : Call) → IsTidy (content_of h) → Keeps (content_of h) (call_plan h call)
+call_keeps h call tidy = ask_keeps h call.ask call.made call.read_only tidy
