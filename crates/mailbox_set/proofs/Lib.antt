@@ -1,9 +1,0 @@
-pub mod Texts
-pub mod Sames
-pub mod Knowing
-pub mod Naming
-pub mod Rising
-pub mod Following
-pub mod Rounding
-pub mod Promising
-pub mod Equal
