@@ -5,7 +5,7 @@ ghost use Rattle.mail_records.specs.Edits.{AllFit};
 ghost use Rattle.state_log.specs.Logs.{log_end};
 
 use crate::plan_mailbox_set;
-use jm_base::{Bytes, Kind, Text};
+use jm_base::{Bytes, Kind, NoMemory, Text, Texts};
 use jm_json::{Created, Made, read, write};
 use mail_counts::SetFault;
 use mail_records::{Content, Edits, apply_fitting};
@@ -44,12 +44,20 @@ fn enter(alloc: Global, content: Content, log: &mut Log, edits: Edits) -> Result
     }
 }
 
+fn texts(alloc: Global, sets: &[&str]) -> Result<Texts, NoMemory> {
+    let mut texts = Texts::new(alloc);
+    for set in sets {
+        texts.push(Text::from_str(alloc, set)?)?;
+    }
+    Ok(texts)
+}
+
 // The reply to the last of some sets, one after the other, of an account that began empty.
-fn last_reply(alloc: Global, made: &Made, sets: &[&str]) -> Result<Bytes, Fail> {
+fn last_reply(alloc: Global, made: &Made, sets: &Texts) -> Result<Bytes, Fail> {
     let mut content = Content::new(alloc);
     let mut log = Log::new(alloc, 0, 0, 0, 0);
     let mut text = Bytes::new(alloc);
-    for set in sets {
+    for set in sets.as_slice() {
         let args = read(alloc, set.as_bytes())?;
         if !is_small(&content, &log) {
             return Err("numbers past all bounds")?;
@@ -61,14 +69,21 @@ fn last_reply(alloc: Global, made: &Made, sets: &[&str]) -> Result<Bytes, Fail> 
     Ok(text)
 }
 
-// Whether the set after another is answered that these properties of the create `x` are bad.
-fn is_refused(alloc: Global, create: &str, names: &str) -> Result<bool, Fail> {
+// The reply to a set that creates `x` from this, in an account with one mailbox.
+fn second_reply(alloc: Global, create: &str) -> Result<Bytes, Fail> {
     let first = "{\"accountId\":\"A1\",\"create\":{\"a\":{\"name\":\"A\",\"role\":\"inbox\"}}}";
     let second = format!(in alloc; "{{\"accountId\":\"A1\",\"create\":{{\"x\":{create}}}}}")?;
+    let mut sets = texts(alloc, &[first])?;
+    sets.push(Text::from_string(second))?;
+    last_reply(alloc, &Made::new(alloc), &sets)
+}
+
+// Whether it is answered that these properties of the create `x` are bad.
+fn is_refused(alloc: Global, create: &str, names: &str) -> Result<bool, Fail> {
     let wanted = format!(in alloc;
         "{{\"accountId\":\"A1\",\"created\":null,\"destroyed\":null,\"newState\":\"1\",\"notCreated\":{{\"x\":{{\"properties\":{names},\"type\":\"invalidProperties\"}}}},\"notDestroyed\":null,\"notUpdated\":null,\"oldState\":\"1\",\"updated\":null}}"
     )?;
-    let reply = last_reply(alloc, &Made::new(alloc), &[first, second.as_str()])?;
+    let reply = second_reply(alloc, create)?;
     Ok(reply.as_slice() == wanted.as_bytes())
 }
 
@@ -83,8 +98,12 @@ fn a_mailbox_is_created_once(rt: HostRuntime) -> Result<(), Fail> {
     let alloc = rt.alloc();
     let none = Made::new(alloc);
     let set = "{\"accountId\":\"A1\",\"create\":{\"a\":{\"name\":\"A\"}}}";
-    assert!(rt; last_reply(alloc, &none, &[set])?.as_slice() == CREATED_M1.as_bytes());
-    assert!(rt; last_reply(alloc, &none, &[set, set])?.as_slice() == REFUSED_NAME.as_bytes());
+    assert!(rt;
+        last_reply(alloc, &none, &texts(alloc, &[set])?)?.as_slice() == CREATED_M1.as_bytes()
+    );
+    assert!(rt;
+        last_reply(alloc, &none, &texts(alloc, &[set, set])?)?.as_slice() == REFUSED_NAME.as_bytes()
+    );
     Ok(())
 }
 
@@ -99,7 +118,11 @@ fn a_parent_is_created_before_its_child(rt: HostRuntime) -> Result<(), Fail> {
     let wanted = format!(in rt.alloc();
         "{{\"accountId\":\"A1\",\"created\":{{\"a\":{{\"id\":\"M2\",\"myRights\":{rights},{counts}}},\"b\":{{\"id\":\"M1\",\"myRights\":{rights},{counts}}}}},\"destroyed\":null,\"newState\":\"2\",\"notCreated\":{{\"c\":{{\"properties\":[\"parentId\"],\"type\":\"invalidProperties\"}}}},\"notDestroyed\":null,\"notUpdated\":null,\"oldState\":\"0\",\"updated\":null}}"
     )?;
-    let reply = last_reply(rt.alloc(), &Made::new(rt.alloc()), &[CHILD_FIRST])?;
+    let reply = last_reply(
+        rt.alloc(),
+        &Made::new(rt.alloc()),
+        &texts(rt.alloc(), &[CHILD_FIRST])?,
+    )?;
     assert!(rt; reply.as_slice() == wanted.as_bytes());
     Ok(())
 }
@@ -163,11 +186,9 @@ fn bad_values_of_other_properties_are_named(rt: HostRuntime) -> Result<(), Fail>
     Ok(())
 }
 
-// Whether a set of an account with one mailbox creates the mailbox 2 from this.
+// Whether it makes the mailbox 2 of the create `x`.
 fn is_created(alloc: Global, create: &str) -> Result<bool, Fail> {
-    let first = "{\"accountId\":\"A1\",\"create\":{\"a\":{\"name\":\"A\",\"role\":\"inbox\"}}}";
-    let second = format!(in alloc; "{{\"accountId\":\"A1\",\"create\":{{\"x\":{create}}}}}")?;
-    let reply = last_reply(alloc, &Made::new(alloc), &[first, second.as_str()])?;
+    let reply = second_reply(alloc, create)?;
     Ok(reply.as_slice().starts_with(b"{\"accountId\":\"A1\",\"created\":{\"x\":{\"id\":\"M2\","))
 }
 
@@ -300,7 +321,7 @@ fn a_creation_id_that_was_given_stands_at_once(rt: HostRuntime) -> Result<(), Fa
         id: Text::from_str(alloc, "M1")?,
     })?;
     let first = "{\"accountId\":\"A1\",\"create\":{\"p\":{\"name\":\"P\"}}}";
-    let reply = last_reply(alloc, &made, &[first, CHILD_FIRST])?;
+    let reply = last_reply(alloc, &made, &texts(alloc, &[first, CHILD_FIRST])?)?;
     assert!(rt;
         reply.as_slice().starts_with(b"{\"accountId\":\"A1\",\"created\":{\"a\":{\"id\":\"M2\",")
     );
