@@ -1,0 +1,9 @@
+pub mod Texts
+pub mod Sames
+pub mod Knowing
+pub mod Naming
+pub mod Rising
+pub mod Following
+pub mod Rounding
+pub mod Promising
+pub mod Equal

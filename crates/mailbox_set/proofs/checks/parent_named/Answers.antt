@@ -1,0 +1,34 @@
+use Rattle.std.proofs.Common.{◌≡◌, ◌≤◌, ◌^◌, ℕ, Option, Some, None, cond, is_some, option_map, sym, ap, ◌∙◌, subst, arith}
+use Rattle.mail_records.specs.Contents.{mailbox_at}
+use Rattle.mailbox_set.specs.Asked.{identifier}
+use Rattle.mailbox_set.specs.Creates.{Course}
+use Rattle.mailbox_set.specs.Known.{MeansIfAny}
+use Rattle.mailbox_set.specs.Follows.{Follows}
+use Rattle.mailbox_set.proofs.Naming.{named_some, named_nothing}
+use Rattle.mailbox_set.proofs.checks.parent_named.Goals as goal
+
+pub returns-then-is_there : goal.returns-then-is_there
+returns-then-is_there c =
+    λ (s : Course) (f : Follows c.args.planner.now s).
+    let next = f.next in
+    let small : s.content.next_mailbox ≤ 2 ^ 53 = omega arith in
+    let means : MeansIfAny (identifier s.made c.args.text.now) (Some c.in-Some.number) = subst (MeansIfAny (identifier s.made c.args.text.now)) c.in-Some.is (c.number_meant.ensures s f) in
+    sym (ap (option_map Some) (named_some s.content (identifier s.made c.args.text.now) c.in-Some.number f.numbered small means
+    ∙ ap (λ b. cond b (Some c.in-Some.number) None) (sym (c.is_there.ensures s f) ∙ c.if-is_there.true)))
+
+pub returns-else-is_there : goal.returns-else-is_there
+returns-else-is_there c =
+    λ (s : Course) (f : Follows c.args.planner.now s).
+    let next = f.next in
+    let small : s.content.next_mailbox ≤ 2 ^ 53 = omega arith in
+    let means : MeansIfAny (identifier s.made c.args.text.now) (Some c.in-Some.number) = subst (MeansIfAny (identifier s.made c.args.text.now)) c.in-Some.is (c.number_meant.ensures s f) in
+    sym (ap (option_map Some) (named_some s.content (identifier s.made c.args.text.now) c.in-Some.number f.numbered small means
+    ∙ ap (λ b. cond b (Some c.in-Some.number) None) (sym (c.is_there.ensures s f) ∙ c.if-is_there.false)))
+
+pub returns-in-None : goal.returns-in-None
+returns-in-None c =
+    λ (s : Course) (f : Follows c.args.planner.now s).
+    let next = f.next in
+    let small : s.content.next_mailbox ≤ 2 ^ 53 = omega arith in
+    let means : MeansIfAny (identifier s.made c.args.text.now) None = subst (MeansIfAny (identifier s.made c.args.text.now)) c.in-None.is (c.number_meant.ensures s f) in
+    sym (ap (option_map Some) (named_nothing s.content (identifier s.made c.args.text.now) f.numbered small means))

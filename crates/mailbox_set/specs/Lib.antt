@@ -1,0 +1,14 @@
+pub mod Same
+pub mod Asked
+pub mod Creates
+pub mod Drafts
+pub mod Holds
+pub mod Known
+pub mod Knows
+pub mod Wants
+pub mod Rounds
+pub mod Arguments
+pub mod Firsts
+pub mod Promises
+pub mod Plans
+pub mod Follows

@@ -1,0 +1,214 @@
+// Which properties of a create are bad, beside the creates before it.
+ghost use Rattle.std.specs.Prelude.{◌≡◌, ◌<◌, ◌^◌, false, map, filter, is_some, option_map, unwrap_or, codes, IfOk};
+ghost use Rattle.jm_json.specs.Json.{tree_of, member_of};
+ghost use Rattle.jm_json.specs.Order.{KeysRise};
+ghost use Rattle.jm_json.specs.Tree.{text as text_tree};
+ghost use Rattle.mail_records.specs.Contents.{mailbox_at};
+ghost use Rattle.mail_counts.specs.Views.{mailbox_members};
+ghost use Rattle.mailbox_set.specs.Asked.{asked, asked_parent, identifier, parent_in};
+ghost use Rattle.mailbox_set.specs.Creates.{Course, bad_members, blank, differs, faults_of, is_bad, is_name_taken, is_role_taken, property};
+ghost use Rattle.mailbox_set.specs.Follows.{Follows};
+ghost use Rattle.mailbox_set.specs.Known.{MeansIfAny};
+ghost use Rattle.mailbox_set.specs.Wants.{asked_of};
+
+use crate::asked::{asked_name, asked_role, asked_sort_order, asked_subscribed};
+use crate::faults::Faults;
+use crate::known::{known_at, mailbox_number, reference};
+use crate::planner::Planner;
+use crate::same::is_same;
+use crate::taken::has;
+use crate::wanted::Asked;
+use jm_base::{Kind, NoMemory, Text};
+use jm_json::{Json, Member, Members};
+use mail_counts::mailbox_view;
+use mail_records::Mailbox;
+use std::alloc::Global;
+
+// The number of the mailbox that a text names: by its identifier, or by a reference to one that was made.
+fn number_meant<'a>(planner: &Planner<'a>, text: &'a Text) -> Option<u64>
+    ensures { (s : Course) → Follows planner.now s → MeansIfAny (identifier s.made text.now) result }
+{
+    match reference(text.as_bytes()) {
+        Some(creation) => match known_at(&planner.known, creation) {
+            Some(number) => number,
+            None => None,
+        },
+        None => mailbox_number(text.as_bytes()),
+    }
+}
+
+// Whether the mailbox of a number is there by now.
+fn is_there(planner: &Planner, number: u64) -> bool
+    ensures { (s : Course) → Follows planner.now s → result ≡ is_some (mailbox_at s.content number) }
+{
+    planner.content.mailbox(number).is_some()
+        || (planner.content.next(Kind::Mailbox) <= number && number < planner.next)
+}
+
+fn parent_named<'a>(planner: &Planner<'a>, text: &'a Text) -> Option<Option<u64>>
+    requires { planner.now.next < 2 ^ 53 }
+    ensures { (s : Course) → Follows planner.now s → result ≡ parent_in s.content s.made (Some (text_tree text.now)) }
+{
+    match number_meant(planner, text) {
+        Some(number) => if is_there(planner, number) {
+            Some(Some(number))
+        } else {
+            None
+        },
+        None => None,
+    }
+}
+
+fn parent_of<'a>(planner: &Planner<'a>, tree: &'a Json) -> Option<Option<u64>>
+    requires { planner.now.next < 2 ^ 53 }
+    ensures { (s : Course) → Follows planner.now s → result ≡ parent_in s.content s.made (Some (tree_of tree.now)) }
+{
+    match tree {
+        Json::Null => Some(None),
+        Json::Text(text) => parent_named(planner, text),
+        Json::Bool(_) | Json::Int(_) | Json::List(_) | Json::Object(_) => None,
+    }
+}
+
+fn asked_parent<'a>(planner: &Planner<'a>, members: &'a Members) -> Option<Option<u64>>
+    requires { planner.now.next < 2 ^ 53 }
+    ensures { (s : Course) → Follows planner.now s → result ≡ asked_parent s.content s.made members.now }
+{
+    match members.get("parentId") {
+        Some(tree) => parent_of(planner, tree),
+        None => Some(None),
+    }
+}
+
+/// What a create asks for.
+pub fn asked<'a>(planner: &Planner<'a>, members: &'a Members) -> Asked<'a>
+    requires { planner.now.next < 2 ^ 53 }
+    ensures { (s : Course) → Follows planner.now s → asked_of result ≡ asked s.content s.made members.now }
+{
+    Asked {
+        name: asked_name(members),
+        parent: asked_parent(planner, members),
+        role: asked_role(members),
+        sort_order: asked_sort_order(members),
+        subscribed: asked_subscribed(members),
+    }
+}
+
+fn is_name_taken<'a>(planner: &Planner<'a>, asked: &Asked<'a>) -> bool
+    ensures { (s : Course) → Follows planner.now s → result ≡ is_name_taken s.content (asked_of asked.now).parent (asked_of asked.now).name }
+{
+    match asked.parent {
+        Some(parent) => match asked.name {
+            Some(name) => has(&planner.names, parent, name.as_str()),
+            None => false,
+        },
+        None => false,
+    }
+}
+
+fn is_role_used<'a>(planner: &Planner<'a>, role: Option<&'a Text>) -> bool
+    ensures { (s : Course) → Follows planner.now s → result ≡ is_role_taken s.content (option_map (λ t. t.now) role.entry) }
+{
+    match role {
+        Some(role) => has(&planner.roles, None, role.as_str()),
+        None => false,
+    }
+}
+
+fn is_role_taken<'a>(planner: &Planner<'a>, asked: &Asked<'a>) -> bool
+    ensures { (s : Course) → Follows planner.now s → result ≡ is_role_taken s.content (unwrap_or (asked_of asked.now).role None) }
+{
+    match asked.role {
+        Some(role) => is_role_used(planner, role),
+        None => false,
+    }
+}
+
+/// Which of the properties that a client may set are bad.
+pub fn faults_of<'a>(planner: &Planner<'a>, asked: &Asked<'a>) -> Faults
+    ensures { (s : Course) → Follows planner.now s → result ≡ faults_of s.content (asked_of asked.now) }
+{
+    Faults {
+        name: asked.name.is_none() || is_name_taken(planner, asked),
+        parent: asked.parent.is_none(),
+        role: asked.role.is_none() || is_role_taken(planner, asked),
+        sort_order: asked.sort_order.is_none(),
+        subscribed: asked.subscribed.is_none(),
+    }
+}
+
+fn differs(given: Option<&Json>, value: &Json) -> bool
+    ensures { result ≡ differs (option_map (λ j. tree_of j.now) given.entry) (tree_of value.now) }
+{
+    match given {
+        Some(given) => !is_same(given, value),
+        None => true,
+    }
+}
+
+fn is_bad(faults: &Faults, given: &Members, member: &Member) -> bool
+    ensures { result ≡ is_bad faults.now given.now (member_of member.now) }
+{
+    match member.name.as_str() {
+        "isSubscribed" => faults.subscribed,
+        "name" => faults.name,
+        "parentId" => faults.parent,
+        "role" => faults.role,
+        "sortOrder" => faults.sort_order,
+        name => differs(given.get(name), &member.value),
+    }
+}
+
+fn bad_among(
+    alloc: Global,
+    faults: &Faults,
+    given: &Members,
+    sent: &[Member],
+) -> Result<Members, NoMemory>
+    requires { KeysRise (map member_of sent.now) }
+    ensures { IfOk result (λ ms. ms ≡ map property (filter (is_bad faults.now given.now) (map member_of sent.now))) }
+{
+    let mut bad = Members::new(alloc);
+    for member in sent {
+        if is_bad(faults, given, member) {
+            bad.push(member.name.copy()?, Json::Null)?;
+        }
+    }
+    Ok(bad)
+}
+
+/// The bad properties of a create, in byte order, each with null in the place of its value.
+pub fn bad_members(
+    alloc: Global,
+    faults: &Faults,
+    given: &Members,
+    sent: &Members,
+) -> Result<Members, NoMemory>
+    ensures { IfOk result (λ ms. ms ≡ bad_members faults.now given.now sent.now) }
+{
+    let mut bad = bad_among(alloc, faults, given, sent.as_slice())?;
+    if sent.get("name").is_none() {
+        bad.set(alloc, "name", Json::Null)?;
+    }
+    Ok(bad)
+}
+
+/// What a new mailbox of this number has where a client asks for nothing.
+pub fn given_members(alloc: Global, number: u64) -> Result<Members, NoMemory>
+    ensures { IfOk result (λ ms. ms ≡ mailbox_members false (blank number)) }
+{
+    let name = Text::from_str(alloc, "")?;
+    let mailbox = Mailbox {
+        number,
+        name,
+        parent: None,
+        role: None,
+        sort_order: 0,
+        subscribed: true,
+        total_emails: 0,
+        unread_emails: 0,
+        total_threads: 0,
+        unread_threads: 0,
+    };
+    mailbox_view(alloc, &mailbox, false)
+}

@@ -1,0 +1,175 @@
+// The plan of a set of mailboxes (RFC 8620, section 5.3; RFC 8621, section 2.5).
+ghost use Rattle.std.specs.Prelude.{◌≡◌, ◌+◌, ◌<◌, ◌≤◌, ◌^◌, codes, map, length, IfOk, IfErr, MatchResult};
+ghost use Rattle.std.specs.List.{AllByRecursion};
+ghost use Rattle.jm_json.specs.Json.{tree_of};
+ghost use Rattle.mail_records.specs.Contents.{AreNumbered};
+ghost use Rattle.mail_records.specs.Edits.{AllFit, after_edits};
+ghost use Rattle.mail_counts.specs.Tidy.{IsTidy};
+ghost use Rattle.state_log.specs.Logs.{log_end};
+ghost use Rattle.mailbox_set.specs.Arguments.{account_in, bad_argument, creates_in, text_at};
+ghost use Rattle.mailbox_set.specs.Creates.{Course};
+ghost use Rattle.mailbox_set.specs.Drafts.{create_of};
+ghost use Rattle.mailbox_set.specs.Follows.{Follows};
+ghost use Rattle.mailbox_set.specs.Plans.{ExplainsSet, Ground, beginning, ground_of, is_other_state, outcome_of_arguments, outcome_of_creates, plan_after, plan_of, planned, set_outcome};
+ghost use Rattle.mailbox_set.specs.Promises.{PutsNew};
+ghost use Rattle.mailbox_set.specs.Rounds.{after_creates};
+
+use crate::arguments::{account, bad_argument, creates, text_at};
+use crate::beginning::begin;
+use crate::draft::Draft;
+use crate::planner::Planner;
+use crate::reply::{is_other_state, reply, state_after};
+use crate::rounds::do_creates;
+use jm_base::{Kind, NoMemory, Text};
+use jm_json::{Json, Made, Members};
+use mail_counts::{SetFault, SetPlan};
+use mail_records::{Content, Edits};
+use state_log::Log;
+use std::alloc::Global;
+
+// The objects that a set may name (the bound is our own).
+const MOST_OBJECTS: usize = 500;
+
+// The plan that a planner has come to, where the mailboxes had this state and the history ended there.
+fn planned<'a>(
+    alloc: Global,
+    account: &str,
+    state: u64,
+    last: u64,
+    planner: Planner<'a>,
+) -> Result<SetPlan, NoMemory>
+    requires { last ≤ 2 ^ 52 + 2 ^ 26 }
+    ensures { IfOk result (λ p. (g : Ground) (s : Course) → g.state ≡ state → g.last ≡ last → Follows planner.entry s → plan_of p ≡ plan_after g account.now s) }
+{
+    let Planner {
+        content: _,
+        next: _,
+        names: _names,
+        roles: _roles,
+        known: _known,
+        fresh,
+        edits,
+        created,
+        refused,
+    } = planner;
+    let after = state_after(state, last, edits.as_slice());
+    let reply = reply(alloc, account, state, after, created, refused)?;
+    Ok(SetPlan {
+        reply,
+        edits: Edits::from_vec(edits),
+        made: Made::from_vec(fresh),
+    })
+}
+
+// The planner after all creates.
+fn after_all<'a>(
+    alloc: Global,
+    content: &'a Content,
+    made: &'a Made,
+    drafts: Vec<Draft<'a>>,
+) -> Result<Planner<'a>, NoMemory>
+    requires numbered { AreNumbered content.now.content }
+    requires room { content.now.content.next_mailbox + length drafts.items < 2 ^ 53 }
+    ensures { IfOk result (λ p. Follows p (after_creates (beginning content.now.content made.now) (map create_of drafts.entry.items))) }
+{
+    let mut planner = begin(alloc, content, made.as_slice())?;
+    do_creates(alloc, &mut planner, drafts)?;
+    Ok(planner)
+}
+
+// The plan of creates: at most 500, where the client asks for no other state.
+fn plan_creates<'a>(
+    alloc: Global,
+    content: &'a Content,
+    log: &Log,
+    members: &'a Members,
+    made: &'a Made,
+) -> Result<SetPlan, SetFault>
+    requires numbered { AreNumbered content.now.content }
+    requires next { content.now.content.next_mailbox ≤ 2 ^ 52 + 2 ^ 26 }
+    requires last { log_end log.now ≤ 2 ^ 52 + 2 ^ 26 }
+    ensures { MatchResult result
+        (λ p. outcome_of_creates (ground_of content.now.content log.now) made.now (account_in members.now) (text_at (codes "ifInState") members.now) (creates_in members.now) ≡ planned (plan_of p))
+        (λ e. ExplainsSet e (outcome_of_creates (ground_of content.now.content log.now) made.now (account_in members.now) (text_at (codes "ifInState") members.now) (creates_in members.now))) }
+{
+    let drafts = creates(alloc, members)?;
+    if drafts.len() > MOST_OBJECTS {
+        return Err(SetFault::TooLarge);
+    }
+    let state = log.state_of(Kind::Mailbox);
+    if is_other_state(alloc, state, text_at(members, "ifInState"))? {
+        return Err(SetFault::StateMismatch);
+    }
+    let planner = after_all(alloc, content, made, drafts)?;
+    Ok(planned(alloc, account(members), state, log.end(), planner)?)
+}
+
+fn plan_members<'a>(
+    alloc: Global,
+    content: &'a Content,
+    log: &Log,
+    members: &'a Members,
+    made: &'a Made,
+) -> Result<SetPlan, SetFault>
+    requires numbered { AreNumbered content.now.content }
+    requires next { content.now.content.next_mailbox ≤ 2 ^ 52 + 2 ^ 26 }
+    requires last { log_end log.now ≤ 2 ^ 52 + 2 ^ 26 }
+    ensures { MatchResult result
+        (λ p. outcome_of_arguments (ground_of content.now.content log.now) made.now members.now (bad_argument members.now) ≡ planned (plan_of p))
+        (λ e. ExplainsSet e (outcome_of_arguments (ground_of content.now.content log.now) made.now members.now (bad_argument members.now))) }
+{
+    match bad_argument(members) {
+        Some(name) => Err(SetFault::Invalid(Text::from_str(alloc, name)?)),
+        None => plan_creates(alloc, content, log, members, made),
+    }
+}
+
+fn plan<'a>(
+    alloc: Global,
+    content: &'a Content,
+    log: &Log,
+    args: &'a Json,
+    made: &'a Made,
+) -> Result<SetPlan, SetFault>
+    requires numbered { AreNumbered content.now.content }
+    requires next { content.now.content.next_mailbox ≤ 2 ^ 52 + 2 ^ 26 }
+    requires last { log_end log.now ≤ 2 ^ 52 + 2 ^ 26 }
+    ensures { MatchResult result
+        (λ p. set_outcome (ground_of content.now.content log.now) (tree_of args.now) made.now ≡ planned (plan_of p))
+        (λ e. ExplainsSet e (set_outcome (ground_of content.now.content log.now) (tree_of args.now) made.now)) }
+{
+    match args.as_object() {
+        Some(members) => plan_members(alloc, content, log, members, made),
+        None => Err(SetFault::Invalid(Text::from_str(alloc, "")?)),
+    }
+}
+
+/// What a Mailbox/set with these arguments is answered and does, for a user who may write the account. `content` and `log`
+/// are of one history, and `made` is what the request has made so far.
+///
+/// The arguments are `accountId`, `ifInState` and `create`; `update` and `destroy` must be missing, null or empty as long as
+/// they aren't built. A refusal changes nothing: `Invalid` names the first argument in byte order that is missing or has
+/// a wrong form, and no argument where `args` is no object; `TooLarge` comes with more than 500 creates; `StateMismatch`
+/// with an `ifInState` that isn't the text of the mailboxes' state. Of several the first in this order is told.
+///
+/// Creates are done in rounds, each the first in byte order whose `parentId` refers to nothing or to what has been made. One
+/// with bad properties is told in `notCreated`, and makes nothing. The edits fit the content, put new mailboxes with
+/// counts 0, and leave a tidy content tidy.
+pub fn plan_mailbox_set(
+    alloc: Global,
+    content: &Content,
+    log: &Log,
+    args: &Json,
+    made: &Made,
+) -> Result<SetPlan, SetFault>
+    requires numbered { AreNumbered content.now.content }
+    requires next { content.now.content.next_mailbox ≤ 2 ^ 52 + 2 ^ 26 }
+    requires last { log_end log.now ≤ 2 ^ 52 + 2 ^ 26 }
+    ensures outcome { IfOk result (λ p. set_outcome (ground_of content.now.content log.now) (tree_of args.now) made.now ≡ planned (plan_of p)) }
+    ensures fault { IfErr result (λ e. ExplainsSet e (set_outcome (ground_of content.now.content log.now) (tree_of args.now) made.now)) }
+    ensures fits { IfOk result (λ p. AllFit content.now.content p.edits) }
+    ensures tidy { IfOk result (λ p. IsTidy content.now.content → IsTidy (after_edits content.now.content p.edits)) }
+    ensures puts { IfOk result (λ p. AllByRecursion PutsNew p.edits) }
+{
+    plan(alloc, content, log, args, made)
+}

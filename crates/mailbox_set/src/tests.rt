@@ -1,0 +1,329 @@
+// Replies and refusals of sets, by RFC 8620, section 5.3, and RFC 8621, sections 2 and 2.5.
+ghost use Rattle.std.specs.Prelude.{◌≤◌, ◌^◌, IsTrue, IfOk};
+ghost use Rattle.mail_records.specs.Contents.{AreNumbered, NextAtMost};
+ghost use Rattle.mail_records.specs.Edits.{AllFit};
+ghost use Rattle.state_log.specs.Logs.{log_end};
+
+use crate::plan_mailbox_set;
+use jm_base::{Bytes, Kind, NoMemory, Text, Texts};
+use jm_json::{Created, Made, read, write};
+use mail_counts::SetFault;
+use mail_records::{Content, Edits, apply_fitting};
+use state_log::{Log, note_all_ready};
+use std::alloc::Global;
+use std::process::Abort;
+use std::test::Fail;
+
+const SMALL: u64 = 1 << 40;
+
+fn is_small(content: &Content, log: &Log) -> bool
+    ensures { IsTrue result → NextAtMost (2 ^ 40) content.now.content × (log_end log.now ≤ 2 ^ 40) }
+{
+    content.next(Kind::Mailbox) <= SMALL
+        && content.next(Kind::Email) <= SMALL
+        && content.next(Kind::Thread) <= SMALL
+        && log.end() <= SMALL
+}
+
+// The content after the edits of a set, which the log notes.
+fn enter(alloc: Global, content: Content, log: &mut Log, edits: Edits) -> Result<Content, Fail>
+    requires numbered { AreNumbered content.content }
+    requires fits { AllFit content.content edits }
+    requires next { NextAtMost (2 ^ 40) content.content }
+    requires last { log_end log.old ≤ 2 ^ 40 }
+    ensures { IfOk result (λ c. AreNumbered c.content) }
+{
+    if edits.len() > 500 {
+        return Err("more edits than creates")?;
+    }
+    log.reserve(edits.as_slice())?;
+    note_all_ready(log, edits.as_slice());
+    match apply_fitting(alloc, content, edits.as_slice())? {
+        Some(after) => Ok(after.content),
+        None => Err("an edit doesn't fit")?,
+    }
+}
+
+fn texts(alloc: Global, sets: &[&str]) -> Result<Texts, NoMemory> {
+    let mut texts = Texts::new(alloc);
+    for set in sets {
+        texts.push(Text::from_str(alloc, set)?)?;
+    }
+    Ok(texts)
+}
+
+// The reply to the last of some sets, one after the other, of an account that began empty.
+fn last_reply(alloc: Global, made: &Made, sets: &Texts) -> Result<Bytes, Fail> {
+    let mut content = Content::new(alloc);
+    let mut log = Log::new(alloc, 0, 0, 0, 0);
+    let mut text = Bytes::new(alloc);
+    for set in sets.as_slice() {
+        let args = read(alloc, set.as_bytes())?;
+        if !is_small(&content, &log) {
+            return Err("numbers past all bounds")?;
+        }
+        let plan = plan_mailbox_set(alloc, &content, &log, &args, made)?;
+        text = write(alloc, &plan.reply)?;
+        content = enter(alloc, content, &mut log, plan.edits)?;
+    }
+    Ok(text)
+}
+
+// The reply to a set that creates `x` from this, in an account with one mailbox.
+fn second_reply(alloc: Global, create: &str) -> Result<Bytes, Fail> {
+    let first = "{\"accountId\":\"A1\",\"create\":{\"a\":{\"name\":\"A\",\"role\":\"inbox\"}}}";
+    let second = format!(in alloc; "{{\"accountId\":\"A1\",\"create\":{{\"x\":{create}}}}}")?;
+    let mut sets = texts(alloc, &[first])?;
+    sets.push(Text::from_string(second))?;
+    last_reply(alloc, &Made::new(alloc), &sets)
+}
+
+// Whether it is answered that these properties of the create `x` are bad.
+fn is_refused(alloc: Global, create: &str, names: &str) -> Result<bool, Fail> {
+    let wanted = format!(in alloc;
+        "{{\"accountId\":\"A1\",\"created\":null,\"destroyed\":null,\"newState\":\"1\",\"notCreated\":{{\"x\":{{\"properties\":{names},\"type\":\"invalidProperties\"}}}},\"notDestroyed\":null,\"notUpdated\":null,\"oldState\":\"1\",\"updated\":null}}"
+    )?;
+    let reply = second_reply(alloc, create)?;
+    Ok(reply.as_slice() == wanted.as_bytes())
+}
+
+const CREATED_M1: &str =
+    "{\"accountId\":\"A1\",\"created\":{\"a\":{\"id\":\"M1\",\"isSubscribed\":true,\"myRights\":{\"mayAddItems\":true,\"mayCreateChild\":true,\"mayDelete\":true,\"mayReadItems\":true,\"mayRemoveItems\":true,\"mayRename\":true,\"maySetKeywords\":true,\"maySetSeen\":true,\"maySubmit\":false},\"parentId\":null,\"role\":null,\"sortOrder\":0,\"totalEmails\":0,\"totalThreads\":0,\"unreadEmails\":0,\"unreadThreads\":0}},\"destroyed\":null,\"newState\":\"1\",\"notCreated\":null,\"notDestroyed\":null,\"notUpdated\":null,\"oldState\":\"0\",\"updated\":null}";
+
+const REFUSED_NAME: &str =
+    "{\"accountId\":\"A1\",\"created\":null,\"destroyed\":null,\"newState\":\"1\",\"notCreated\":{\"a\":{\"properties\":[\"name\"],\"type\":\"invalidProperties\"}},\"notDestroyed\":null,\"notUpdated\":null,\"oldState\":\"1\",\"updated\":null}";
+
+#[test]
+fn a_mailbox_is_created_once(rt: HostRuntime) -> Result<(), Fail> {
+    let alloc = rt.alloc();
+    let none = Made::new(alloc);
+    let set = "{\"accountId\":\"A1\",\"create\":{\"a\":{\"name\":\"A\"}}}";
+    assert!(rt;
+        last_reply(alloc, &none, &texts(alloc, &[set])?)?.as_slice() == CREATED_M1.as_bytes()
+    );
+    assert!(rt;
+        last_reply(alloc, &none, &texts(alloc, &[set, set])?)?.as_slice() == REFUSED_NAME.as_bytes()
+    );
+    Ok(())
+}
+
+const CHILD_FIRST: &str =
+    "{\"accountId\":\"A1\",\"create\":{\"a\":{\"isSubscribed\":true,\"name\":\"A\",\"parentId\":\"#b\",\"role\":null,\"sortOrder\":1},\"b\":{\"isSubscribed\":false,\"name\":\"B\",\"parentId\":null,\"role\":\"sent\",\"sortOrder\":2},\"c\":{\"name\":\"C\",\"parentId\":\"#z\"}}}";
+
+#[test]
+fn a_parent_is_created_before_its_child(rt: HostRuntime) -> Result<(), Fail> {
+    let rights =
+        "{\"mayAddItems\":true,\"mayCreateChild\":true,\"mayDelete\":true,\"mayReadItems\":true,\"mayRemoveItems\":true,\"mayRename\":true,\"maySetKeywords\":true,\"maySetSeen\":true,\"maySubmit\":false}";
+    let counts = "\"totalEmails\":0,\"totalThreads\":0,\"unreadEmails\":0,\"unreadThreads\":0";
+    let wanted = format!(in rt.alloc();
+        "{{\"accountId\":\"A1\",\"created\":{{\"a\":{{\"id\":\"M2\",\"myRights\":{rights},{counts}}},\"b\":{{\"id\":\"M1\",\"myRights\":{rights},{counts}}}}},\"destroyed\":null,\"newState\":\"2\",\"notCreated\":{{\"c\":{{\"properties\":[\"parentId\"],\"type\":\"invalidProperties\"}}}},\"notDestroyed\":null,\"notUpdated\":null,\"oldState\":\"0\",\"updated\":null}}"
+    )?;
+    let reply = last_reply(
+        rt.alloc(),
+        &Made::new(rt.alloc()),
+        &texts(rt.alloc(), &[CHILD_FIRST])?,
+    )?;
+    assert!(rt; reply.as_slice() == wanted.as_bytes());
+    Ok(())
+}
+
+#[test]
+fn each_bad_property_is_named(rt: HostRuntime) -> Result<(), Fail> {
+    for (create, names) in [
+        ("{}", "[\"name\"]"),
+        ("{\"name\":\"\"}", "[\"name\"]"),
+        ("{\"name\":\"a\\u001f\"}", "[\"name\"]"),
+        ("{\"name\":\"a\\u007f\"}", "[\"name\"]"),
+        ("{\"name\":null}", "[\"name\"]"),
+        ("{\"name\":\"A\"}", "[\"name\"]"),
+        ("{\"name\":\"B\",\"parentId\":\"M2\"}", "[\"parentId\"]"),
+        ("{\"name\":\"B\",\"parentId\":\"M01\"}", "[\"parentId\"]"),
+        ("{\"name\":\"B\",\"parentId\":\"#x\"}", "[\"parentId\"]"),
+        ("{\"name\":\"A\",\"parentId\":1}", "[\"parentId\"]"),
+        (
+            "{\"name\":\"\",\"parentId\":\"E1\"}",
+            "[\"name\",\"parentId\"]",
+        ),
+        ("{\"name\":\"B\",\"role\":\"inbox\"}", "[\"role\"]"),
+        ("{\"name\":\"B\",\"role\":\"Sent\"}", "[\"role\"]"),
+    ] {
+        assert!(rt; is_refused(rt.alloc(), create, names)?, "{create}");
+    }
+    Ok(())
+}
+
+#[test]
+fn bad_values_of_other_properties_are_named(rt: HostRuntime) -> Result<(), Fail> {
+    for (create, names) in [
+        ("{\"name\":\"B\",\"sortOrder\":-1}", "[\"sortOrder\"]"),
+        (
+            "{\"name\":\"B\",\"sortOrder\":2147483648}",
+            "[\"sortOrder\"]",
+        ),
+        ("{\"name\":\"B\",\"sortOrder\":null}", "[\"sortOrder\"]"),
+        (
+            "{\"isSubscribed\":null,\"name\":\"B\"}",
+            "[\"isSubscribed\"]",
+        ),
+        ("{\"id\":\"M1\",\"name\":\"B\"}", "[\"id\"]"),
+        ("{\"name\":\"B\",\"totalEmails\":1}", "[\"totalEmails\"]"),
+        (
+            "{\"name\":\"B\",\"unreadThreads\":\"0\"}",
+            "[\"unreadThreads\"]",
+        ),
+        (
+            "{\"myRights\":{\"mayAddItems\":true},\"name\":\"B\"}",
+            "[\"myRights\"]",
+        ),
+        ("{\"foo\":null,\"name\":\"B\"}", "[\"foo\"]"),
+        (
+            "{\"zoo\":1,\"role\":2,\"id\":3,\"Name\":4}",
+            "[\"Name\",\"id\",\"name\",\"role\",\"zoo\"]",
+        ),
+    ] {
+        assert!(rt; is_refused(rt.alloc(), create, names)?, "{create}");
+    }
+    Ok(())
+}
+
+// Whether it makes the mailbox 2 of the create `x`.
+fn is_created(alloc: Global, create: &str) -> Result<bool, Fail> {
+    let reply = second_reply(alloc, create)?;
+    Ok(reply.as_slice().starts_with(b"{\"accountId\":\"A1\",\"created\":{\"x\":{\"id\":\"M2\","))
+}
+
+#[test]
+fn good_values_at_their_ends_are_taken(rt: HostRuntime) -> Result<(), Fail> {
+    for create in [
+        "{\"name\":\"A\",\"parentId\":\"M1\"}",
+        "{\"name\":\"B\",\"sortOrder\":2147483647}",
+        "{\"name\":\"a\",\"role\":null,\"parentId\":null}",
+        "{\"id\":\"M2\",\"name\":\"B\",\"totalEmails\":0,\"totalThreads\":0,\"unreadEmails\":0,\"unreadThreads\":0}",
+        "{\"myRights\":{\"mayAddItems\":true,\"mayCreateChild\":true,\"mayDelete\":true,\"mayReadItems\":true,\"mayRemoveItems\":true,\"mayRename\":true,\"maySetKeywords\":true,\"maySetSeen\":true,\"maySubmit\":false},\"name\":\"B\"}",
+    ] {
+        assert!(rt; is_created(rt.alloc(), create)?, "{create}");
+    }
+    Ok(())
+}
+
+#[test]
+fn names_have_at_most_255_bytes(rt: HostRuntime) -> Result<(), Fail> {
+    let alloc = rt.alloc();
+    let longest = "n".repeat(alloc, 255)?;
+    let good = format!(in alloc; "{{\"name\":\"{longest}\"}}")?;
+    let longer = format!(in alloc; "{{\"name\":\"{longest}n\"}}")?;
+    assert!(rt; is_created(alloc, good.as_str())?);
+    assert!(rt; is_refused(alloc, longer.as_str(), "[\"name\"]")?);
+    Ok(())
+}
+
+// What a set of an empty account is refused for: the argument's name behind `invalid `, or the fault's.
+fn refusal(alloc: Global, args: &str) -> Result<String, Fail> {
+    let args = read(alloc, args.as_bytes())?;
+    let content = Content::new(alloc);
+    let log = Log::new(alloc, 0, 0, 0, 0);
+    let made = Made::new(alloc);
+    match plan_mailbox_set(alloc, &content, &log, &args, &made) {
+        Ok(_plan) => Ok(format!(in alloc; "none")?),
+        Err(SetFault::Invalid(name)) => Ok(format!(in alloc; "invalid {}", name.as_str())?),
+        Err(SetFault::TooLarge) => Ok(format!(in alloc; "too large")?),
+        Err(SetFault::StateMismatch) => Ok(format!(in alloc; "state mismatch")?),
+        Err(SetFault::NoMemory) => Ok(format!(in alloc; "no memory")?),
+    }
+}
+
+#[test]
+fn the_first_bad_argument_is_named(rt: HostRuntime) -> Result<(), Fail> {
+    for (args, wanted) in [
+        ("[]", "invalid "),
+        ("{}", "invalid accountId"),
+        ("{\"accountId\":1,\"create\":1}", "invalid accountId"),
+        ("{\"accountId\":\"A1\",\"create\":[]}", "invalid create"),
+        (
+            "{\"accountId\":\"A1\",\"create\":{\"a\":{},\"b\":null}}",
+            "invalid create",
+        ),
+        (
+            "{\"accountId\":\"A1\",\"destroy\":[\"M1\"]}",
+            "invalid destroy",
+        ),
+        (
+            "{\"accountId\":\"A1\",\"ifInState\":0}",
+            "invalid ifInState",
+        ),
+        (
+            "{\"accountId\":\"A1\",\"onDestroyRemoveEmails\":null}",
+            "invalid onDestroyRemoveEmails",
+        ),
+        (
+            "{\"accountId\":\"A1\",\"update\":{\"M1\":{}}}",
+            "invalid update",
+        ),
+        (
+            "{\"accountId\":\"A1\",\"create\":null,\"destroy\":[],\"ifInState\":null,\"update\":{}}",
+            "none",
+        ),
+    ] {
+        assert!(rt; refusal(rt.alloc(), args)?.as_str() == wanted, "{args}");
+    }
+    Ok(())
+}
+
+#[test]
+fn another_state_is_a_mismatch(rt: HostRuntime) -> Result<(), Fail> {
+    for (args, wanted) in [
+        ("{\"accountId\":\"A1\",\"ifInState\":\"0\"}", "none"),
+        (
+            "{\"accountId\":\"A1\",\"ifInState\":\"1\"}",
+            "state mismatch",
+        ),
+        (
+            "{\"accountId\":\"A1\",\"ifInState\":\"00\"}",
+            "state mismatch",
+        ),
+        (
+            "{\"accountId\":\"A1\",\"create\":{\"a\":{\"name\":\"A\"}},\"ifInState\":\"\"}",
+            "state mismatch",
+        ),
+    ] {
+        assert!(rt; refusal(rt.alloc(), args)?.as_str() == wanted, "{args}");
+    }
+    Ok(())
+}
+
+// A set with this many creates that asks for another state than the present one.
+fn many(alloc: Global, count: u32) -> Result<String, Fail> {
+    let mut args = format!(in alloc;
+        "{{\"accountId\":\"A1\",\"ifInState\":\"9\",\"create\":{{\"k\":{{}}"
+    )?;
+    for i in 1..count {
+        let more = format!(in alloc; ",\"k{i}\":{{}}")?;
+        args.push_str(more.as_str())?;
+    }
+    args.push_str("}}")?;
+    Ok(args)
+}
+
+#[test]
+fn a_set_names_at_most_500_objects(rt: HostRuntime) -> Result<(), Fail> {
+    let alloc = rt.alloc();
+    assert!(rt; refusal(alloc, many(alloc, 500)?.as_str())?.as_str() == "state mismatch");
+    assert!(rt; refusal(alloc, many(alloc, 501)?.as_str())?.as_str() == "too large");
+    Ok(())
+}
+
+#[test]
+fn a_creation_id_that_was_given_stands_at_once(rt: HostRuntime) -> Result<(), Fail> {
+    let alloc = rt.alloc();
+    let mut made = Made::new(alloc);
+    made.push(Created {
+        creation: Text::from_str(alloc, "b")?,
+        id: Text::from_str(alloc, "M1")?,
+    })?;
+    let first = "{\"accountId\":\"A1\",\"create\":{\"p\":{\"name\":\"P\"}}}";
+    let reply = last_reply(alloc, &made, &texts(alloc, &[first, CHILD_FIRST])?)?;
+    assert!(rt;
+        reply.as_slice().starts_with(b"{\"accountId\":\"A1\",\"created\":{\"a\":{\"id\":\"M2\",")
+    );
+    Ok(())
+}
