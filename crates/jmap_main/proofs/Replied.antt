@@ -3,6 +3,7 @@ use Rattle.std.proofs.Common.{◌≡◌, ◌⊎◌, inl, inr, ℕ, ◌+◌, ◌�
 use Rattle.std.proofs.lemmas.Bool.{le-leb, leb-true}
 use Rattle.jm_json.specs.Invoked.{call_of}
 use Rattle.jm_json.specs.declared.invocation.Invocation.{Invocation}
+use Rattle.jm_json.specs.declared.invocation.Created.{Created}
 use Rattle.mail_records.specs.Histories.{History, Committed, edits_of, account_after, grown}
 use Rattle.mail_records.specs.declared.edits.Stamp.{Stamp}
 use Rattle.mail_records.proofs.Prefixes.{account_after-all}
@@ -11,6 +12,7 @@ use Rattle.account_book.specs.declared.asks.Ask.TheVariants.{Method}
 use Rattle.account_book.specs.declared.plans.Out.{Out}
 use Rattle.account_book.specs.declared.plans.Plan.{Plan}
 use Rattle.account_book.specs.declared.plans.Point.{Point}
+use Rattle.mail_calls.specs.Plans.{method_plan}
 use Rattle.jmap_main.specs.Served.{IsStep, after_plan, replied_of, stamp_after, is_none_left}
 
 some_left : {A B : Type 0} (xs : List A) (ys : List B) → ¬ ((xs ≡ []) × (ys ≡ [])) → (is_none_left xs && is_none_left ys) ≡ false
@@ -32,19 +34,22 @@ past_limit a b h = by_test (nat_le a b) refl
 whole_of : (h : History) (n : ℕ) → n ≡ length h.entries → account_after h n ≡ h
 whole_of h n is = account_after-all h n (omega (arith, is))
 
-pub steps_so : (old new : History) (call : Invocation) (p : Plan) (point : Point) (out : Out) → point.after ≡ length new.entries → account_after new point.before ≡ old
-    → IsReplyTo p edit_bytes new point (Method call) (stamp_after old) out → IsStep (after_plan old (call_of call) p) (replied_of out) new
-steps_so old new call p point out after begins (inl answered) =
-    let same : new ≡ old = sym (whole_of new point.before (sym answered.same ∙ after)) ∙ begins in
-    rw none_left p.blobs p.edits answered.idle.0 answered.idle.1 (ap replied_of answered.reply, same)
-steps_so old new call p point out after begins (inr (inl refused)) =
-    let same : new ≡ old = sym (whole_of new point.before (sym refused.same ∙ after)) ∙ begins in
-    let past : nat_le (edit_bytes (edits_of old) + edit_bytes p.edits) edit_limit ≡ false =
-    past_limit (edit_bytes (edits_of old) + edit_bytes p.edits) edit_limit (subst (λ (h : History). ¬ IsWithin edit_bytes h p.edits) begins refused.past) in
-    rw (some_left p.blobs p.edits refused.some, past) (ap replied_of refused.reply, same)
-steps_so old new call p point out after begins (inr (inr entered)) =
-    let within : nat_le (edit_bytes (edits_of old) + edit_bytes p.edits) edit_limit ≡ true =
-    le-leb (edit_bytes (edits_of old) + edit_bytes p.edits) edit_limit (subst (λ (h : History). IsWithin edit_bytes h p.edits) begins entered.within) in
-    let is : new ≡ grown old (Committed (commit_of p (stamp_after old))) =
-    sym (whole_of new point.after after) ∙ entered.grows ∙ ap (λ (h : History). grown h (Committed (commit_of p (stamp_after old)))) begins in
-    rw (some_left p.blobs p.edits entered.some, within) (ap replied_of entered.reply, is)
+steps_so : (old new : History) (call : Invocation) (p : Plan) (point : Point) (out : Out) → (point.after ≡ point.before → new ≡ old) → IsReplyTo p edit_bytes old new point (Method call) (stamp_after old) out
+    → IsStep (after_plan old (call_of call) p) (replied_of out) new
+steps_so old new call p point out stays (inl answered) = rw (none_left p.blobs p.edits answered.idle.0 answered.idle.1) (ap replied_of answered.reply, stays answered.same)
+steps_so old new call p point out stays (inr (inl refused)) =
+    let past = past_limit (edit_bytes (edits_of old) + edit_bytes p.edits) edit_limit refused.past in
+    rw (some_left p.blobs p.edits refused.some, past) (ap replied_of refused.reply, stays refused.same)
+steps_so old new call p point out stays (inr (inr entered)) =
+    let within = le-leb (edit_bytes (edits_of old) + edit_bytes p.edits) edit_limit entered.within in
+    rw (some_left p.blobs p.edits entered.some, within) (ap replied_of entered.reply, entered.grows)
+
+pub book_step : (old new : History) (call : Invocation) (made : List Created) (point : Point) (out : Out) → point.after ≡ length new.entries → account_after new point.before ≡ old
+    → IsReplyTo (method_plan (account_after new point.before) (call_of call) made false) edit_bytes (account_after new point.before) (account_after new point.after) point (Method call) (stamp_after old) out
+    → IsStep (after_plan old (call_of call) (method_plan old (call_of call) made false)) (replied_of out) new
+book_step old new call made point out after begins reply =
+    let whole : account_after new point.after ≡ new = whole_of new point.after after in
+    let stays : point.after ≡ point.before → new ≡ old = λ same. sym whole ∙ ap (account_after new) same ∙ begins in
+    let at_old = subst (λ (h : History). IsReplyTo (method_plan h (call_of call) made false) edit_bytes h (account_after new point.after) point (Method call) (stamp_after old) out) begins reply in
+    steps_so old new call (method_plan old (call_of call) made false) point out stays
+    (subst (λ (h : History). IsReplyTo (method_plan old (call_of call) made false) edit_bytes old h point (Method call) (stamp_after old) out) whole at_old)

@@ -1,6 +1,8 @@
 //! The program `jmap`: a JMAP mail server and a synchronising client.
 #![tactic(auto)]
 
+#[cfg(test)]
+mod account_tests;
 mod batch;
 #[cfg(test)]
 mod edge_tests;

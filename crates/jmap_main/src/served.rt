@@ -1,5 +1,5 @@
 // The port of `batch`: one account, in memory.
-ghost use Rattle.std.specs.Prelude.{◌≡◌, ◌∷◌, [], ℕ, List, ◌||◌, codes, bytes_eq, min, ◌+◌, ◌^◌, ◌-◌, length, IfOk, OnErr, MatchOption, option_map, Some, None};
+ghost use Rattle.std.specs.Prelude.{◌≡◌, ◌∷◌, [], ℕ, List, ◌||◌, codes, bytes_eq, min, ◌+◌, ◌^◌, ◌-◌, length, IfOk, OnErr, MatchOption, option_map, Some, None, false};
 ghost use Rattle.jm_json.specs.Json.{tree_of};
 ghost use Rattle.jm_json.specs.Invoked.{call_of};
 ghost use Rattle.jm_json.specs.declared.invocation.Replied.{Replied as TheReplied};
@@ -139,7 +139,7 @@ fn is_account(id: &str) -> bool
 }
 
 fn from_error(from: Option<&str>) -> &'static str
-    ensures { result.now ≡ from_error (option_map (λ t. t.now) from) }
+    ensures { result.now ≡ from_error (option_map (λ t. t.now) from.entry) }
 {
     match from {
         None => "invalidArguments",
@@ -154,7 +154,7 @@ fn from_error(from: Option<&str>) -> &'static str
 }
 
 fn to_error(copies: bool, from: Option<&str>, to: Option<&str>) -> Option<&'static str>
-    ensures { option_map (λ t. t.now) result ≡ to_error copies (option_map (λ t. t.now) from) (option_map (λ t. t.now) to) }
+    ensures { option_map (λ t. t.now) result ≡ to_error copies (option_map (λ t. t.now) from.entry) (option_map (λ t. t.now) to.entry) }
 {
     match to {
         None => Some("invalidArguments"),

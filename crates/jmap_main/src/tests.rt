@@ -113,7 +113,7 @@ fn answers_each_line_with_a_line(rt: HostRuntime) -> Result<(), Fail> {
             "{\"methodResponses\":[[\"error\",{\"type\":\"unknownMethod\"},\"0\"]],\"sessionState\":\"0\"}\n",
         ),
         (
-            "{\"using\":[\"urn:ietf:params:jmap:mail\"],\"methodCalls\":[[\"Mailbox/get\",{},\"0\"]]}",
+            "{\"using\":[\"urn:ietf:params:jmap:mail\"],\"methodCalls\":[[\"Mailbox/changes\",{\"accountId\":\"A1\"},\"0\"]]}",
             "{\"methodResponses\":[[\"error\",{\"type\":\"unknownMethod\"},\"0\"]],\"sessionState\":\"0\"}\n",
         ),
         (
