@@ -1,14 +1,13 @@
 -- A planner keeps in step with the course of a set.
-use Rattle.std.proofs.Common.{◌≡◌, ◌==◌, ℕ, suc, map, length, Result, Ok, Err, OnOk, ◌+◌, ◌<◌, ◌≤◌, ◌^◌, Bool, true, false, cond, ◌&&◌, ◌||◌, eqb, ltb, leb, nat_le, nat_lt, List, [], ◌∷◌, ◌++◌, Option, Some, None, is_some, refl, sym, ap, ◌∙◌, subst, arith, ⊎_elim, bytes_eq, le-leb, le-ltb, lt-ltb}
+use Rattle.std.proofs.Common.{◌≡◌, ◌==◌, ℕ, map, length, Result, Ok, Err, OnOk, ◌+◌, ◌≤◌, Bool, true, false, ◌&&◌, ◌||◌, eqb, ltb, leb, nat_le, nat_lt, List, [], ◌∷◌, ◌++◌, Option, Some, None, is_some, refl, sym, ap, ◌∙◌, arith, ⊎_elim, bytes_eq, le-leb, le-ltb, lt-ltb}
 use Rattle.std.specs.List.{list_any}
 use Rattle.std.proofs.lemmas.Bool.{cases_Bool, false≢true, eqb-true, eqb-false, ltb-true, ltb-false, leb-true}
 use Rattle.std.proofs.lemmas.List.Folds.{list_any-append}
 use Rattle.jm_json.specs.Tree.{Tree}
 use Rattle.jm_json.specs.Order.{put as put_member}
 use Rattle.jm_json.specs.declared.invocation.Created.{Created}
-use Rattle.mail_records.specs.Tables.{lookup, put}
 use Rattle.mail_records.specs.Contents.{Content, Held, mailbox_number, mailbox_at, AreNumbered}
-use Rattle.mail_records.specs.Edits.{after_edit, Fits}
+use Rattle.mail_records.specs.Edits.{after_edit}
 use Rattle.mail_records.specs.declared.records.Mailbox.{Mailbox}
 use Rattle.mail_records.proofs.Tables.{lookup-put_same, lookup-put_other}
 use Rattle.mail_records.proofs.Growth.{AreNumbered-after_edit}

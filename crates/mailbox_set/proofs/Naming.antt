@@ -1,20 +1,19 @@
 -- The mailbox that an identifier names, by its number.
-use Rattle.std.proofs.Common.{◌≡◌, ◌≢◌, ℕ, ◌<◌, ◌≤◌, ◌^◌, Bool, true, false, cond, eqb, List, [], ◌∷◌, Option, Some, None, is_some, option_map, option_and_then, refl, sym, ap, ◌∙◌, subst, arith, ⊎_elim, bytes_eq}
+use Rattle.std.proofs.Common.{◌≡◌, ◌≢◌, ℕ, ◌<◌, ◌≤◌, ◌^◌, Bool, true, false, cond, eqb, List, [], ◌∷◌, Option, Some, None, is_some, option_map, option_and_then, refl, sym, ap, ◌∙◌, arith, ⊎_elim, bytes_eq}
 use Rattle.std.specs.Fmt.{decimal}
 use Rattle.std.specs.List as lists
 use Rattle.std.specs.List.{AllByRecursion, list_any}
 use Rattle.std.proofs.lemmas.Bool.{cases_Bool, eqb-true, eqb-false}
 use Rattle.std.proofs.lemmas.Fmt.{decimal_injective}
 use Rattle.std.proofs.lemmas.Slice.Eq.{bytes_eq-Decides}
-use Rattle.jm_json.specs.declared.invocation.Created.{Created}
 use Rattle.mail_records.specs.Tables.{lookup}
 use Rattle.mail_records.specs.Contents.{Content, mailbox_number, mailbox_at, AreNumbered}
 use Rattle.mail_records.specs.declared.records.Mailbox.{Mailbox}
 use Rattle.mail_counts.specs.Tidy.{same_role}
 use Rattle.mail_counts.specs.Views.{mailbox_id}
-use Rattle.mailbox_set.specs.Asked.{named, identifier}
+use Rattle.mailbox_set.specs.Asked.{named}
 use Rattle.mailbox_set.specs.Creates.{is_role_taken}
-use Rattle.mailbox_set.specs.Known.{IsNumber, Means, MeansIfAny}
+use Rattle.mailbox_set.specs.Known.{IsNumber, MeansIfAny}
 
 -- texts that are the same pass the test, and others don't
 pub texts_same : (s t : List ℕ) → s ≡ t → bytes_eq s t ≡ true

@@ -1,26 +1,25 @@
 -- What the edits of a set keep, create by create.
-use Rattle.std.proofs.Common.{◌≡◌, ◌≢◌, Result, Ok, Err, IfOk, IfErr, MatchResult, ℕ, zero, suc, ◌+◌, ◌≤◌, nat_lt, if◌then◌else◌, Bool, true, false, not, cond, ◌&&◌, ◌||◌, List, [], ◌∷◌, ◌++◌, map, filter, length, Option, Some, None, is_some, unwrap_or, option_map, option_and_then, refl, sym, ap, ◌∙◌, subst, arith, pos, negsuc, eqb, bytes_eq, codes, length-append}
+use Rattle.std.proofs.Common.{◌≡◌, ◌≢◌, Result, Ok, Err, IfOk, IfErr, MatchResult, ℕ, zero, suc, nat_lt, if◌then◌else◌, Bool, true, false, not, cond, ◌||◌, List, [], ◌∷◌, ◌++◌, map, filter, length, Option, Some, None, is_some, unwrap_or, option_map, option_and_then, refl, sym, ap, ◌∙◌, subst, pos, negsuc, eqb, bytes_eq, codes}
 use Rattle.std.specs.List as lists
 use Rattle.std.specs.List.{AllByRecursion, list_any}
-use Rattle.std.specs.Option.{ForSome}
 use Rattle.std.specs.Ordering.{nat_cmp, match_ordering}
 use Rattle.std.specs.Cmp.Lexicographic.{slice_cmp}
 use Rattle.std.specs.declared.cmp.Ordering.{Ordering}
 use Rattle.std.specs.declared.cmp.Ordering.TheVariants.{Less, Equal, Greater}
-use Rattle.std.proofs.lemmas.Bool.{cases_Bool, false≢true, eqb-true, eq-eqb}
+use Rattle.std.proofs.lemmas.Bool.{false≢true, eq-eqb}
 use Rattle.std.proofs.lemmas.Option.{none-some, same_Some}
 use Rattle.jm_json.specs.Tree.{Tree, null, boolean, number, text, list, object}
 use Rattle.jm_json.specs.Find.{find, as_text, as_object}
 use Rattle.jm_json.specs.Order.{put}
 use Rattle.jm_json.specs.declared.invocation.Created.{Created}
 use Rattle.mail_records.specs.Tables.{lookup}
-use Rattle.mail_records.specs.Contents.{Content, mailbox_number, mailbox_at, AreNumbered}
+use Rattle.mail_records.specs.Contents.{Content, mailbox_number, AreNumbered}
 use Rattle.mail_records.specs.Edits.{after_edit, after_edits, AllFit, Fits}
 use Rattle.mail_records.specs.declared.edits.Edit.{Edit}
 use Rattle.mail_records.specs.declared.records.Mailbox.{Mailbox}
 use Rattle.mail_records.proofs.Growth.{AreNumbered-after_edit, after_edits-append, AllFit-append}
 use Rattle.mail_counts.specs.Forms.{is_name, is_role, is_sort_order}
-use Rattle.mail_counts.specs.Tidy.{IsTidy, IsThere, IsWellFormed, IsNewMailbox, is_sibling, same_role}
+use Rattle.mail_counts.specs.Tidy.{IsTidy, IsThere, IsNewMailbox, is_sibling}
 use Rattle.mail_counts.specs.Views.{mailbox_id, mailbox_members}
 use Rattle.mail_counts.proofs.Growth.{Fits-new_mailbox, Tidy_with_new_mailbox}
 use Rattle.mailbox_set.specs.Asked.{Asked, asked, asked_name, asked_parent, identifier, named, only_if, parent_in, role_in, sort_order_in}
@@ -28,7 +27,7 @@ use Rattle.mailbox_set.specs.Creates.{Create, Course, after_create, after_checks
 use Rattle.mailbox_set.specs.Rounds.{after_each, after_round, in_rounds, after_creates, stands, taken_out}
 use Rattle.mailbox_set.specs.Promises.{PutsNew}
 use Rattle.mailbox_set.specs.Arguments.{account_in, bad_argument, creates_in, text_at}
-use Rattle.mailbox_set.specs.Plans.{Ground, Outcome, Plan, invalid, too_large, state_mismatch, planned, beginning, is_other_state, outcome_of_arguments, outcome_of_members, plan_after, set_outcome}
+use Rattle.mailbox_set.specs.Plans.{Ground, Plan, invalid, too_large, state_mismatch, planned, beginning, is_other_state, outcome_of_arguments, outcome_of_members, plan_after, set_outcome}
 use Rattle.mailbox_set.specs.declared.faults.Faults.{Faults}
 use Rattle.mailbox_set.proofs.Naming.{texts_tested, no_role_taken}
 

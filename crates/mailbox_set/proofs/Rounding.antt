@@ -1,9 +1,7 @@
 -- Creates in rounds, one round at a time.
-use Rattle.std.proofs.Common.{◌≡◌, ℕ, zero, suc, ◌+◌, ◌<◌, ◌≤◌, Bool, true, false, cond, List, [], ◌∷◌, ◌++◌, map, length, get_or, take, drop, Option, Some, None, is_some, option_map, refl, sym, ap, ◌∙◌, subst, arith, append_assoc, add-one, length-append, length-take, length-drop}
+use Rattle.std.proofs.Common.{◌≡◌, ℕ, zero, suc, ◌+◌, ◌<◌, ◌≤◌, Bool, true, false, List, [], ◌∷◌, ◌++◌, map, length, get_or, take, drop, Option, Some, None, is_some, option_map, refl, sym, ap, ◌∙◌, arith, append_assoc, add-one, length-append, length-take, length-drop}
 use Rattle.std.specs.List.{remove}
 use Rattle.std.proofs.lemmas.List.{drop_more, drop_all, take_more, map-append}
-use Rattle.jm_json.specs.declared.invocation.Created.{Created}
-use Rattle.mailbox_set.specs.Asked.{last_made}
 use Rattle.mailbox_set.specs.Known.{IsKnown}
 use Rattle.mailbox_set.specs.Creates.{Create, Course, after_create}
 use Rattle.mailbox_set.specs.Drafts.{create_of}

@@ -1,7 +1,7 @@
 -- Whether lists are the same, item by item.
-use Rattle.std.proofs.Common.{◌≡◌, ◌≢◌, ℕ, suc, ◌+◌, ◌<◌, Bool, true, false, ◌&&◌, List, [], ◌∷◌, map, length, get_or, drop, refl, sym, ap, ◌∙◌, arith, bytes_eq}
+use Rattle.std.proofs.Common.{◌≡◌, ◌≢◌, ℕ, suc, ◌+◌, ◌<◌, Bool, true, false, ◌&&◌, List, [], ◌∷◌, map, length, get_or, drop, refl, sym, ap, ◌∙◌, bytes_eq}
 use Rattle.std.proofs.lemmas.List.{drop_more}
-use Rattle.jm_json.specs.Tree.{Tree, trees_of, fields_of}
+use Rattle.jm_json.specs.Tree.{trees_of, fields_of}
 use Rattle.jm_json.specs.Json.{tree_of, member_of}
 use Rattle.jm_json.specs.declared.tree.Json.{Json}
 use Rattle.jm_json.specs.declared.tree.Member.{Member}

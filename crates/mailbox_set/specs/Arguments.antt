@@ -1,5 +1,5 @@
 -- The arguments of a set of mailboxes (RFC 8620, 5.3; RFC 8621, 2.5). Other arguments count for nothing.
-use Rattle.std.specs.Prelude.{ℕ, List, length, ◌==◌, [], ◌∷◌, Bool, true, false, Option, Some, None, is_some, unwrap_or, option_map, option_and_then, if◌then◌else◌, codes}
+use Rattle.std.specs.Prelude.{ℕ, List, length, ◌==◌, [], Bool, true, false, Option, Some, None, is_some, unwrap_or, option_map, option_and_then, if◌then◌else◌, codes}
 use Rattle.std.specs.List.{list_all, filter_map}
 use Rattle.jm_json.specs.Tree.{Tree, null, boolean, text, list, object}
 use Rattle.jm_json.specs.Find.{find, as_text, as_object, list_of, pairs_of}

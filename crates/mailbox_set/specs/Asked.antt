@@ -1,9 +1,9 @@
 -- What the object of a create asks for, property by property (RFC 8620, 5.3; RFC 8621, 2 and 2.5). None stands for a value
 -- that isn't good by itself.
-use Rattle.std.specs.Prelude.{ℕ, pos, negsuc, List, [], ◌∷◌, Bool, true, false, ◌&&◌, ◌||◌, ◌==◌, Option, Some, None, is_some, option_map, option_and_then, if◌then◌else◌, codes, bytes_eq}
+use Rattle.std.specs.Prelude.{ℕ, pos, List, [], ◌∷◌, Bool, true, ◌==◌, Option, Some, None, option_map, option_and_then, if◌then◌else◌, codes, bytes_eq}
 use Rattle.std.specs.Option.{option_or}
 use Rattle.std.specs.List as lists
-use Rattle.jm_json.specs.Tree.{Tree, null, boolean, number, text, list, object}
+use Rattle.jm_json.specs.Tree.{Tree, null, boolean, number, text}
 use Rattle.jm_json.specs.Find.{find, as_text}
 use Rattle.jm_json.specs.declared.invocation.Created.{Created}
 use Rattle.mail_records.specs.Contents.{Content, mailbox_number}

@@ -1,5 +1,4 @@
-use Rattle.std.proofs.Common.{◌≡◌, ◌≤◌, ◌^◌, ℕ, Option, Some, None, cond, is_some, option_map, sym, ap, ◌∙◌, subst, arith}
-use Rattle.mail_records.specs.Contents.{mailbox_at}
+use Rattle.std.proofs.Common.{◌≤◌, ◌^◌, Some, None, cond, option_map, sym, ap, ◌∙◌, subst, arith}
 use Rattle.mailbox_set.specs.Asked.{identifier}
 use Rattle.mailbox_set.specs.Creates.{Course}
 use Rattle.mailbox_set.specs.Known.{MeansIfAny}

@@ -1,5 +1,5 @@
-use Rattle.std.proofs.Common.{◌≡◌, sym, ap, ◌∙◌, subst}
-use Rattle.mailbox_set.specs.Creates.{Course, Create, after_create, after_made, mailbox_of, refusal}
+use Rattle.std.proofs.Common.{◌≡◌, sym, ◌∙◌, subst}
+use Rattle.mailbox_set.specs.Creates.{Course, Create, after_create, after_made, mailbox_of}
 use Rattle.mailbox_set.specs.Drafts.{create_of}
 use Rattle.mailbox_set.specs.Follows.{Follows}
 use Rattle.mailbox_set.specs.Wants.{asked_of}

@@ -1,4 +1,4 @@
-use Rattle.std.proofs.Common.{◌≡◌, ℕ, ◌+◌, ◌<◌, ◌^◌, ◌&&◌, ◌||◌, false, List, [], ◌∷◌, ◌++◌, Some, None, refl, sym, ap, ◌∙◌, subst, arith, bytes_eq}
+use Rattle.std.proofs.Common.{◌+◌, ◌<◌, ◌^◌, ◌&&◌, ◌||◌, false, [], ◌∷◌, ◌++◌, Some, None, refl, sym, ap, ◌∙◌, subst, arith, bytes_eq}
 use Rattle.jm_json.specs.Json.{tree_of}
 use Rattle.jm_json.specs.Order.{put as put_member}
 use Rattle.mail_records.specs.declared.edits.Edit.TheVariants.{PutMailbox}

@@ -1,4 +1,4 @@
-use Rattle.std.proofs.Common.{◌≡◌, ◌+◌, ◌-◌, ◌<◌, ◌^◌, map, length, drop}
+use Rattle.std.proofs.Common.{◌≡◌, ◌+◌, ◌<◌, ◌^◌, map, length, drop}
 use Rattle.mailbox_set.specs.Creates.{Course}
 use Rattle.mailbox_set.specs.Drafts.{create_of}
 use Rattle.mailbox_set.specs.Follows.{Follows}

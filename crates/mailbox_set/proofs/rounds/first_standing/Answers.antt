@@ -1,4 +1,4 @@
-use Rattle.std.proofs.Common.{◌≡◌, length, true, false, sym, ap, ◌∙◌, arith}
+use Rattle.std.proofs.Common.{◌≡◌, length, sym, ap, ◌∙◌, arith}
 use Rattle.mailbox_set.specs.Creates.{Course}
 use Rattle.mailbox_set.specs.Drafts.{create_of}
 use Rattle.mailbox_set.specs.Follows.{Follows}

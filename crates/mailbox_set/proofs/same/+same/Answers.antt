@@ -1,4 +1,4 @@
-use Rattle.std.proofs.Common.{◌≡◌, ◌∙◌, ◌<◌, ◌+◌, ◌&&◌, length, drop, sym, ap, arith}
+use Rattle.std.proofs.Common.{◌∙◌, ◌<◌, ◌+◌, ◌&&◌, length, drop, sym, ap, arith}
 use Rattle.jm_json.proofs.Sizes.{item_size, member_size}
 use Rattle.mailbox_set.proofs.Sames.{trees_of_lengths, fields_of_lengths, trees_tested, fields_tested, trees_step, fields_step}
 use Rattle.mailbox_set.proofs.same.+same.Goals as goal

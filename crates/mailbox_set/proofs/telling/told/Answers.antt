@@ -1,5 +1,5 @@
 use Rattle.std.proofs.Common.{◌≡◌, ◌∷◌, ◌++◌, List, ℕ, Bool, map, filter, true, false, sym, ap, ◌∙◌, subst}
-use Rattle.jm_json.specs.Json.{tree_of, member_of}
+use Rattle.jm_json.specs.Json.{member_of}
 use Rattle.jm_json.specs.Order.{KeysRise}
 use Rattle.jm_json.specs.Tree.{Tree}
 use Rattle.mailbox_set.specs.Creates.{is_told}

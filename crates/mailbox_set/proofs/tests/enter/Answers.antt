@@ -1,7 +1,10 @@
-use Rattle.std.proofs.Common.{sym, subst}
+use Rattle.std.proofs.Common.{sym, ap, ◌∙◌, subst}
 use Rattle.mail_records.specs.Contents.{AreNumbered}
+use Rattle.mail_records.specs.Edits.{after_edits}
 use Rattle.mail_records.proofs.Growth.{AreNumbered-after_edits}
 use Rattle.mailbox_set.proofs.tests.enter.Goals as goal
 
 pub returns-in-Some : goal.returns-in-Some
-returns-in-Some c = subst AreNumbered (sym (rw c.in-Some.is at c.in_ok-after.ensures.content)) (AreNumbered-after_edits c.args.edits c.args.content.content c.requires.fits c.requires.numbered)
+returns-in-Some c =
+    subst AreNumbered (sym (rw c.in-Some.is at c.in_ok-after.ensures.content ∙ ap (after_edits c.args.content.content) c.as_slice-3.ensures))
+    (AreNumbered-after_edits c.args.edits c.args.content.content c.requires.fits c.requires.numbered)
