@@ -264,8 +264,8 @@ word_byte above below l h x ls hs xs true small e (d ∷ w, i) later =
     stops_here (Lies above below (l ∷ ls) (h ∷ hs)) (Lies above below (l ∷ ls) (h ∷ hs)) x xs d w i (λ ys j. true≢false (sym e ∙ lies_head above below l h x ls hs ys j))
 word_byte above below l h x ls hs xs false small e (d ∷ w, i) later =
     stops_later (Lies (above || ltb l x) (below || ltb x h) ls hs) (Lies (above || ltb l x) (below || ltb x h) ls hs) (Lies above below (l ∷ ls) (h ∷ hs)) (Lies above below (l ∷ ls) (h ∷ hs)) x xs
-      (left_in_word (above || ltb l x) (below || ltb x h) ls hs xs)
-      (λ v j. lies_cons above below l h x ls hs v small e j) (λ v j. lies_tail above below l h x ls hs v j) (later refl)
+    (left_in_word (above || ltb l x) (below || ltb x h) ls hs xs)
+    (λ v j. lies_cons above below l h x ls hs v small e j) (λ v j. lies_tail above below l h x ls hs v j) (later refl)
 
 pub word_stops : (above below : Bool) (ls hs xs : List ℕ) → AreBytes xs → Open above below ls hs → ((w rest : List ℕ) → xs ≡ w ++ rest → Lies above below ls hs w → ⊥)
     → StopsLie above below ls hs xs (left_in_word above below ls hs xs)
@@ -276,8 +276,8 @@ word_stops above below (l ∷ ls) [] xs b o none = absurd (omega (arith, o.long)
 word_stops above below (l ∷ ls) (h ∷ hs) [] b o none = word_end above below l h ls hs (open_some above below (l ∷ ls) (h ∷ hs) o)
 word_stops above below (l ∷ ls) (h ∷ hs) (x ∷ xs) b o none =
     word_byte above below l h x ls hs xs (is_outside above below l h x) b.0 refl (open_some above below (l ∷ ls) (h ∷ hs) o)
-      (λ e. word_stops (above || ltb l x) (below || ltb x h) ls hs xs b.1 (open_tail above below l h x ls hs e o)
-        (λ w rest f i. none (x ∷ w) rest (ap (λ (t : List ℕ). x ∷ t) f) (lies_cons above below l h x ls hs w b.0 e i)))
+    (λ e. word_stops (above || ltb l x) (below || ltb x h) ls hs xs b.1 (open_tail above below l h x ls hs e o)
+    (λ w rest f i. none (x ∷ w) rest (ap (λ (t : List ℕ). x ∷ t) f) (lies_cons above below l h x ls hs w b.0 e i)))
 
 -- ---- a number between two others
 pub record IsWithin (low high n : ℕ) : Type 0 where
@@ -347,11 +347,13 @@ between_exact low high le h = record {
     by_fault xs k left true t e = absurd (ok_no_err (got xs) left e)
     by_fault xs k left false t e =
         let o : Open false false (number low) (number high) = record {
-          long = number_long high ∙ sym (number_long low); lows = number_bytes low; highs = number_bytes high;
+          long = number_long high ∙ sym (number_long low);
+          lows = number_bytes low;
+          highs = number_bytes high;
           order = λ _ _. number_up low high (omega (arith, le, h)) h le;
         } in
         let none : (w rest : List ℕ) → xs ≡ w ++ rest → Lies false false (number low) (number high) w → ⊥ = λ w rest f i. true≢false (sym (between_from low high xs w rest h le f i) ∙ t) in
         let s = word_stops false false (number low) (number high) xs k.bytes o none in
         let m = stops_map (Lies false false (number low) (number high)) (Lies false false (number low) (number high)) (Spelled (IsWithin low high) number) (Spelled (IsWithin low high) number) xs
-                (left_in_word false false (number low) (number high) xs) (λ w i. lies_spelled low high w le h i) (λ w i. spelled_lies low high w le h i) s in
+        (left_in_word false false (number low) (number high) xs) (λ w i. lies_spelled low high w le h i) (λ w i. spelled_lies low high w le h i) s in
         subst (λ (n : ℕ). Stops (Spelled (IsWithin low high) number) (Spelled (IsWithin low high) number) xs n) (err_is _ left e) m

@@ -33,10 +33,17 @@ pub record Roomy (s : Awaited) (bound : List ℕ) (limit : ℕ) (w : List ℕ) :
   pub awaits : Awaits s bound w
 
 roomy_of : (s : Awaited) (bound : List ℕ) (limit k : ℕ) → k ≤ limit → (t : Filled (Some s.follow) s.room k) → (s.tight ≡ true → Less_than bound (t.front ++ zeros t.count)) → (w : List ℕ) × Roomy s bound limit w
-roomy_of s bound limit k le t above = (t.front ++ zeros t.count, record {
-  front = t.front; count = t.count; is = refl; short = omega (arith, le, t.short); takes = t.takes;
-  awaits = record { long = t.long; text = padded (Some s.follow) t.front t.count t.takes; above = above };
-})
+roomy_of s bound limit k le t above = (
+  t.front ++ zeros t.count,
+  record {
+    front = t.front;
+    count = t.count;
+    is = refl;
+    short = omega (arith, le, t.short);
+    takes = t.takes;
+    awaits = record { long = t.long; text = padded (Some s.follow) t.front t.count t.takes; above = above };
+  },
+)
 
 pub live_some : (s : Awaited) (bound : List ℕ) (limit : ℕ) → Live s bound → length bound + 4 ≤ limit → (w : List ℕ) × Roomy s bound limit w
 live_some s bound limit l h = elim (cases_Bool s.tight) [
@@ -192,7 +199,10 @@ live_on s t bound b o (goes_on f p e r k is more eq) eo l =
 
 roomy_back : (s t : Awaited) (bound : List ℕ) (b limit : ℕ) (w : List ℕ) (o : Option Awaited) → Steps s bound b o → o ≡ Some t → Roomy t (drop 1 bound) limit w → Roomy s bound (suc limit) (b ∷ w)
 roomy_back s t bound b limit w o k eo r = record {
-  front = b ∷ r.front; count = r.count; is = ap (λ (q : List ℕ). b ∷ q) r.is; short = omega (arith, r.short);
+  front = b ∷ r.front;
+  count = r.count;
+  is = ap (λ (q : List ℕ). b ∷ q) r.is;
+  short = omega (arith, r.short);
   takes = takes_back s t bound b r.front o k eo r.takes;
   awaits = awaits_back s t bound b w o k eo r.awaits;
 }
@@ -220,8 +230,8 @@ text_byte s bound limit x xs None k l none (d ∷ w, r) later =
     stops_here (Roomy s bound (suc limit)) (Awaits s bound) x xs d w r (λ ys a. let t = awaits_on s bound x ys None k l a in none_not t.0 t.1)
 text_byte s bound limit x xs (Some t) k l none (d ∷ w, r) later =
     stops_later (Roomy t (drop 1 bound) limit) (Awaits t (drop 1 bound)) (Roomy s bound (suc limit)) (Awaits s bound) x xs (left_in_text t (drop 1 bound) xs)
-      (λ v q. roomy_back s t bound x limit v (Some t) k refl q)
-      (λ v a. let u = awaits_on s bound x v (Some t) k l a in subst (λ (q : Awaited). Awaits q (drop 1 bound) v) (sym (one_some t u.0 u.1)) u.2) later
+    (λ v q. roomy_back s t bound x limit v (Some t) k refl q)
+    (λ v a. let u = awaits_on s bound x v (Some t) k l a in subst (λ (q : Awaited). Awaits q (drop 1 bound) v) (sym (one_some t u.0 u.1)) u.2) later
 
 later_of : (s : Awaited) (bound : List ℕ) (limit x : ℕ) (xs : List ℕ) (o : Option Awaited) → Steps s bound x o → Live s bound → ((w rest : List ℕ) → x ∷ xs ≡ w ++ rest → Awaits s bound w → ⊥)
     → ((t : Awaited) → Live t (drop 1 bound) → ((w rest : List ℕ) → xs ≡ w ++ rest → Awaits t (drop 1 bound) w → ⊥) → TextStops t (drop 1 bound) limit xs (left_in_text t (drop 1 bound) xs))
@@ -236,5 +246,5 @@ text_stops [] s bound limit l h k none = text_end s bound limit none (live_some 
 text_stops (x ∷ xs) s bound zero l h k none = absurd (omega (arith, h))
 text_stops (x ∷ xs) s bound (suc limit) l h k none =
     text_byte s bound limit x xs (awaited_after s (slice_get bound 0) x) (steps s bound x) l (λ rest e a. none [] rest e a) (live_some s bound (suc limit) l h)
-      (later_of s bound limit x xs (awaited_after s (slice_get bound 0) x) (steps s bound x) l none
-        (λ t m no. text_stops xs t (drop 1 bound) limit m (drop_short bound limit h (omega (arith, k))) (omega (arith, k)) no))
+    (later_of s bound limit x xs (awaited_after s (slice_get bound 0) x) (steps s bound x) l none
+    (λ t m no. text_stops xs t (drop 1 bound) limit m (drop_short bound limit h (omega (arith, k))) (omega (arith, k)) no))

@@ -45,14 +45,24 @@ pub record Stops (B L : List ℕ → Type 0) (xs : List ℕ) (left : ℕ) : Type
 
 pub stops_map : (B L B' L' : List ℕ → Type 0) (xs : List ℕ) (left : ℕ) → ((w : List ℕ) → B w → B' w) → ((w : List ℕ) → L' w → L w) → Stops B L xs left → Stops B' L' xs left
 stops_map B L B' L' xs left to from s = record {
-  front = s.front; back = s.back; parts = s.parts; left_is = s.left_is; byte = s.byte; rest = s.rest;
+  front = s.front;
+  back = s.back;
+  parts = s.parts;
+  left_is = s.left_is;
+  byte = s.byte;
+  rest = s.rest;
   begins = to (s.front ++ s.byte ∷ s.rest) s.begins;
   ends = λ b more ys e l. s.ends b more ys e (from (s.front ++ b ∷ ys) l);
 }
 
 pub stops_later : (B L B' L' : List ℕ → Type 0) (c : ℕ) (xs : List ℕ) (left : ℕ) → ((w : List ℕ) → B w → B' (c ∷ w)) → ((w : List ℕ) → L' (c ∷ w) → L w) → Stops B L xs left → Stops B' L' (c ∷ xs) left
 stops_later B L B' L' c xs left to from s = record {
-  front = c ∷ s.front; back = s.back; parts = ap (λ (w : List ℕ). c ∷ w) s.parts; left_is = s.left_is; byte = s.byte; rest = s.rest;
+  front = c ∷ s.front;
+  back = s.back;
+  parts = ap (λ (w : List ℕ). c ∷ w) s.parts;
+  left_is = s.left_is;
+  byte = s.byte;
+  rest = s.rest;
   begins = to (s.front ++ s.byte ∷ s.rest) s.begins;
   ends = λ b more ys e l. s.ends b more ys e (from (s.front ++ b ∷ ys) l);
 }
@@ -60,7 +70,13 @@ stops_later B L B' L' c xs left to from s = record {
 -- the first byte is the one at which nothing goes on
 pub stops_here : (B L : List ℕ → Type 0) (c : ℕ) (xs : List ℕ) (b : ℕ) (rest : List ℕ) → B (b ∷ rest) → ((ys : List ℕ) → ¬ L (c ∷ ys)) → Stops B L (c ∷ xs) (suc (length xs))
 stops_here B L c xs b rest begun none = record {
-  front = []; back = c ∷ xs; parts = refl; left_is = refl; byte = b; rest = rest; begins = begun;
+  front = [];
+  back = c ∷ xs;
+  parts = refl;
+  left_is = refl;
+  byte = b;
+  rest = rest;
+  begins = begun;
   ends = λ d more ys e l. none ys (subst (λ (z : ℕ). L (z ∷ ys)) (head_is d c more xs e) l);
 }
   where
@@ -70,7 +86,13 @@ stops_here B L c xs b rest begun none = record {
 -- the bytes end, and more could come
 pub stops_short : (B L : List ℕ → Type 0) (xs : List ℕ) (b : ℕ) (rest : List ℕ) → B (xs ++ b ∷ rest) → Stops B L xs 0
 stops_short B L xs b rest begun = record {
-  front = xs; back = []; parts = sym (append-nil xs); left_is = refl; byte = b; rest = rest; begins = begun;
+  front = xs;
+  back = [];
+  parts = sym (append-nil xs);
+  left_is = refl;
+  byte = b;
+  rest = rest;
+  begins = begun;
   ends = λ d more ys e l. absurd (nothing d more e);
 }
   where
@@ -138,7 +160,11 @@ module _ {A B : Type 0} (P : A → Type 0) (spell : A → List ℕ) (read : List
       let a = s.begins.0 in
       let other = some a s.begins.1 in
       record {
-        front = s.front; back = s.back; parts = s.parts; left_is = s.left_is; byte = s.byte;
+        front = s.front;
+        back = s.back;
+        parts = s.parts;
+        left_is = s.left_is;
+        byte = s.byte;
         rest = s.rest ++ spell' a other.0;
         begins = ((a, other.0), (s.begins.1, other.1), sym (append_assoc s.front (s.byte ∷ s.rest) (spell' a other.0)) ∙ ap (λ (w : List ℕ). w ++ spell' a other.0) s.begins.2);
         ends = λ b more ys e l. elim (cut_at s.front (spell l.0.0) (spell' l.0.0 l.0.1) ys b l.2) [
@@ -151,9 +177,12 @@ module _ {A B : Type 0} (P : A → Type 0) (spell : A → List ℕ) (read : List
 
   stops_second : (xs : List ℕ) (left : ℕ) (a : A) (rest : List ℕ) → P a → xs ≡ spell a ++ rest → Stops (Spelled (Q a) (spell' a)) (Spelled (Q a) (spell' a)) rest left → Stops (Spelled Both spell_both) (Spelled Both spell_both) xs left
   stops_second xs left a rest p e s = record {
-    front = spell a ++ s.front; back = s.back;
+    front = spell a ++ s.front;
+    back = s.back;
     parts = e ∙ ap (λ (w : List ℕ). spell a ++ w) s.parts ∙ sym (append_assoc (spell a) s.front s.back);
-    left_is = s.left_is; byte = s.byte; rest = s.rest;
+    left_is = s.left_is;
+    byte = s.byte;
+    rest = s.rest;
     begins = ((a, s.begins.0), (p, s.begins.1), append_assoc (spell a) s.front (s.byte ∷ s.rest) ∙ ap (λ (w : List ℕ). spell a ++ w) s.begins.2);
     ends = λ b more ys f l.
         let o = one a l.0.0 (s.front ++ b ∷ ys) (spell' l.0.0 l.0.1) p l.1.0 (sym (append_assoc (spell a) s.front (b ∷ ys)) ∙ l.2) in

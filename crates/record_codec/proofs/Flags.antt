@@ -54,7 +54,7 @@ bytes_exact n = record {
         let more = zeros (n - length xs - 1) in
         let long : length (xs ++ 0 ∷ more) ≡ n = omega (arith, length-append xs (0 ∷ more), zeros_long (n - length xs - 1), lt) in
         subst (λ (k : ℕ). Stops (Spelled (Of_length n) itself) (Spelled (Of_length n) itself) xs k) is
-          (stops_short (Spelled (Of_length n) itself) (Spelled (Of_length n) itself) xs 0 more (xs ++ 0 ∷ more, (long, bytes_both xs (0 ∷ more) h.bytes (lit< tt, zeros_bytes (n - length xs - 1))), refl))
+        (stops_short (Spelled (Of_length n) itself) (Spelled (Of_length n) itself) xs 0 more (xs ++ 0 ∷ more, (long, bytes_both xs (0 ∷ more) h.bytes (lit< tt, zeros_bytes (n - length xs - 1))), refl))
     | inr ge ↦ absurd (ok_no_err (cut n xs) left (rw (le-leb n (length xs) ge) at e))
   ];
 }
@@ -66,8 +66,8 @@ blob_exact : Exact IsBlob blob blob_at
 blob_exact =
     let pairs = then_exact IsWord number number_at Of_length (λ n. itself) bytes_at number_one number_exact (λ n w. (zeros n, (zeros_long n, zeros_bytes n))) (λ n w short. bytes_exact n) in
     let whole = made_exact (λ (p : ℕ × List ℕ). IsWord p.0 × Of_length p.0 p.1) (λ p. number p.0 ++ p.1) (then number_at bytes_at) IsBlob blob (λ p. p.1)
-            (λ p h. ((subst IsWord (sym h.1.0) h.0, h.1.1), ap (λ n. number n ++ p.1) h.1.0))
-            (λ t h. ((length t, t), (h.0, (refl, h.1)), refl)) pairs in
+    (λ p h. ((subst IsWord (sym h.1.0) h.0, h.1.1), ap (λ n. number n ++ p.1) h.1.0))
+    (λ t h. ((length t, t), (h.0, (refl, h.1)), refl)) pairs in
     exact_same IsBlob blob _ blob_at (λ xs. second_of (number_at xs) bytes_at) whole
 
 pub blob_field : Field IsBlob blob blob_at
@@ -233,7 +233,7 @@ tag_found last b xs t rest false w e =
 tag_fault : (last b : ℕ) (xs : List ℕ) (left : ℕ) (wrong : Bool) → 1 ≤ last → is_wrong last b ≡ wrong → cond wrong (failed (suc (length xs))) (Ok (b, xs)) ≡ Err left → Stops (Tags last) (Tags last) (b ∷ xs) left
 tag_fault last b xs left true h w e =
     subst (λ (k : ℕ). Stops (Tags last) (Tags last) (b ∷ xs) k) (failed_is {A = ℕ} (suc (length xs)) left e)
-      (stops_here (Tags last) (Tags last) b xs 1 [] (1, (lit≤ tt, h), refl) (λ ys s. let head : b ≡ s.0 = cc in true≢false (sym w ∙ ap (is_wrong last) head ∙ right_tag last s.0 s.1)))
+    (stops_here (Tags last) (Tags last) b xs 1 [] (1, (lit≤ tt, h), refl) (λ ys s. let head : b ≡ s.0 = cc in true≢false (sym w ∙ ap (is_wrong last) head ∙ right_tag last s.0 s.1)))
 tag_fault last b xs left false h w e = absurd (ok_no_err (b, xs) left e)
 
 tag_one : (last : ℕ) → OneForm (IsTag last) tag

@@ -77,10 +77,10 @@ module _ {S A : Type 0} (P : S → ℕ → A → Type 0) (spell : A → List ℕ
     }
     items_exact s (suc n) k =
         let pairs = then_exact (P s n) spell (item s n) (λ a. Chain P next (next s a) n) (λ a. flat_map spell) (λ a. items_at item next (next s a) n) (one s n) (exact s n k) (more s n)
-                (λ a p short. items_exact (next s a) n (keeps s n a k p short)) in
+        (λ a p short. items_exact (next s a) n (keeps s n a k p short)) in
         let whole = made_exact (λ (p : A × List A). P s n p.0 × Chain P next (next s p.0) n p.1) (λ p. spell p.0 ++ flat_map spell p.1) (then (item s n) (λ a. items_at item next (next s a) n))
-                (Chain P next s (suc n)) (flat_map spell) (λ p. p.0 ∷ p.1)
-                (λ p h. (h, flat_map-cons spell p.0 p.1)) (split s n) pairs in
+        (Chain P next s (suc n)) (flat_map spell) (λ p. p.0 ∷ p.1)
+        (λ p h. (h, flat_map-cons spell p.0 p.1)) (split s n) pairs in
         exact_same (Chain P next s (suc n)) (flat_map spell) _ (items_at item next s (suc n)) (λ xs. joined (λ a items. a ∷ items) (item s n xs) (λ a. items_at item next (next s a) n)) whole
       where
         split : (s : S) (n : ℕ) (items : List A) → Chain P next s (suc n) items → (p : A × List A) × (P s n p.0 × Chain P next (next s p.0) n p.1) × (p.0 ∷ p.1 ≡ items)
@@ -96,11 +96,10 @@ module _ {S A : Type 0} (P : S → ℕ → A → Type 0) (spell : A → List ℕ
   listed_exact counts s exact some =
       let pairs = then_exact IsWord number number_at (Chain P next s) (λ n. flat_map spell) (items_at item next s) number_one counts some (λ n w short. exact n w) in
       let whole = made_exact (λ (p : ℕ × List A). IsWord p.0 × Chain P next s p.0 p.1) (λ p. number p.0 ++ flat_map spell p.1) (then number_at (items_at item next s))
-              (Listed s) (listed spell) (λ p. p.1)
-              (λ p h. let l = chain_long s p.0 p.1 h.1 in ((subst IsWord (sym l) h.0, subst (λ k. Chain P next s k p.1) (sym l) h.1), ap (λ k. number k ++ flat_map spell p.1) l))
-              (λ items h. ((length items, items), h, refl)) pairs in
+      (Listed s) (listed spell) (λ p. p.1)
+      (λ p h. let l = chain_long s p.0 p.1 h.1 in ((subst IsWord (sym l) h.0, subst (λ k. Chain P next s k p.1) (sym l) h.1), ap (λ k. number k ++ flat_map spell p.1) l))
+      (λ items h. ((length items, items), h, refl)) pairs in
       exact_same (Listed s) (listed spell) _ (listed_at item next s) (λ xs. second_of (number_at xs) (items_at item next s)) whole
-
 
 -- items that ask nothing of each other
 module _ {A : Type 0} (P : A → Type 0) (spell : A → List ℕ) (read : List ℕ → Read A) where
@@ -128,6 +127,6 @@ module _ {A : Type 0} (P : A → Type 0) (spell : A → List ℕ) (read : List �
     exact = same_values (Listed Any spell (any_at read) same tt) (AreAll P) (listed spell) (listed_at (any_at read) same tt)
         (λ items h. (h.0, chain_all (length items) items h.1)) (λ items h. (h.0, all_chain items h.1))
         (listed_exact Any spell (any_at read) same counts tt
-          (λ n w. items_exact Any spell (any_at read) same (λ s m. Unit {0}) (λ s m. f.one) (λ s m k. f.exact) (λ s m a k p short. tt) (λ s m a p. copies f.some.0 f.some.1 m) tt n tt)
-          (λ n w. copies f.some.0 f.some.1 n));
+        (λ n w. items_exact Any spell (any_at read) same (λ s m. Unit {0}) (λ s m. f.one) (λ s m k. f.exact) (λ s m a k p short. tt) (λ s m a p. copies f.some.0 f.some.1 m) tt n tt)
+        (λ n w. copies f.some.0 f.some.1 n));
   }

@@ -73,8 +73,8 @@ next_word low left n p = omega (arith, p.1)
 next_exact : (low left : ℕ) → Room_for low (suc left) → Exact (Next low left) number (rising_number low left)
 next_exact low left h =
     same_values (IsWithin low (greatest - left)) (Next low left) number (rising_number low left)
-      (λ n i. let u = i.upto in (i.from, omega (arith, h, u))) (λ n p. record { from = p.0; upto = omega (arith, p.1) })
-      (between_exact low (greatest - left) (omega (arith, h)) (omega arith))
+    (λ n i. let u = i.upto in (i.from, omega (arith, h, u))) (λ n p. record { from = p.0; upto = omega (arith, p.1) })
+    (between_exact low (greatest - left) (omega (arith, h)) (omega arith))
 
 -- a rising list, said of the whole
 after_all : (low n : ℕ) (items : List ℕ) → Chain Next next_number low n items → AllByRecursion (λ x. low ≤ x) items
@@ -128,9 +128,10 @@ room_above x (y ∷ items) a s w h =
 rise_numbers : (low : ℕ) (items : List ℕ) → AllByRecursion (λ y. low ≤ y) items → NumbersRise items → AllByRecursion IsWord items → Chain Next next_number low (length items) items
 unfolding IsStrictlySortedBy
 rise_numbers low [] l s h = tt
-rise_numbers low (x ∷ items) l s h =
-    ((l.0, room_above x items s.0 s.1 h.0 h.1),
-      rise_numbers (number_after x) items (all_map (λ y. nat_cmp x y ≡ Less) (λ y. number_after x ≤ y) items (λ y e. let lt = cmp_lt x y e in omega (arith, lt, (after_low x).1)) s.0) s.1 h.1)
+rise_numbers low (x ∷ items) l s h = (
+  (l.0, room_above x items s.0 s.1 h.0 h.1),
+  rise_numbers (number_after x) items (all_map (λ y. nat_cmp x y ≡ Less) (λ y. number_after x ≤ y) items (λ y e. let lt = cmp_lt x y e in omega (arith, lt, (after_low x).1)) s.0) s.1 h.1,
+)
 
 abbrev pub RisingNumbers : List ℕ → Type 0
 RisingNumbers items = AreAll IsWord items × NumbersRise items
@@ -142,7 +143,7 @@ from_zero (x ∷ items) = (omega arith, from_zero items)
 rising_chain : Exact (Listed Next number rising_number next_number 0) (listed number) rising_numbers_at
 rising_chain = listed_exact Next number rising_number next_number number_exact 0
     (λ n w. items_exact Next number rising_number next_number Room_for (λ s m. one_weaker (Next s m) IsWord number (next_word s m) number_one) (λ s m k. next_exact s m k)
-      (λ s m a k p short. room_after s m a p) (λ s m a p. some_rising (number_after a) m (room_after s m a p)) 0 n (omega (arith, w)))
+    (λ s m a k p short. room_after s m a p) (λ s m a p. some_rising (number_after a) m (room_after s m a p)) 0 n (omega (arith, w)))
     (λ n w. some_rising 0 n (omega (arith, w)))
 
 pub rising_numbers_field : Field RisingNumbers (listed number) rising_numbers_at
@@ -187,10 +188,13 @@ live_first (tight, bound) left n b h = record {
     low false t h = absurd (true≢false (sym t))
 
 roomy_text : (s : Bool × List ℕ) (left n : ℕ) (w : List ℕ) → n ≤ greatest → left ≤ greatest → Roomy (beginning s n) s.1 (2 ^ 63 + 4) w → Of_length s left n w
-roomy_text s left n w h k r = (r.awaits.long, record {
-  is = record { text = to_utf8 w r.awaits.text; word = omega (arith, r.awaits.long, h); above = r.awaits.above };
-  more = subst (λ (q : List ℕ). Some_texts (true, q) left) (sym r.is) (room r.front r.count left (to_utf8 r.front r.takes) r.short (omega (arith, k)));
-})
+roomy_text s left n w h k r = (
+  r.awaits.long,
+  record {
+    is = record { text = to_utf8 w r.awaits.text; word = omega (arith, r.awaits.long, h); above = r.awaits.above };
+    more = subst (λ (q : List ℕ). Some_texts (true, q) left) (sym r.is) (room r.front r.count left (to_utf8 r.front r.takes) r.short (omega (arith, k)));
+  },
+)
 
 awaits_text : (s : Bool × List ℕ) (n : ℕ) (w : List ℕ) → length w ≡ n → IsAbove s w → Awaits (beginning s n) s.1 w
 awaits_text s n w l a = record { long = l; text = from_utf8 w a.text; above = a.above }
@@ -222,18 +226,23 @@ content_yes s left n xs b k i e =
     let q = and_parts (is_utf8 (take n xs)) (is_above s.0 s.1 (take n xs)) p.1 in
     let long : length (take n xs) ≡ n = omega (arith, length-take n xs, leb-true n (length xs) p.0) in
     let text = IsUtf8-from_is_utf8 (take n xs) q.0 in
-    let short : length (take n xs) ≤ 2 ^ 63 + 4 = omega (arith, length-take n xs, i.short) in
-    ((long, record {
-      is = record { text = text; word = omega (arith, long, k); above = above_yes s (take n xs) q.1 };
-      more = subst (λ (q : List ℕ). Some_texts (true, q) left) (append-nil (take n xs)) (room (take n xs) 0 left text short (omega (arith, b.count)));
-    }), sym (take-append-drop n xs))
+    let short : length (take n xs) ≤ 2 ^ 63 + 4 = omega (arith, length-take n xs, i.short) in (
+      (
+        long,
+        record {
+          is = record { text = text; word = omega (arith, long, k); above = above_yes s (take n xs) q.1 };
+          more = subst (λ (q : List ℕ). Some_texts (true, q) left) (append-nil (take n xs)) (room (take n xs) 0 left text short (omega (arith, b.count)));
+        },
+      ),
+      sym (take-append-drop n xs),
+    )
 
 content_is : (s : Bool × List ℕ) (n : ℕ) (xs w rest : List ℕ) → xs ≡ w ++ rest → Awaits (beginning s n) s.1 w → is_content n s.0 s.1 xs ≡ true
 content_is s n xs w rest e a =
     let front : take n xs ≡ w = ap (take n) e ∙ take_at w rest n a.long in
     let enough : n ≤ length xs = omega (arith, ap length e, length-append w rest, a.long) in
     and_from (leb n (length xs)) (is_text_above s.0 s.1 (take n xs)) (le-leb n (length xs) enough)
-      (subst (λ (q : List ℕ). is_text_above s.0 s.1 q ≡ true) (sym front) (and_from (is_utf8 w) (is_above s.0 s.1 w) (is_utf8-from_IsUtf8 w (to_utf8 w a.text)) (yes_above s w a.above)))
+    (subst (λ (q : List ℕ). is_text_above s.0 s.1 q ≡ true) (sym front) (and_from (is_utf8 w) (is_above s.0 s.1 w) (is_utf8-from_IsUtf8 w (to_utf8 w a.text)) (yes_above s w a.above)))
 
 abbrev failed : ℕ → Read (List ℕ)
 failed left = Err left
@@ -262,9 +271,9 @@ content_fault s left n xs back true b h k i e is = absurd (ok_no_err (content n 
 content_fault s left n xs back false b h k i e is =
     let stops = text_stops xs (beginning s n) s.1 (2 ^ 63 + 4) (live_first s left n b h) (omega (arith, b.short)) (omega (arith, i.short)) (λ w rest f a. true≢false (sym (content_is s n xs w rest f a) ∙ e)) in
     subst (λ (q : ℕ). Stops (Spelled (Of_length s left n) itself) (Spelled (Of_length s left n) itself) xs q) (err_is (stuck_at s n xs) back is)
-      (stops_map (Roomy (beginning s n) s.1 (2 ^ 63 + 4)) (Awaits (beginning s n) s.1) (Spelled (Of_length s left n) itself) (Spelled (Of_length s left n) itself) xs (stuck_at s n xs)
-        (λ w r. (w, roomy_text s left n w k b.count r, refl))
-        (λ w p. subst (Awaits (beginning s n) s.1) (sym p.2) (awaits_text s n p.0 p.1.0 p.1.1.is)) stops)
+    (stops_map (Roomy (beginning s n) s.1 (2 ^ 63 + 4)) (Awaits (beginning s n) s.1) (Spelled (Of_length s left n) itself) (Spelled (Of_length s left n) itself) xs (stuck_at s n xs)
+    (λ w r. (w, roomy_text s left n w k b.count r, refl))
+    (λ w p. subst (Awaits (beginning s n) s.1) (sym p.2) (awaits_text s n p.0 p.1.0 p.1.1.is)) stops)
 
 content_exact : (s : Bool × List ℕ) (left n : ℕ) → Bound_for s left → least_room s.0 s.1 ≤ n → n ≤ greatest → Exact (Of_length s left n) itself (content_at n s.0 s.1)
 content_exact s left n b h k = record {
@@ -288,11 +297,11 @@ text_exact s left b =
     let low = least_room s.0 s.1 in
     let fits = least_fits s left b in
     let pairs = then_exact (IsWithin low greatest) number (number_between low greatest) (Of_length s left) (λ n. itself) (λ n. content_at n s.0 s.1)
-            (between_one low greatest (omega arith)) (between_exact low greatest fits (omega arith)) (λ n p. some_text s left n b p.from p.upto) (λ n p short. content_exact s left n b p.from p.upto) in
+    (between_one low greatest (omega arith)) (between_exact low greatest fits (omega arith)) (λ n p. some_text s left n b p.from p.upto) (λ n p short. content_exact s left n b p.from p.upto) in
     let whole = made_exact (λ (p : ℕ × List ℕ). IsWithin low greatest p.0 × Of_length s left p.0 p.1) (λ p. number p.0 ++ p.1) (then (number_between low greatest) (λ n. content_at n s.0 s.1))
-            (Next_text s left) blob (λ p. p.1)
-            (λ p h. (h.1.1, ap (λ n. number n ++ p.1) h.1.0))
-            (λ t h. ((length t, t), (record { from = least_of s left t b h.is; upto = let w = h.is.word in omega (arith, w) }, (refl, h)), refl)) pairs in
+    (Next_text s left) blob (λ p. p.1)
+    (λ p h. (h.1.1, ap (λ n. number n ++ p.1) h.1.0))
+    (λ t h. ((length t, t), (record { from = least_of s left t b h.is; upto = let w = h.is.word in omega (arith, w) }, (refl, h)), refl)) pairs in
     exact_same (Next_text s left) blob _ (rising_text s left) (λ xs. second_of (number_between low greatest xs) (λ n. content_at n s.0 s.1)) whole
 
 -- texts in a row
@@ -349,8 +358,8 @@ bound_drops s n b = record { short = b.short; text = b.text; count = let c = b.c
 texts_exact : Exact (Listed Next_text blob rising_text next_text (false, [])) (listed blob) rising_texts_at
 texts_exact = listed_exact Next_text blob rising_text next_text number_exact (false, [])
     (λ n w. items_exact Next_text blob rising_text next_text Bound_for (λ s m. one_weaker (Next_text s m) HasWord blob (λ t h. h.is.word) blob_one) (λ s m k. text_exact s m (bound_drops s m k))
-      (λ s m a k p short. bound_next s m a k p short) (λ s m a p. (p.more.0, texts_chain (true, a) m p.more.0 p.more.1)) (false, []) n
-      (record { short = lit< tt; text = λ e. absurd (true≢false (sym e)); count = omega (arith, w) }))
+    (λ s m a k p short. bound_next s m a k p short) (λ s m a p. (p.more.0, texts_chain (true, a) m p.more.0 p.more.1)) (false, []) n
+    (record { short = lit< tt; text = λ e. absurd (true≢false (sym e)); count = omega (arith, w) }))
     some_first
 
 pub rising_texts_field : Field RisingTexts (listed blob) rising_texts_at

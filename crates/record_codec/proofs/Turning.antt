@@ -198,7 +198,10 @@ top_fits r = elim (cases_lt 1 (suc r)) [
 -- from a byte on, the rest as it fills
 abbrev put_on : (f g : Follow) (b room limit : ℕ) → after_byte f b ≡ Some g → Filled (Some g) room limit → Filled (Some f) (suc room) (suc limit)
 put_on f g b room limit e c = record {
-  front = b ∷ c.front; count = c.count; long = ap suc c.long; short = omega (arith, c.short);
+  front = b ∷ c.front;
+  count = c.count;
+  long = ap suc c.long;
+  short = omega (arith, c.short);
   takes = subst (λ (o : Option Follow). Accepts o c.front) (sym e) c.takes;
 }
 

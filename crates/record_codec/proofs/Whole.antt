@@ -61,14 +61,20 @@ pub record SummaryFits (s : Summary) : Type 0 where
 
 summary_field : Field SummaryFits summary summary_at
 summary_field = make SummaryFits summary summary_from
-    (λ p h. (record {
-      wide = record { links = h.0.0.0; subject = h.1.0.0; from = h.1.1.0.0; to = h.1.1.1.0.0 };
-      links = h.0.1;
-      sent = h.1.1.1.1.0;
-      texts = (h.0.0.1, h.1.0.1, h.1.1.0.1, h.1.1.1.0.1);
-    }, refl))
-    (λ s h. ((s.links, (s.subject, (s.from, (s.to, (s.sent, s.attachment))))),
-      (((h.wide.links, h.texts.0), h.links), ((h.wide.subject, h.texts.1), ((h.wide.from, h.texts.2), ((h.wide.to, h.texts.3), (h.sent, tt))))), refl))
+    (λ p h. (
+      record {
+        wide = record { links = h.0.0.0; subject = h.1.0.0; from = h.1.1.0.0; to = h.1.1.1.0.0 };
+        links = h.0.1;
+        sent = h.1.1.1.1.0;
+        texts = (h.0.0.1, h.1.0.1, h.1.1.0.1, h.1.1.1.0.1);
+      },
+      refl,
+    ))
+    (λ s h. (
+      (s.links, (s.subject, (s.from, (s.to, (s.sent, s.attachment))))),
+      (((h.wide.links, h.texts.0), h.links), ((h.wide.subject, h.texts.1), ((h.wide.from, h.texts.2), ((h.wide.to, h.texts.3), (h.sent, tt))))),
+      refl,
+    ))
     (pair rising_texts_field (pair text_field (pair text_field (pair text_field (pair date_option truth_field)))))
 
 -- ---- mailboxes
@@ -87,15 +93,28 @@ has_both o h k x e = (h x e, k x e)
 
 mailbox_field : Field MailboxFits mailbox mailbox_at
 mailbox_field = make MailboxFits mailbox mailbox_from
-    (λ p h. (record {
-      wide = record {
-        number = h.0; name = h.1.0.0; parent = h.1.1.0; role = has_word p.1.1.1.0 h.1.1.1.0; sort_order = h.1.1.1.1.0;
-        total_emails = h.1.1.1.1.1.1.0; unread_emails = h.1.1.1.1.1.1.1.0; total_threads = h.1.1.1.1.1.1.1.1.0; unread_threads = h.1.1.1.1.1.1.1.1.1;
-      };
-      texts = (h.1.0.1, has_text p.1.1.1.0 h.1.1.1.0);
-    }, refl))
-    (λ m h. ((m.number, (m.name, (m.parent, (m.role, (m.sort_order, (m.subscribed, (m.total_emails, (m.unread_emails, (m.total_threads, m.unread_threads))))))))),
-      (h.wide.number, ((h.wide.name, h.texts.0), (h.wide.parent, (has_both m.role h.wide.role h.texts.1, (h.wide.sort_order, (tt, (h.wide.total_emails, (h.wide.unread_emails, (h.wide.total_threads, h.wide.unread_threads))))))))), refl))
+    (λ p h. (
+      record {
+        wide = record {
+          number = h.0;
+          name = h.1.0.0;
+          parent = h.1.1.0;
+          role = has_word p.1.1.1.0 h.1.1.1.0;
+          sort_order = h.1.1.1.1.0;
+          total_emails = h.1.1.1.1.1.1.0;
+          unread_emails = h.1.1.1.1.1.1.1.0;
+          total_threads = h.1.1.1.1.1.1.1.1.0;
+          unread_threads = h.1.1.1.1.1.1.1.1.1;
+        };
+        texts = (h.1.0.1, has_text p.1.1.1.0 h.1.1.1.0);
+      },
+      refl,
+    ))
+    (λ m h. (
+      (m.number, (m.name, (m.parent, (m.role, (m.sort_order, (m.subscribed, (m.total_emails, (m.unread_emails, (m.total_threads, m.unread_threads))))))))),
+      (h.wide.number, ((h.wide.name, h.texts.0), (h.wide.parent, (has_both m.role h.wide.role h.texts.1, (h.wide.sort_order, (tt, (h.wide.total_emails, (h.wide.unread_emails, (h.wide.total_threads, h.wide.unread_threads))))))))),
+      refl,
+    ))
     (pair number_field (pair text_field (pair number_option (pair text_option (pair number_field (pair truth_field (pair number_field (pair number_field (pair number_field number_field)))))))))
 
 -- ---- emails
@@ -107,15 +126,41 @@ pub record EmailFits (e : Email) : Type 0 where
 
 email_field : Field EmailFits email email_at
 email_field = make EmailFits email email_from
-    (λ p h. (record {
-      wide = record { number = h.0; thread = h.1.0; blob = h.1.1.0; mailboxes = h.1.1.1.0.0; keywords = h.1.1.1.1.0.0.0; size = h.1.1.1.1.1.0; summary = h.1.1.1.1.1.1.1.wide };
-      formed = record { mailboxes = h.1.1.1.0.1; keywords = h.1.1.1.1.0.1; links = h.1.1.1.1.1.1.1.links; received = h.1.1.1.1.1.1.0; sent = h.1.1.1.1.1.1.1.sent };
-      keywords = h.1.1.1.1.0.0.1;
-      texts = h.1.1.1.1.1.1.1.texts;
-    }, refl))
-    (λ e h. ((e.number, (e.thread, (e.blob, (e.mailboxes, (e.keywords, (e.size, (e.received, e.summary))))))),
-      (h.wide.number, (h.wide.thread, (h.wide.blob, ((h.wide.mailboxes, h.formed.mailboxes), (((h.wide.keywords, h.keywords), h.formed.keywords), (h.wide.size, (h.formed.received,
-        record { wide = h.wide.summary; links = h.formed.links; sent = h.formed.sent; texts = h.texts }))))))), refl))
+    (λ p h. (
+      record {
+        wide = record { number = h.0; thread = h.1.0; blob = h.1.1.0; mailboxes = h.1.1.1.0.0; keywords = h.1.1.1.1.0.0.0; size = h.1.1.1.1.1.0; summary = h.1.1.1.1.1.1.1.wide };
+        formed = record { mailboxes = h.1.1.1.0.1; keywords = h.1.1.1.1.0.1; links = h.1.1.1.1.1.1.1.links; received = h.1.1.1.1.1.1.0; sent = h.1.1.1.1.1.1.1.sent };
+        keywords = h.1.1.1.1.0.0.1;
+        texts = h.1.1.1.1.1.1.1.texts;
+      },
+      refl,
+    ))
+    (λ e h. (
+      (e.number, (e.thread, (e.blob, (e.mailboxes, (e.keywords, (e.size, (e.received, e.summary))))))),
+      (
+        h.wide.number,
+        (
+          h.wide.thread,
+          (
+            h.wide.blob,
+            (
+              (h.wide.mailboxes, h.formed.mailboxes),
+              (
+                ((h.wide.keywords, h.keywords), h.formed.keywords),
+                (
+                  h.wide.size,
+                  (
+                    h.formed.received,
+                    record { wide = h.wide.summary; links = h.formed.links; sent = h.formed.sent; texts = h.texts },
+                  ),
+                ),
+              ),
+            ),
+          ),
+        ),
+      ),
+      refl,
+    ))
     (pair number_field (pair number_field (pair number_field (pair rising_numbers_field (pair rising_texts_field (pair number_field (pair date_field summary_field)))))))
 
 -- ---- threads
@@ -149,9 +194,6 @@ body (DropThread n) = number n
 
 abbrev Tagged : ℕ → Edit → Type 0
 Tagged t e = (tag_of e ≡ t) × EditFits e
-
-no_tag : (m n : ℕ) → (m ≡ n → ⊥) → m ≡ n → ⊥
-no_tag m n h = h
 
 put_mailbox_field : Field (Tagged 1) body put_mailbox_at
 put_mailbox_field = make (Tagged 1) body (λ p. PutMailbox p.0 p.1.0 p.1.1) (λ p h. ((refl, h.0), refl)) from (pair mailbox_field (pair truth_field truth_field))
@@ -283,7 +325,7 @@ pub record CommitFits (c : Commit) : Type 0 where
 pub commit_field : Field CommitFits spelling commit_at
 commit_field = make CommitFits spelling commit_from
     (λ p h. let one : 1 ≡ p.0 = omega (arith, h.0.0, h.0.1) in
-      (record { pass = h.1.0; serial = h.1.1.0; blobs = h.1.1.1.0; edits = h.1.1.1.1 }, ap (λ (t : ℕ). t ∷ (number p.1.0 ++ (number p.1.1.0 ++ (listed blob p.1.1.1.0 ++ listed edit p.1.1.1.1)))) one))
+    (record { pass = h.1.0; serial = h.1.1.0; blobs = h.1.1.1.0; edits = h.1.1.1.1 }, ap (λ (t : ℕ). t ∷ (number p.1.0 ++ (number p.1.1.0 ++ (listed blob p.1.1.1.0 ++ listed edit p.1.1.1.1)))) one))
     (λ c h. ((1, (c.stamp.pass, (c.stamp.serial, (c.blobs, c.edits)))), ((lit≤ tt, lit≤ tt), (h.pass, (h.serial, (h.blobs, h.edits)))), refl))
     (pair (tag_field 1 (lit≤ tt)) (pair number_field (pair number_field (pair blobs_field edits_field))))
 
@@ -331,7 +373,8 @@ edit_fits (DropThread n) h = h.0
 has_spelling : (c : Commit) → CommitFits c → HasSpelling c
 has_spelling c h = record {
   wide = record {
-    pass = h.pass; serial = h.serial;
+    pass = h.pass;
+    serial = h.serial;
     blobs = (h.blobs.0, all_map IsBlob HasWord c.blobs (λ b k. k.0) h.blobs.1);
     edits = (h.edits.0, all_map EditFits IsWideEdit c.edits edit_wide h.edits.1);
   };
@@ -342,10 +385,14 @@ has_spelling c h = record {
 
 commit_fits : (c : Commit) → HasSpelling c → CommitFits c
 commit_fits c h = record {
-  pass = h.wide.pass; serial = h.wide.serial;
+  pass = h.wide.pass;
+  serial = h.wide.serial;
   blobs = (h.wide.blobs.0, both_all HasWord AreBytes c.blobs h.wide.blobs.1 h.blobs);
-  edits = (h.wide.edits.0, all_map (λ e. IsWideEdit e × (IsFormedEdit e × HasTextsInEdit e)) EditFits c.edits edit_fits
-    (both_all IsWideEdit (λ e. IsFormedEdit e × HasTextsInEdit e) c.edits h.wide.edits.1 (both_all IsFormedEdit HasTextsInEdit c.edits h.formed h.texts)));
+  edits = (
+    h.wide.edits.0,
+    all_map (λ e. IsWideEdit e × (IsFormedEdit e × HasTextsInEdit e)) EditFits c.edits edit_fits
+        (both_all IsWideEdit (λ e. IsFormedEdit e × HasTextsInEdit e) c.edits h.wide.edits.1 (both_all IsFormedEdit HasTextsInEdit c.edits h.formed h.texts)),
+  );
 }
 
 abbrev Commits : List ℕ → Type 0
@@ -405,8 +452,8 @@ over_place xs c rest h e n =
     let long : length xs - length rest ≡ length s = place_of xs s rest f.1 in
     let front : take (length s) xs ≡ s = ap (take (length s)) f.1 ∙ take_at s rest (length s) refl in
     let further : (b : ℕ) (more ys : List ℕ) → rest ≡ b ∷ more → ¬ Commits (s ++ b ∷ ys) = λ b more ys g k.
-        let same : s ++ b ∷ ys ≡ spelling k.0 ++ [] = k.2 ∙ sym (append-nil (spelling k.0)) in
-        nothing_behind b ys (commit_field.one c k.0 (b ∷ ys) [] f.0 k.1 same).1 in
+    let same : s ++ b ∷ ys ≡ spelling k.0 ++ [] = k.2 ∙ sym (append-nil (spelling k.0)) in
+    nothing_behind b ys (commit_field.one c k.0 (b ∷ ys) [] f.0 k.1 same).1 in
     let there : IsPlace xs (length s) = record {
       within = omega (arith, ap length f.1, length-append s rest);
       begins = (c, [], record { has = has_spelling c f.0; is = append-nil (take (length s) xs) ∙ front });

@@ -1,5 +1,5 @@
 -- Reading of fields, by which the readers are told. What is read so is a value's one spelling, and where it stops no
--- spelling goes on: proofs/Commits.antt shows that of the whole.
+-- spelling goes on (proofs/Whole.antt).
 use Rattle.std.specs.Prelude.{◌≡◌, ℕ, zero, suc, List, [], ◌∷◌, Result, Ok, Err, ⊤}
 use Rattle.record_codec.specs.declared.faults.Misread.{Misread}
 use Rattle.record_codec.specs.declared.faults.Misread.TheVariants as faults

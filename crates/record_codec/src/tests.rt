@@ -97,7 +97,9 @@ fn what_is_no_commit_is_refused_at_its_place(rt: HostRuntime) -> Result<(), Fail
 fn spellings_are_read_and_written_again(rt: HostRuntime) -> Result<(), Fail> {
     for words in &READ {
         let bytes = bytes_of(rt.alloc(), words)?;
-        let again = there_and_back(rt.alloc(), &bytes).ok().ok_or("it is a spelling")?;
+        let again = there_and_back(rt.alloc(), &bytes)
+            .ok()
+            .ok_or("it is a spelling")?;
         assert_eq!(rt; again.as_slice(), bytes.as_slice());
     }
     Ok(())

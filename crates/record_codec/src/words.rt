@@ -39,7 +39,13 @@ fn left_of(above: bool, below: bool, lows: &[u8], highs: &[u8], bytes: &[u8]) ->
     if (!above && *byte < *low) || (!below && *high < *byte) {
         return bytes.len();
     }
-    left_of(above || *low < *byte, below || *byte < *high, lows, highs, rest)
+    left_of(
+        above || *low < *byte,
+        below || *byte < *high,
+        lows,
+        highs,
+        rest,
+    )
 }
 
 /// A number from `low` to `high`, and the bytes behind it.

@@ -13,7 +13,7 @@ returns-in_err-text c =
 pub loop-preserved : goal.loop-preserved
 loop-preserved c =
     text_more c.loop.texts.items c.push.new.self.items c.args.count c.loop.counter (c.loop.tight, c.loop.bound.now) c.loop.rest.now c.in_ok-text.text.now c.in_ok-from_str.field-0 c.as_bytes-bound.result.now c.in_ok-text.after.now
-      (items_at rising_text next_text (false, []) c.args.count c.args.bytes.now) c.loop-test.true c.in_ok-text.ensures c.in_ok-from_str.ensures c.as_bytes-bound.ensures.value c.in_ok-push.ensures.items c.loop.invariant
+    (items_at rising_text next_text (false, []) c.args.count c.args.bytes.now) c.loop-test.true c.in_ok-text.ensures c.in_ok-from_str.ensures c.as_bytes-bound.ensures.value c.in_ok-push.ensures.items c.loop.invariant
 
 pub returns : goal.returns
 returns c = is_done rising_text next_text c.loop.texts.items c.args.count c.loop.counter (c.loop.tight, c.loop.bound.now) c.loop.rest.now (items_at rising_text next_text (false, []) c.args.count c.args.bytes.now) c.loop-test.false c.loop.invariant
