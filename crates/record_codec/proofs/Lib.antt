@@ -12,3 +12,4 @@ pub mod Least
 pub mod Rising
 pub mod Flags
 pub mod Whole
+pub mod Wide

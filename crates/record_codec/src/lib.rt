@@ -15,10 +15,12 @@ mod stored;
 #[cfg(test)]
 mod tests;
 mod texts;
+mod widths;
 mod words;
 mod writing;
 
 pub use faults::CodecFault;
 pub use laws::one_spelling;
 pub use reading::decode;
+pub use widths::is_wide;
 pub use writing::encode;
