@@ -1,2 +1,15 @@
 pub mod OneForm
 pub mod OfCommits
+pub mod Loops
+pub mod Exact
+pub mod Items
+pub mod Between
+pub mod Utf
+pub mod Turning
+pub mod Contents
+pub mod Room
+pub mod Least
+pub mod Rising
+pub mod Flags
+pub mod Whole
+pub mod Wide

@@ -46,7 +46,7 @@ optional_one P spell one (Some a) (Some b) x y p q e =
     let r = one a b x y (p a refl) (q b refl) cc in
     (ap Some r.0, r.1)
 
-items_one : {A : Type 0} (P : A → Type 0) (spell : A → List ℕ) → OneForm P spell → (us bs : List A) (x y : List ℕ) → length us ≡ length bs → AllByRecursion P us → AllByRecursion P bs → flat_map spell us ++ x ≡ flat_map spell bs ++ y → (us ≡ bs) × (x ≡ y)
+pub items_one : {A : Type 0} (P : A → Type 0) (spell : A → List ℕ) → OneForm P spell → (us bs : List A) (x y : List ℕ) → length us ≡ length bs → AllByRecursion P us → AllByRecursion P bs → flat_map spell us ++ x ≡ flat_map spell bs ++ y → (us ≡ bs) × (x ≡ y)
 items_one P spell one [] [] x y h p q e = (refl, e)
 items_one P spell one [] (b ∷ bs) x y h p q e = absurd (omega (arith, h))
 items_one P spell one (a ∷ us) [] x y h p q e = absurd (omega (arith, h))

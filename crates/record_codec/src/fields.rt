@@ -7,7 +7,10 @@ ghost use Rattle.record_codec.specs.Spelling.{number, blob, listed, truth, optio
 use jm_base::{Bytes, NoMemory, Text, UtcDate};
 
 /// The seconds from the beginning of the year 1 to that of 1970.
-const YEARS_BEFORE_1970: i64 = 62135596800;
+pub const YEARS_BEFORE_1970: i64 = 62135596800;
+
+/// The last second of the year 9999, counted from the beginning of the year 1.
+pub const LAST_SECOND: u64 = 315537897599;
 
 #[tactic(auto, unfolding(crate::specs::Spelling::number))]
 /// A number, put behind the bytes: 8 of them, the big end first.
