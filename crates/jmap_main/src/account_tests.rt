@@ -19,7 +19,15 @@ fn written(
     let mut err = MemorySink::new(alloc);
     let words = vec![in alloc; String::from_str(alloc, "batch")?]?;
     let words = words.as_slice();
-    let status = run(rt, alloc, words, &mut source, &mut out, &mut err, &mut NoWorld);
+    let status = run(
+        rt,
+        alloc,
+        words,
+        &mut source,
+        &mut out,
+        &mut err,
+        &mut NoWorld,
+    );
     if status != Status(0) {
         return Ok(None);
     }
@@ -68,10 +76,7 @@ fn makes_mailboxes_in_rounds(rt: HostRuntime) -> Result<(), Fail> {
 
 // A call alone, and the type of its error.
 const ERRORS: &[(&str, &str)] = &[
-    (
-        "[\"Mailbox/get\",{},\"0\"]",
-        "invalidArguments",
-    ),
+    ("[\"Mailbox/get\",{},\"0\"]", "invalidArguments"),
     (
         "[\"Mailbox/get\",{\"accountId\":7},\"0\"]",
         "invalidArguments",
@@ -114,8 +119,12 @@ const ERRORS: &[(&str, &str)] = &[
 fn names_what_is_wrong_with_a_call(rt: HostRuntime) -> Result<(), Fail> {
     let alloc = rt.alloc();
     for (call, kind) in ERRORS {
-        let input = format!(in alloc; "{{\"using\":[\"urn:ietf:params:jmap:core\",\"urn:ietf:params:jmap:mail\"],\"methodCalls\":[{call}]}}")?;
-        let reply = format!(in alloc; "{{\"methodResponses\":[[\"error\",{{\"type\":\"{kind}\"}},\"0\"]],\"sessionState\":\"0\"}}\n")?;
+        let input = format!(in alloc;
+            "{{\"using\":[\"urn:ietf:params:jmap:core\",\"urn:ietf:params:jmap:mail\"],\"methodCalls\":[{call}]}}"
+        )?;
+        let reply = format!(in alloc;
+            "{{\"methodResponses\":[[\"error\",{{\"type\":\"{kind}\"}},\"0\"]],\"sessionState\":\"0\"}}\n"
+        )?;
         assert!(rt; writes(&rt, alloc, input.as_str(), reply.as_str())?);
     }
     Ok(())

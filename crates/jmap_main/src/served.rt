@@ -56,12 +56,7 @@ impl AccountPort {
     }
 
     // Performs a call on the account.
-    fn perform(
-        &mut self,
-        alloc: Global,
-        call: Invocation,
-        made: Made,
-    ) -> Result<Replied, NoMemory>
+    fn perform(&mut self, alloc: Global, call: Invocation, made: Made) -> Result<Replied, NoMemory>
         ensures step { IfOk result (λ r. IsStep (after_plan self.old (call_of call) (method_plan self.old (call_of call) made false)) r self.new) }
         ensures same { OnErr result (self.new ≡ self.old) }
     {
@@ -196,12 +191,7 @@ impl Port for AccountPort {
 
     ghost answers = { λ s c made r t. IsStep (step s c made) r t };
 
-    fn call(
-        &mut self,
-        alloc: Global,
-        call: &Invocation,
-        made: &Made,
-    ) -> Result<Replied, NoMemory> {
+    fn call(&mut self, alloc: Global, call: &Invocation, made: &Made) -> Result<Replied, NoMemory> {
         match account_error(call) {
             Some(kind) => error_reply(alloc, kind, call),
             None => self.perform(alloc, call.copy(alloc)?, copy_made(alloc, made)?),

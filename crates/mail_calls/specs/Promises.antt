@@ -143,10 +143,13 @@ same_whole summary h g floor base edits blobs w =
     record {
       sound = record {
         fits = subst (AllFit g.base) edits (subst (λ (c : Content). AllFit c (edits_of h)) base w.sound.fits);
-        one_thread = (one.0, record {
-          in_base = subst (λ (c : Content). AllByRecursion (λ (x : Email). one.0 x.number ≡ x.thread) c.emails) base one.1.in_base;
-          in_edits = subst (AllByRecursion (NamesThread one.0)) edits one.1.in_edits;
-        });
+        one_thread = (
+          one.0,
+          record {
+            in_base = subst (λ (c : Content). AllByRecursion (λ (x : Email). one.0 x.number ≡ x.thread) c.emails) base one.1.in_base;
+            in_edits = subst (AllByRecursion (NamesThread one.0)) edits one.1.in_edits;
+          },
+        );
       };
       tidy = subst IsTidy content w.tidy;
       messages = subst (λ (c : Content). AllByRecursion (HasMessage summary (blobs_of g)) c.emails) content (subst (λ (bs : List (List ℕ)). AllByRecursion (HasMessage summary bs) (content_of h).emails) blobs w.messages);

@@ -34,11 +34,9 @@ impl Rules for MailRules {
             Ask::Method(method) => {
                 plan_method(alloc, account, method, &call.made, call.read_only)
             }
-            Ask::Upload(_)
-            | Ask::Blob(_)
-            | Ask::Fetch(_)
-            | Ask::Place(_, _)
-            | Ask::States => Ok(silent(alloc)),
+            Ask::Upload(_) | Ask::Blob(_) | Ask::Fetch(_) | Ask::Place(_, _) | Ask::States => Ok(
+                silent(alloc),
+            ),
         }
     }
 

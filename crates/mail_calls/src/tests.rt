@@ -1,1 +1,98 @@
-// Plans over an account in which nothing has been yet.
+// Calls on a book by the rules of mail. The expected arguments are those of RFC 8620, sections 3.6.2, 5.1 and 5.3.
+use crate::MailRules;
+use account_book::{Ask, Book, Call, Out};
+use jm_base::{Bytes, NoMemory, Text};
+use jm_json::{Invocation, Json, Made, read, write};
+use mail_records::Stamp;
+use std::alloc::Global;
+use std::test::Fail;
+
+// The arguments of the first response, and nothing where there is none.
+fn shown(alloc: Global, out: Out) -> Result<Bytes, NoMemory> {
+    match out {
+        Out::Replies(replied) => match replied.responses.as_slice() {
+            [first, ..] => write(alloc, &first.args),
+            [] => Ok(Bytes::new(alloc)),
+        },
+        Out::Uploaded(_)
+        | Out::Full
+        | Out::Failed
+        | Out::Blob(_)
+        | Out::Carried(_)
+        | Out::States { .. } => Bytes::from_slice(alloc, b"no response"),
+    }
+}
+
+// What is asked of the book, and the arguments of its answer.
+fn asked(alloc: Global, book: &mut Book<MailRules>, ask: Ask) -> Result<Bytes, NoMemory> {
+    let call = Call {
+        ask,
+        made: Made::new(alloc),
+        read_only: false,
+    };
+    let stamp = Stamp { pass: 1, serial: 1 };
+    let done = book.perform(alloc, &call, stamp, 0)?;
+    shown(alloc, done.out)
+}
+
+fn method(alloc: Global, name: &str, args: Json) -> Result<Ask, NoMemory> {
+    Ok(Ask::Method(Invocation {
+        name: Text::from_str(alloc, name)?,
+        args,
+        id: Text::from_str(alloc, "0")?,
+    }))
+}
+
+fn answers(
+    alloc: Global,
+    book: &mut Book<MailRules>,
+    name: &str,
+    args: &str,
+    expected: &str,
+) -> Result<bool, Fail> {
+    match read(alloc, args.as_bytes()) {
+        Ok(args) => {
+            let ask = method(alloc, name, args)?;
+            Ok(asked(alloc, book, ask)?.as_slice() == expected.as_bytes())
+        }
+        Err(_) => Ok(false),
+    }
+}
+
+#[test]
+fn performs_the_methods_of_mail(rt: HostRuntime) -> Result<(), Fail> {
+    let alloc = rt.alloc();
+    let mut book = Book::begin(alloc, MailRules)?;
+    let rows = [
+        (
+            "Mailbox/set",
+            "{\"accountId\":\"A\",\"ifInState\":\"0\"}",
+            "{\"accountId\":\"A\",\"created\":null,\"destroyed\":null,\"newState\":\"0\",\"notCreated\":null,\"notDestroyed\":null,\"notUpdated\":null,\"oldState\":\"0\",\"updated\":null}",
+        ),
+        (
+            "Mailbox/get",
+            "{\"accountId\":\"A\",\"ids\":null}",
+            "{\"accountId\":\"A\",\"list\":[],\"notFound\":[],\"state\":\"0\"}",
+        ),
+        ("Mailbox/get", "{}", "{\"type\":\"invalidArguments\"}"),
+        (
+            "Mailbox/set",
+            "{\"accountId\":\"A\",\"ifInState\":\"1\"}",
+            "{\"type\":\"stateMismatch\"}",
+        ),
+        ("Email/get", "{}", "{\"type\":\"unknownMethod\"}"),
+    ];
+    for (name, args, expected) in &rows {
+        assert!(rt; answers(alloc, &mut book, name, args, expected)?);
+    }
+    Ok(())
+}
+
+#[test]
+fn answers_nothing_else_yet(rt: HostRuntime) -> Result<(), Fail> {
+    let alloc = rt.alloc();
+    let mut book = Book::begin(alloc, MailRules)?;
+    let answer = asked(alloc, &mut book, Ask::States)?;
+    assert!(rt; answer.is_empty());
+    Ok(())
+}
