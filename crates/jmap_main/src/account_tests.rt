@@ -14,7 +14,7 @@ fn written(
     alloc: Global,
     input: &str,
 ) -> Result<Option<Bytes>, Fail> {
-    let mut source = MemorySource::new(input.as_bytes().to_vec(alloc)?);
+    let mut source = MemorySource::new(alloc, input.as_bytes().to_vec(alloc)?);
     let mut out = MemorySink::new(alloc);
     let mut err = MemorySink::new(alloc);
     let words = vec![in alloc; String::from_str(alloc, "batch")?]?;
