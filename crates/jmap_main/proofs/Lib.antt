@@ -7,3 +7,4 @@ pub mod Ends
 pub mod LeafFacts
 pub mod Messages
 pub mod Replied
+pub mod Written

@@ -1,18 +1,23 @@
 -- What the port of `batch` replies to a call: it serves one account, which its one user may change.
 use Rattle.std.specs.Prelude.{◌≡◌, ℕ, ◌+◌, ◌^◌, ◌-◌, min, List, [], ◌∷◌, length, Bool, true, false, not, ◌&&◌, ◌||◌, nat_le, Option, Some, None, is_some, is_none, unwrap_or, option_and_then, cond, codes, bytes_eq}
 use Rattle.jm_json.specs.Call.{Call as Invocation}
+use Rattle.jm_json.specs.Invoked.{call_of}
+use Rattle.jm_json.specs.declared.invocation.Invocation.{Invocation as TheInvocation}
 use Rattle.jm_json.specs.Find.{find, as_text, as_object}
 use Rattle.jm_json.specs.Tree.{Tree}
 use Rattle.jm_json.specs.declared.invocation.Created.{Created}
 use Rattle.jm_json.specs.declared.invocation.Replied.{Replied}
 use Rattle.method_batch.specs.Prepared.{error_of}
-use Rattle.mail_records.specs.Histories.{History, Committed, edits_of, grown}
+use Rattle.mail_records.specs.Histories.{History, Committed, edits_of, account_after, grown}
 use Rattle.mail_records.specs.declared.edits.Stamp.{Stamp}
-use Rattle.account_book.specs.Replies.{edit_bytes, edit_limit, commit_of}
+use Rattle.account_book.specs.Replies.{IsReply, edit_bytes, edit_limit, commit_of}
+use Rattle.account_book.specs.declared.asks.Ask.TheVariants.{Method}
+use Rattle.account_book.specs.declared.asks.Call.{Call as TheCall}
+use Rattle.account_book.specs.declared.plans.Point.{Point}
 use Rattle.account_book.specs.declared.plans.Out.{Out}
 use Rattle.account_book.specs.declared.plans.Out.TheVariants.{Replies, Uploaded, Full, Failed, Blob, Carried, States}
 use Rattle.account_book.specs.declared.plans.Plan.{Plan}
-use Rattle.mail_calls.specs.Plans.{method_plan}
+use Rattle.mail_calls.specs.Plans.{method_plan, call_plan}
 use Rattle.jmap_main.specs.Steps.{Steps}
 
 -- the account's identifier
@@ -87,3 +92,21 @@ step h c made = unless_error h c made (account_error c)
 -- the steps of the port
 abbrev pub account_steps : Steps History
 account_steps = record { replied = λ h c made. (step h c made).replied; next = λ h c made. (step h c made).history }
+
+-- ---- the law of the steps
+
+-- the call on the account that a method call is
+abbrev pub asked : TheInvocation → List Created → TheCall
+asked c made = record { ask = Method c; made = made; read_only = false }
+
+-- the point from one history to the next, of the one account, at the moment 0
+abbrev pub point_between : History → History → Point
+point_between h next = record { account = 0; before = length h.entries; after = length next.entries; moment = 0 }
+
+-- What the call is replied is the written reply at a point of the history that it leaves: the point has the entries that were
+-- there before the call.
+abbrev pub IsWritten : History → TheInvocation → List Created → Type 0
+IsWritten h c made =
+    (out : Out) × ((step h (call_of c) made).replied ≡ replied_of out)
+    × IsReply (λ x call moment. call_plan x call) edit_bytes (step h (call_of c) made).history (point_between h (step h (call_of c) made).history) (asked c made) (stamp_after h) out
+    × (account_after (step h (call_of c) made).history (length h.entries) ≡ h)

@@ -5,8 +5,12 @@ ghost use Rattle.jm_json.specs.Invoked.{call_of};
 ghost use Rattle.jm_json.specs.declared.invocation.Replied.{Replied as TheReplied};
 ghost use Rattle.method_batch.specs.Prepared.{error_of};
 ghost use Rattle.mail_records.specs.Histories.{empty_history};
+ghost use Rattle.mail_records.specs.Histories.{History};
 ghost use Rattle.mail_calls.specs.Plans.{method_plan};
-ghost use Rattle.jmap_main.specs.Served.{IsStep, account_error, account_steps, after_plan, from_error, is_account, is_copy, replied_of, stamp_after, step, text_in, to_error};
+ghost use Rattle.mail_calls.specs.Promises.{IsWholeAlways};
+ghost use Rattle.jm_json.specs.declared.invocation.Invocation.{Invocation as TheInvocation};
+ghost use Rattle.jm_json.specs.declared.invocation.Created.{Created as TheCreated};
+ghost use Rattle.jmap_main.specs.Served.{IsStep, IsWritten, account_error, account_steps, after_plan, from_error, is_account, is_copy, replied_of, stamp_after, step, text_in, to_error};
 
 use crate::steps::StepPort;
 use account_book::{Ask, Book, Call, Out};
@@ -203,4 +207,12 @@ impl StepPort for AccountPort {
     ghost steps = { account_steps };
 
     ghost determined = { λ s c made r t h. h };
+}
+
+/// The law of the account that `batch` serves. A call that names it is replied by the written reply at a point of the history
+/// that the call leaves, which begins with the history before it; and a whole account stays whole.
+pub(crate) fn steps_are_written()
+    ensures written { (h : History) (c : TheInvocation) (made : List TheCreated) → account_error (call_of c) ≡ None → IsWritten h c made }
+    ensures whole { (h : History) (c : TheInvocation) (made : List TheCreated) → IsWholeAlways h → IsWholeAlways (step h (call_of c) made).history }
+{
 }
