@@ -13,15 +13,15 @@ use Rattle.account_book.specs.declared.plans.Out.{Out}
 use Rattle.account_book.specs.declared.plans.Plan.{Plan}
 use Rattle.account_book.specs.declared.plans.Point.{Point}
 use Rattle.mail_calls.specs.Plans.{method_plan}
-use Rattle.jmap_main.specs.Served.{IsStep, after_plan, replied_of, stamp_after, is_none_left}
+use Rattle.jmap_main.specs.Served.{IsStep, after_plan, replied_of, stamp_after, is_empty}
 
-some_left : {A B : Type 0} (xs : List A) (ys : List B) → ¬ ((xs ≡ []) × (ys ≡ [])) → (is_none_left xs && is_none_left ys) ≡ false
+some_left : {A B : Type 0} (xs : List A) (ys : List B) → ¬ ((xs ≡ []) × (ys ≡ [])) → (is_empty xs && is_empty ys) ≡ false
 some_left [] [] h = absurd (h (refl, refl))
 some_left [] (y ∷ ys) h = refl
 some_left (x ∷ xs) ys h = refl
 
-none_left : {A B : Type 0} (xs : List A) (ys : List B) → xs ≡ [] → ys ≡ [] → (is_none_left xs && is_none_left ys) ≡ true
-none_left xs ys e f = ap₂ (λ us vs. is_none_left us && is_none_left vs) e f
+none_left : {A B : Type 0} (xs : List A) (ys : List B) → xs ≡ [] → ys ≡ [] → (is_empty xs && is_empty ys) ≡ true
+none_left xs ys e f = ap₂ (λ us vs. is_empty us && is_empty vs) e f
 
 past_limit : (a b : ℕ) → ¬ (a ≤ b) → nat_le a b ≡ false
 past_limit a b h = by_test (nat_le a b) refl

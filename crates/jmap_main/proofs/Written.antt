@@ -12,32 +12,32 @@ use Rattle.account_book.specs.declared.plans.Out.{Out}
 use Rattle.account_book.specs.declared.plans.Plan.{Plan}
 use Rattle.mail_calls.specs.Plans.{method_plan, call_plan}
 use Rattle.mail_calls.specs.Promises.{IsWholeAlways, plan_keeps}
-use Rattle.jmap_main.specs.Served.{Step, IsWritten, account_error, after_plan, unless_error, step, asked, point_between, replied_of, stamp_after, is_none_left}
+use Rattle.jmap_main.specs.Served.{Step, IsWritten, account_error, after_plan, unless_error, step, asked, point_between, replied_of, stamp_after, is_empty}
 
-nothing_of : {A : Type 0} (xs : List A) → is_none_left xs ≡ true → xs ≡ []
+nothing_of : {A : Type 0} (xs : List A) → is_empty xs ≡ true → xs ≡ []
 nothing_of [] e = refl
 nothing_of (x ∷ xs) e = absurd (false_true e)
   where
     false_true : false ≡ true → ⊥
     false_true e = cc
 
-both_none : {A B : Type 0} (xs : List A) (ys : List B) → (is_none_left xs && is_none_left ys) ≡ true → (xs ≡ []) × (ys ≡ [])
+both_none : {A B : Type 0} (xs : List A) (ys : List B) → (is_empty xs && is_empty ys) ≡ true → (xs ≡ []) × (ys ≡ [])
 both_none [] ys e = (refl, nothing_of ys e)
 both_none (x ∷ xs) ys e = absurd (false_true e)
   where
     false_true : false ≡ true → ⊥
     false_true e = cc
 
-not_both : {A B : Type 0} (xs : List A) (ys : List B) → (is_none_left xs && is_none_left ys) ≡ false → ¬ ((xs ≡ []) × (ys ≡ []))
+not_both : {A B : Type 0} (xs : List A) (ys : List B) → (is_empty xs && is_empty ys) ≡ false → ¬ ((xs ≡ []) × (ys ≡ []))
 not_both xs ys e h = absurd (true_false (sym (both xs ys h) ∙ e))
   where
     true_false : true ≡ false → ⊥
     true_false e = cc
 
-    both : {A B : Type 0} (xs : List A) (ys : List B) → (xs ≡ []) × (ys ≡ []) → (is_none_left xs && is_none_left ys) ≡ true
+    both : {A B : Type 0} (xs : List A) (ys : List B) → (xs ≡ []) × (ys ≡ []) → (is_empty xs && is_empty ys) ≡ true
     both [] [] h = refl
-    both [] (y ∷ ys) h = ap is_none_left h.1
-    both (x ∷ xs) ys h = ap (λ zs. is_none_left zs && is_none_left ys) h.0 ∙ ap is_none_left h.1
+    both [] (y ∷ ys) h = ap is_empty h.1
+    both (x ∷ xs) ys h = ap (λ zs. is_empty zs && is_empty ys) h.0 ∙ ap is_empty h.1
 
 -- the step of a plan, by whether it changes nothing and whether its edits are within the limit
 abbrev step_by : Bool → Bool → History → Invocation → Plan → Step
@@ -52,7 +52,7 @@ Replies h c p s = (out : Out) × (s.replied ≡ replied_of out) × IsReplyTo p e
 one_more : (h : History) (e : Entry) → length (grown h e).entries ≡ length h.entries + 1
 one_more h e = length-append h.entries (e ∷ [])
 
-replies_by : (idle within : Bool) (h : History) (c : Invocation) (p : Plan) → (is_none_left p.blobs && is_none_left p.edits) ≡ idle → nat_le (edit_bytes (edits_of h) + edit_bytes p.edits) edit_limit ≡ within
+replies_by : (idle within : Bool) (h : History) (c : Invocation) (p : Plan) → (is_empty p.blobs && is_empty p.edits) ≡ idle → nat_le (edit_bytes (edits_of h) + edit_bytes p.edits) edit_limit ≡ within
     → Replies h c p (step_by idle within h c p)
 replies_by true within h c p e f = (p.out, refl, inl (record { idle = both_none p.blobs p.edits e; same = refl; reply = refl }))
 replies_by false true h c p e f = (
@@ -60,7 +60,7 @@ replies_by false true h c p e f = (
   refl,
   inr
       (inr
-          (record {
+      (record {
         some = not_both p.blobs p.edits e;
         within = leb-true (edit_bytes (edits_of h) + edit_bytes p.edits) edit_limit f;
         next = one_more h (Committed (commit_of p (stamp_after h)));
@@ -91,7 +91,7 @@ whole_by false false h c made f whole = whole
 pub step_written : (h : History) (c : Invocation) (made : List Created) → account_error (call_of c) ≡ None → IsWritten h c made
 step_written h c made none =
     let p = method_plan h (call_of c) made false in
-    let idle = is_none_left p.blobs && is_none_left p.edits in
+    let idle = is_empty p.blobs && is_empty p.edits in
     let within = nat_le (edit_bytes (edits_of h) + edit_bytes p.edits) edit_limit in
     let s : Step = step_by idle within h c p in
     let is : step h (call_of c) made ≡ s = ap (unless_error h (call_of c) made) none in
@@ -102,15 +102,15 @@ step_written h c made none =
     let reply : IsReply (λ x call moment. call_plan x call) edit_bytes s.history (point_between h s.history) (asked c made) (stamp_after h) r.0 =
     subst (λ (x : History). IsReplyTo (method_plan x (call_of c) made false) edit_bytes x (account_after s.history (length s.history.entries)) (point_between h s.history) (Method c) (stamp_after h) r.0) (sym begins) later in
     subst
-        (λ (t : Step). (out : Out) × (t.replied ≡ replied_of out)
-        × IsReply (λ x call moment. call_plan x call) edit_bytes t.history (point_between h t.history) (asked c made) (stamp_after h) out × (account_after t.history (length h.entries) ≡ h))
-        (sym is)
-        (r.0, r.1, reply, begins)
+    (λ (t : Step). (out : Out) × (t.replied ≡ replied_of out)
+    × IsReply (λ x call moment. call_plan x call) edit_bytes t.history (point_between h t.history) (asked c made) (stamp_after h) out × (account_after t.history (length h.entries) ≡ h))
+    (sym is)
+    (r.0, r.1, reply, begins)
 
 by_error : (e : Option (List ℕ)) (h : History) (c : Invocation) (made : List Created) → IsWholeAlways h → IsWholeAlways (unless_error h (call_of c) made e).history
 by_error (Some kind) h c made whole = whole
 by_error None h c made whole =
-    whole_by (is_none_left (method_plan h (call_of c) made false).blobs && is_none_left (method_plan h (call_of c) made false).edits)
+    whole_by (is_empty (method_plan h (call_of c) made false).blobs && is_empty (method_plan h (call_of c) made false).edits)
     (nat_le (edit_bytes (edits_of h) + edit_bytes (method_plan h (call_of c) made false).edits) edit_limit) h c made refl whole
 
 pub step_whole : (h : History) (c : Invocation) (made : List Created) → IsWholeAlways h → IsWholeAlways (step h (call_of c) made).history

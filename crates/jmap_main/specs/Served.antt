@@ -68,15 +68,15 @@ abbrev pub replied_of : Out → Replied
 replied_of (Replies r) = r
 replied_of _ = record { responses = []; made = [] }
 
-abbrev pub is_none_left : {A : Type 0} → List A → Bool
-is_none_left [] = true
-is_none_left (x ∷ xs) = false
+abbrev pub is_empty : {A : Type 0} → List A → Bool
+is_empty [] = true
+is_empty (x ∷ xs) = false
 
 -- a plan that changes nothing is answered; one whose edits would pass the limit is refused; any other is answered, and its
 -- commit entered
 abbrev pub after_plan : History → Invocation → Plan → Step
 after_plan h c p =
-    cond (is_none_left p.blobs && is_none_left p.edits) (record { replied = replied_of p.out; history = h })
+    cond (is_empty p.blobs && is_empty p.edits) (record { replied = replied_of p.out; history = h })
     (cond (nat_le (edit_bytes (edits_of h) + edit_bytes p.edits) edit_limit)
     (record { replied = replied_of p.out; history = grown h (Committed (commit_of p (stamp_after h))) })
     (record { replied = record { responses = error_of (codes "serverUnavailable") c.id ∷ []; made = [] }; history = h }))

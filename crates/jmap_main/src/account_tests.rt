@@ -90,6 +90,14 @@ const ERRORS: &[(&str, &str)] = &[
         "invalidArguments",
     ),
     (
+        "[\"Email/copy\",{\"accountId\":\"A2\"},\"0\"]",
+        "invalidArguments",
+    ),
+    (
+        "[\"Thread/get\",{\"accountId\":\"A2\"},\"0\"]",
+        "accountNotFound",
+    ),
+    (
         "[\"Email/copy\",{\"accountId\":\"A2\",\"fromAccountId\":\"A3\"},\"0\"]",
         "accountNotFound",
     ),

@@ -214,5 +214,4 @@ impl StepPort for AccountPort {
 pub(crate) fn steps_are_written()
     ensures written { (h : History) (c : TheInvocation) (made : List TheCreated) → account_error (call_of c) ≡ None → IsWritten h c made }
     ensures whole { (h : History) (c : TheInvocation) (made : List TheCreated) → IsWholeAlways h → IsWholeAlways (step h (call_of c) made).history }
-{
-}
+{}

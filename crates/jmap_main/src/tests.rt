@@ -228,7 +228,7 @@ fn takes_sixteen_calls(rt: HostRuntime) -> Result<(), Fail> {
 fn writes_a_front_whatever_fails(rt: HostRuntime) -> Result<(), Fail> {
     let input = format!(in rt.alloc(); "{ECHO}\n\n{{\"using\":[\n{ECHO}")?;
     let all = format!(in rt.alloc(); "{ECHOED}{NOT_JSON}{ECHOED}")?;
-    for piece in 1..200 {
+    for piece in 1..=222 {
         let whole = answer(
             &rt,
             rt.alloc(),
@@ -241,7 +241,7 @@ fn writes_a_front_whatever_fails(rt: HostRuntime) -> Result<(), Fail> {
         assert_eq!(rt; whole.status, Status(0));
         assert_eq!(rt; whole.out.as_slice(), all.as_bytes());
     }
-    for call in 0..4 {
+    for call in 0..5 {
         let unread = answer(
             &rt,
             rt.alloc(),

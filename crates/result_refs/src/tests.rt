@@ -42,6 +42,8 @@ const REFERENCES: &str = "a Foo/get /list/*/id => {\"x\":[\"1\",\"2\"]}\n\
     a Foo/get /m~2n => bad reference\n\
     a Foo/get /m~ => bad reference\n\
     a Foo/get /*/0 => bad reference\n\
+    b Foo/get /* => bad reference\n\
+    a Foo/get /list/0/id/* => bad reference\n\
     a Foo/get /list/ => bad reference";
 
 // Other arguments, and what becomes of them.
