@@ -98,7 +98,7 @@ module _ {Y : Type 0} (shows : Y → List Entry) (origin : Y → Origin) where
         start = r.start;
         log = r.log;
         words = r.words;
-        deep = r.deep;
+        one_slot = r.one_slot;
         tickets = omega arith;
         many = omega arith;
         few = let b = top.2 in omega arith;
@@ -243,7 +243,7 @@ module _ {Y : Type 0} (shows : Y → List Entry) (origin : Y → Origin) where
         start = r.start;
         log = r.log;
         words = r.words;
-        deep = r.deep;
+        one_slot = r.one_slot;
         tickets = omega arith;
         many = omega arith;
         few = r.few;
@@ -277,7 +277,7 @@ module _ {Y : Type 0} (shows : Y → List Entry) (origin : Y → Origin) where
         start = n;
         log = [];
         words = refl;
-        deep = refl;
+        one_slot = refl;
         tickets = refl;
         many = refl;
         few = omega arith;

@@ -66,7 +66,7 @@ module _ {Y : Type 0} (shows : Y → List Entry) (origin : Y → Origin) where
 
   -- a step on the word of parked threads
   pub counts_parked : (slots me : ℕ) (m : Me (Option Y) View) (f : ℕ → ℕ) → Allows Rule slots me m 2 f (unchanged m)
-  counts_parked slots me m f s r deep at fits =
+  counts_parked slots me m f s r one_slot at fits =
       let ws : List ℕ = set s.words 2 (f (get_or s.words 2 0)) in
       let same : Rule record { words = ws; homes = s.homes; views = s.views } = record {
         drawn = r.drawn;
@@ -76,7 +76,7 @@ module _ {Y : Type 0} (shows : Y → List Entry) (origin : Y → Origin) where
         start = r.start;
         log = r.log;
         words = ap (λ (xs : List ℕ). set xs 2 (f (get_or s.words 2 0))) r.words;
-        deep = r.deep;
+        one_slot = r.one_slot;
         tickets = r.tickets;
         many = r.many;
         few = r.few;
@@ -107,7 +107,7 @@ module _ {Y : Type 0} (shows : Y → List Entry) (origin : Y → Origin) where
   }
 
   pub draws : (slots me : ℕ) (v : View) (cs : List (ℕ × Option Y)) → v.waits ≡ false → 0 < v.name → Allows Rule slots me (v, cs) 0 (λ n. (n + 1) % 2 ^ 64) (drew (v, cs))
-  draws slots me v cs idle has_name s r deep at fits =
+  draws slots me v cs idle has_name s r one_slot at fits =
       let w : View = record v { waits = true; ticket = r.drawn } in
       let f = r.each me v at in
       let count = waiting_set s.views me v w at in
@@ -124,7 +124,7 @@ module _ {Y : Type 0} (shows : Y → List Entry) (origin : Y → Origin) where
           start = r.start;
           log = r.log;
           words = ap (λ (ws : List ℕ). set ws 0 ((get_or ws 0 0 + 1) % 2 ^ 64)) r.words ∙ ap (λ (n : ℕ). n ∷ r.served % 2 ^ 64 ∷ r.parked ∷ []) (mod-add-mod r.drawn (2 ^ 64) 1);
-          deep = r.deep;
+          one_slot = r.one_slot;
           tickets = omega arith;
           many = length-set s.views me w ∙ r.many;
           few = r.few;
@@ -162,11 +162,11 @@ module _ {Y : Type 0} (shows : Y → List Entry) (origin : Y → Origin) where
   -- a ticket is drawn where the word shows the number expected
   pub tries : (slots me : ℕ) (v : View) (cs : List (ℕ × Option Y)) (expected : ℕ) → v.waits ≡ false → 0 < v.name
       → Allows Rule slots me (v, cs) 0 (λ n. if n == expected then (expected + 1) % 2 ^ 64 else n) (tried expected (v, cs))
-  tries slots me v cs expected idle has_name s r deep at fits =
+  tries slots me v cs expected idle has_name s r one_slot at fits =
       let n : ℕ = get_or s.words 0 0 in
       let next : ℕ = (expected + 1) % 2 ^ 64 in
       dite (ℕ_discrete n expected)
-      (λ e. let d = draws slots me v cs idle has_name s r deep at fits in
+      (λ e. let d = draws slots me v cs idle has_name s r one_slot at fits in
       let to : (n + 1) % 2 ^ 64 ≡ (if n == expected then next else n) = ap (λ (k : ℕ). (k + 1) % 2 ^ 64) e ∙ sym (next_if n expected next e) in
       (d.0, d.1, d.2, subst (λ (x : ℕ). Rule (stepped s 0 x me cs d.0 d.1)) to d.3, ((λ _. d.4), λ ne. absurd (ne e))))
       (λ ne. (v, keeps, tt, subst (λ (x : ℕ). Rule (stepped s 0 x me cs v keeps)) (sym (same_if n expected next ne)) (unmoved s 0 me cs v at r), ((λ e. absurd (ne e)), λ _. refl)))
@@ -182,7 +182,7 @@ module _ {Y : Type 0} (shows : Y → List Entry) (origin : Y → Origin) where
   named_if s r me v at waits = ⊎_elim (λ (z : v.name ≡ 0). let t = (r.each me v at).unnamed z in absurd (cc (t, waits))) (λ (p : 0 < v.name). p) (zero_or (v.name))
 
   pub watches : (slots me : ℕ) (v : View) (cs : List (ℕ × Option Y)) → v.waits ≡ true → v.turn ≡ false → Allows Rule slots me (v, cs) 1 (λ n. n) (watched shows origin (v, cs))
-  watches slots me v cs waits no_turn s r deep at fits = dite (ℕ_discrete (get_or s.words 1 0) (v.ticket % 2 ^ 64))
+  watches slots me v cs waits no_turn s r one_slot at fits = dite (ℕ_discrete (get_or s.words 1 0) (v.ticket % 2 ^ 64))
       (λ e.
       let f = r.each me v at in
       let here : get_or s.words 1 0 ≡ r.served % 2 ^ 64 = ap (λ (ws : List ℕ). get_or ws 1 0) r.words in
@@ -207,7 +207,7 @@ module _ {Y : Type 0} (shows : Y → List Entry) (origin : Y → Origin) where
           start = r.start;
           log = r.log;
           words = set-get_or s.words 1 0 ∙ r.words;
-          deep = length-set s.homes 0 _ ∙ r.deep;
+          one_slot = length-set s.homes 0 _ ∙ r.one_slot;
           tickets = omega arith;
           many = length-set s.views me w ∙ r.many;
           few = r.few;
@@ -270,7 +270,7 @@ module _ {Y : Type 0} (shows : Y → List Entry) (origin : Y → Origin) where
         start = r.start;
         log = r.log;
         words = set-get_or s.words 1 0 ∙ r.words;
-        deep = ap length homes ∙ long;
+        one_slot = ap length homes ∙ long;
         tickets = omega arith;
         many = length-set s.views me w ∙ r.many;
         few = r.few;
@@ -310,12 +310,12 @@ module _ {Y : Type 0} (shows : Y → List Entry) (origin : Y → Origin) where
       }
 
   pub leaves_empty : (slots me : ℕ) (v : View) → v.turn ≡ true → Allows Rule slots me (v, (0, None) ∷ []) 1 (λ n. n) (left_empty (v, (0, None) ∷ []))
-  leaves_empty slots me v turn s r deep at fits = let one : 0 < length s.homes = let d = r.deep in omega arith in
-      (record v { away = true }, gives, tt, moves s r me ((0, None) ∷ []) v true gives (set s.homes 0 (some None)) at turn refl (length-set s.homes 0 _ ∙ r.deep) (λ _. set_here s.homes 0 (some None) one), refl)
+  leaves_empty slots me v turn s r one_slot at fits = let one : 0 < length s.homes = let d = r.one_slot in omega arith in
+      (record v { away = true }, gives, tt, moves s r me ((0, None) ∷ []) v true gives (set s.homes 0 (some None)) at turn refl (length-set s.homes 0 _ ∙ r.one_slot) (λ _. set_here s.homes 0 (some None) one), refl)
 
   pub takes_empty : (slots me : ℕ) (v : View) → v.away ≡ true → Allows Rule slots me (v, []) 1 (λ n. n) (took_empty (v, []))
-  takes_empty slots me v away s r deep at fits = let a = (r.each me v at).away away in
-      (record v { away = false }, takes 0 None, a.1, moves s r me [] v false (takes 0 None) (set s.homes 0 none) at a.0 refl (length-set s.homes 0 _ ∙ r.deep) (λ h. absurd (cc h)), refl)
+  takes_empty slots me v away s r one_slot at fits = let a = (r.each me v at).away away in
+      (record v { away = false }, takes 0 None, a.1, moves s r me [] v false (takes 0 None) (set s.homes 0 none) at a.0 refl (length-set s.homes 0 _ ∙ r.one_slot) (λ h. absurd (cc h)), refl)
 
   first_held : List (ℕ × Option Y) → Option Y
   first_held [] = None
@@ -324,7 +324,7 @@ module _ {Y : Type 0} (shows : Y → List Entry) (origin : Y → Origin) where
   pub passes_on : (slots me : ℕ) (v : View) (y : Y) (new : List Entry) → v.turn ≡ true → v.away ≡ false → shows y ≡ v.seen ++ new → AreUnder v.name new → origin y ≡ v.origin
       → Allows Rule slots me (v, (0, Some y) ∷ []) 1 (λ n. (n + 1) % 2 ^ 64) (passed_on shows (v, (0, Some y) ∷ []))
   unfolding first_held
-  passes_on slots me v y new turn near longer_of by same s r deep at fits =
+  passes_on slots me v y new turn near longer_of by same s r one_slot at fits =
       let f = r.each me v at in
       let mine = f.turn turn in
       let w : View = record v { waits = false; turn = false; seen = shows y; own = under v.name (shows y) } in
@@ -332,7 +332,7 @@ module _ {Y : Type 0} (shows : Y → List Entry) (origin : Y → Origin) where
       let count = waiting_set s.views me v w at in
       let one : weight v.waits ≡ 1 = ap weight mine.0 in
       let more = r.tickets in
-      let deep' : 0 < length s.homes = let d = r.deep in omega arith in
+      let one_slot' : 0 < length s.homes = let d = r.one_slot in omega arith in
       let some_name : 0 < v.name = ⊎_elim (λ (z : v.name ≡ 0). let t = f.unnamed z in absurd (cc (t, mine.0))) (λ (p : 0 < v.name). p) (zero_or (v.name)) in
       let log' : shows y ≡ r.log ++ new = longer_of ∙ ap (λ (xs : List Entry). xs ++ new) mine.2 in
       let stays : (n : ℕ) → n ≢ v.name → under n (shows y) ≡ under n r.log = λ n other. ap (under n) log' ∙ under_stays n v.name r.log new by other in
@@ -348,7 +348,7 @@ module _ {Y : Type 0} (shows : Y → List Entry) (origin : Y → Origin) where
           start = r.start;
           log = shows y;
           words = ap (λ (ws : List ℕ). set ws 1 ((get_or ws 1 0 + 1) % 2 ^ 64)) r.words ∙ ap (λ (n : ℕ). r.drawn % 2 ^ 64 ∷ n ∷ r.parked ∷ []) (mod-add-mod r.served (2 ^ 64) 1);
-          deep = length-set s.homes 0 _ ∙ r.deep;
+          one_slot = length-set s.homes 0 _ ∙ r.one_slot;
           tickets = omega arith;
           many = length-set s.views me w ∙ r.many;
           few = r.few;
@@ -381,7 +381,7 @@ module _ {Y : Type 0} (shows : Y → List Entry) (origin : Y → Origin) where
               });
           apart = tickets_stay s r me w (λ j b other at_j t. absurd (cc (t.0)));
           named = names_stay s r me v w at (λ n x. x);
-          home = λ _. (y, set_here s.homes 0 (some (Some y)) deep', refl, same ∙ f.origin (inr some_name));
+          home = λ _. (y, set_here s.homes 0 (some (Some y)) one_slot', refl, same ∙ f.origin (inr some_name));
           counted = let names = names_set s.views me v w at in let all = r.counted in omega arith;
           covered = λ n p q. cover_stays s.views me v w at (λ m h. h) n (r.covered n p q);
           strangers = λ n out. stays n (λ e. let b = f.name in ⊎_elim (λ (z : n ≡ 0). absurd (omega arith)) (λ (z : r.given < n). absurd (omega arith)) out) ∙ r.strangers n out;
@@ -405,4 +405,4 @@ module _ {Y : Type 0} (shows : Y → List Entry) (origin : Y → Origin) where
       (passes_on slots me m.0 y more.0 turn near more.1 more.2 same)
 
   pub looks_back : (slots me : ℕ) (m : Sat) → Allows Rule slots me m 1 (λ n. n) (looked_back m)
-  looks_back slots me m s r deep at fits = (m.0, keeps, tt, unmoved s 1 me m.1 m.0 at r, (refl, (r.each me m.0 at).heard, λ root. let t = (r.each me m.0 at).root root in let all = r.counted in let one = names_one s.views me m.0 at in let g = t.2 in omega arith))
+  looks_back slots me m s r one_slot at fits = (m.0, keeps, tt, unmoved s 1 me m.1 m.0 at r, (refl, (r.each me m.0 at).heard, λ root. let t = (r.each me m.0 at).root root in let all = r.counted in let one = names_one s.views me m.0 at in let g = t.2 in omega arith))

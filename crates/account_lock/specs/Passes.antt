@@ -7,6 +7,7 @@ use Rattle.mail_records.specs.Histories.{Entry, History}
 use Rattle.account_lock.specs.Entries.{under, longer_of}
 use Rattle.account_lock.specs.Views.{Ended, Origin, View, spent}
 
+-- what contracts see of a pass: its lock, and what its view says
 pub record PassFacts : Type 0 where
   -- the lock that it is of
   pub lock : TableId
@@ -28,6 +29,7 @@ pub record PassFacts : Type 0 where
   -- the names of the passes that it was joined with, each with the entries that it gave
   pub ended : List Ended
 
+-- the facts of a pass of this lock with this view
 abbrev pub facts_of : TableId → View → PassFacts
 facts_of z v =
     record { lock = z; root = v.root; name = v.name; given = v.given; before = v.origin.before; opening = v.origin.opening; holds = v.turn; seen = v.seen; own = v.own; ended = v.ended }

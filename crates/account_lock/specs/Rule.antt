@@ -18,6 +18,7 @@ use Rattle.account_lock.specs.Views.{Ended, Origin, View, HasName}
 abbrev pub Knows : View → List Entry → Type 0
 Knows v log = (0 < v.name → under v.name log ≡ v.own) × ((i : ℕ) (e : Ended) → get_elem? v.ended i ≡ some e → under e.name log ≡ e.entries)
 
+-- one where it is so
 abbrev pub weight : Bool → ℕ
 weight true = 1
 weight false = 0
@@ -46,7 +47,9 @@ pub record Fits {Y : Type 0} (drawn served given : ℕ) (start : Origin) (log : 
   pub away : v.away ≡ true → (v.turn ≡ true) × (get_elem? homes 0 ≡ some (some None))
   -- what was seen is a beginning of the history
   pub seen : StartsWith log v.seen
+  -- what it knows of names is so
   pub knows : Knows v log
+  -- what was seen begins with what the pass that was joined last had seen
   pub heard : StartsWith v.seen v.heard
   -- its name and its ended names were given, and the ended names aren't its own
   pub name : v.name ≤ given
@@ -55,10 +58,12 @@ pub record Fits {Y : Type 0} (drawn served given : ℕ) (start : Origin) (log : 
   pub unnamed : v.name ≡ 0 → v.waits ≡ false
   -- the root is the first pass, has no name, and counts the names that it has given
   pub root : v.root ≡ true → (j ≡ 0) × (v.name ≡ 0) × (v.given ≡ given)
+  -- what it tells of the value's origin is so, unless it is spent
   pub origin : (v.root ≡ true) ⊎ (0 < v.name) → v.origin ≡ start
 
 -- `shows` is the list of entries that a value shows, `origin` what of it never changes
 module _ {Y : Type 0} (shows : Y → List Entry) (origin : Y → Origin) where
+  -- the rule, of the words, the slot and the views as they stand
   pub record IsKept (s : State (Option Y) View) : Type 0 where
     -- how many tickets were drawn, how many turns are over, what the word of parked threads shows, how many names were given
     pub drawn : ℕ
@@ -69,7 +74,7 @@ module _ {Y : Type 0} (shows : Y → List Entry) (origin : Y → Origin) where
     -- the history: while a view has the turn what that view has seen, and else what the value shows
     pub log : List Entry
     pub words : s.words ≡ drawn % 2 ^ 64 ∷ served % 2 ^ 64 ∷ parked ∷ []
-    pub deep : length s.homes ≡ 1
+    pub one_slot : length s.homes ≡ 1
     -- the tickets from `served` to below `drawn` are out, one with each view that waits
     pub tickets : drawn ≡ served + waiting s.views
     -- one view is the root's, and one was made with each name; so fewer than 2^64 tickets are out, and their rests differ

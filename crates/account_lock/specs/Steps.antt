@@ -12,6 +12,7 @@ use Rattle.account_lock.specs.Rule.{Knows}
 abbrev pub IsLockTable : TableId → Type 0
 IsLockTable z = (z.words ≡ 3) × (z.slots ≡ 1)
 
+-- the seat of a thread in the table: its view, and the slots that are out with it
 abbrev pub SeatOf : Type 0 → Type 0
 SeatOf Y = Me (Option Y) View
 

@@ -16,6 +16,7 @@ pub record Origin : Type 0 where
   pub before : ℕ
   pub opening : History
 
+-- what a thread knows of the lock by its pass
 pub record View : Type 0 where
   -- it is the first pass's, which gives the names and never takes a turn
   pub root : Bool
@@ -23,6 +24,7 @@ pub record View : Type 0 where
   pub name : ℕ
   -- how many names the root has given: the names from 1 to this number
   pub given : ℕ
+  -- what never changes of the value
   pub origin : Origin
   -- it has drawn a ticket and hasn't passed the turn on since
   pub waits : Bool

@@ -24,7 +24,7 @@ pub(crate) const PARKED: usize = 2;
 const LOOKS: u32 = 1000;
 
 // How often it looks before it draws a ticket of a lock that isn't free. It has then parked three times.
-const PATIENCE: u32 = 3003;
+const PATIENCE: u32 = 3 * (LOOKS + 1);
 
 // Draws a ticket, and answers what the ticket word showed. It is drawn where the lock looks free, so that threads that don't run mostly
 // hold none, and those that run needn't wait for them. Who has parked some times without finding it free draws in any case, and so has

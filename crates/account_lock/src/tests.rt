@@ -117,7 +117,7 @@ fn four_threads_enter_each_stamp_once_and_in_order(rt: HostRuntime) -> Result<()
     let mut next = [0u64; 5];
     for stamp in diary.stamps() {
         let Some(serial) = next.get_mut(stamp.pass as usize) else {
-            return Err(Fail::from(std::alloc::AllocError));
+            return Err("an entry under a name that was never given")?;
         };
         assert_eq!(rt; stamp.serial, *serial);
         *serial = serial.wrapping_add(1);
