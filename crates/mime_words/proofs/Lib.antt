@@ -1,0 +1,4 @@
+pub mod Shapes
+pub mod Cuts
+pub mod Bytes
+pub mod Signs

@@ -1,0 +1,48 @@
+-- The charsets that bytes may be read in, and the text that they make (RFC 3629; RFC 2046, section 4.1.2; ISO 8859-1).
+use Rattle.std.specs.Prelude.{ℕ, Bool, true, false, not, nat_lt, List, map, Option, Some, None, codes, bytes_eq, if◌then◌else◌}
+use Rattle.std.specs.List.{list_all}
+use Rattle.std.specs.Str.{is_utf8, encode_utf8_all, str_to_ascii_lowercase}
+use Rattle.std.specs.Str.Lossy.{utf8_lossy}
+use Rattle.mime_words.specs.declared.charset.Charset.{Charset}
+use Rattle.mime_words.specs.declared.charset.Charset.TheVariants.{Utf8, Ascii, Latin1}
+
+-- whether two names are one, in either case
+abbrev pub are_same : List ℕ → List ℕ → Bool
+are_same a b = bytes_eq (str_to_ascii_lowercase a) (str_to_ascii_lowercase b)
+
+-- the charset of a name; every other name is unknown
+abbrev pub charset_named : List ℕ → Option Charset
+charset_named name =
+    if are_same name (codes "utf-8") then Some Utf8
+    else (if are_same name (codes "us-ascii") then Some Ascii
+    else (if are_same name (codes "iso-8859-1") then Some Latin1 else None))
+
+abbrev pub is_ascii : ℕ → Bool
+is_ascii b = nat_lt b 128
+
+-- the character that a byte of us-ascii is; a byte above 127 is none, and U+FFFD stands for it
+abbrev pub ascii_character : ℕ → ℕ
+ascii_character b = if is_ascii b then b else 0xFFFD
+
+-- the text that bytes make in a charset, as UTF-8. Each sequence that is no UTF-8 makes one U+FFFD; in iso-8859-1 each
+-- byte is the code of its character.
+abbrev pub text_in : Charset → List ℕ → List ℕ
+text_in Utf8 bytes = utf8_lossy bytes
+text_in Ascii bytes = encode_utf8_all (map ascii_character bytes)
+text_in Latin1 bytes = encode_utf8_all bytes
+
+-- of bytes in an unknown charset what is ASCII is read
+abbrev pub text_of : Option Charset → List ℕ → List ℕ
+text_of None bytes = text_in Ascii bytes
+text_of (Some charset) bytes = text_in charset bytes
+
+-- whether some byte isn't what the charset allows
+abbrev pub is_broken : Charset → List ℕ → Bool
+is_broken Utf8 bytes = not (is_utf8 bytes)
+is_broken Ascii bytes = not (list_all is_ascii bytes)
+is_broken Latin1 bytes = false
+
+-- an encoding problem (RFC 8621, section 4.1.4): a byte that the charset doesn't allow, or an unknown charset
+abbrev pub has_problem : Option Charset → List ℕ → Bool
+has_problem None bytes = true
+has_problem (Some charset) bytes = is_broken charset bytes

@@ -1,0 +1,3 @@
+pub mod Charsets
+pub mod Words
+pub mod Views

@@ -1,0 +1,117 @@
+// Bytes in a charset as text.
+ghost use Rattle.std.specs.Prelude.{◌≡◌, IfOk, string_bytes};
+ghost use Rattle.mime_words.specs.Charsets;
+ghost use Rattle.mime_words.specs.Charsets.{text_in, text_of, has_problem};
+
+use jm_base::{NoMemory, Text};
+use std::alloc::Global;
+
+/// A charset whose bytes can be read.
+#[derive(Clone, Copy, Debug, PartialEq, Eq)]
+pub enum Charset {
+    /// `utf-8` (RFC 3629).
+    Utf8,
+    /// `us-ascii` (RFC 2046, section 4.1.2).
+    Ascii,
+    /// `iso-8859-1`: each byte is the code of its character.
+    Latin1,
+}
+
+/// A text, and whether its bytes were more than their charset allows.
+#[derive(Debug, Drop)]
+pub struct Decoded {
+    /// The text, with U+FFFD where the bytes make none.
+    pub text: Text,
+    /// Whether a byte isn't what the charset allows, or the charset isn't known (RFC 8621, section 4.1.4).
+    pub problem: bool,
+}
+
+fn are_same(a: &[u8], b: &[u8]) -> bool
+    ensures { result ≡ Rattle.mime_words.specs.Charsets.are_same a.now b.now }
+{
+    a.eq_ignore_ascii_case(b)
+}
+
+/// The charset of a name, in either case.
+pub fn charset_named(name: &[u8]) -> Option<Charset>
+    ensures { result ≡ Rattle.mime_words.specs.Charsets.charset_named name.now }
+{
+    if are_same(name, b"utf-8") {
+        Some(Charset::Utf8)
+    } else if are_same(name, b"us-ascii") {
+        Some(Charset::Ascii)
+    } else if are_same(name, b"iso-8859-1") {
+        Some(Charset::Latin1)
+    } else {
+        None
+    }
+}
+
+/// The character of a byte in us-ascii; of one above 127 it is U+FFFD.
+fn ascii_character(byte: u8) -> char
+    ensures { result ≡ Rattle.mime_words.specs.Charsets.ascii_character byte }
+{
+    if byte < 128 { byte as char } else { '\u{FFFD}' }
+}
+
+/// The text of bytes in us-ascii.
+fn ascii_text(alloc: Global, bytes: &[u8]) -> Result<String, NoMemory>
+    ensures { IfOk result (λ text. string_bytes text ≡ text_in Charset.Ascii bytes.now) }
+{
+    let mut text = String::with_capacity(alloc, bytes.len())?;
+    for byte in bytes {
+        text.push(ascii_character(*byte))?;
+    }
+    Ok(text)
+}
+
+/// The text of bytes in iso-8859-1.
+fn latin_text(alloc: Global, bytes: &[u8]) -> Result<String, NoMemory>
+    ensures { IfOk result (λ text. string_bytes text ≡ text_in Charset.Latin1 bytes.now) }
+{
+    let mut text = String::with_capacity(alloc, bytes.len())?;
+    for byte in bytes {
+        text.push(*byte as char)?;
+    }
+    Ok(text)
+}
+
+/// The text of bytes in a charset.
+pub fn charset_text(alloc: Global, charset: Charset, bytes: &[u8]) -> Result<String, NoMemory>
+    ensures { IfOk result (λ text. string_bytes text ≡ text_in charset bytes.now) }
+{
+    match charset {
+        Charset::Utf8 => Ok(String::from_utf8_lossy(alloc, bytes)?),
+        Charset::Ascii => ascii_text(alloc, bytes),
+        Charset::Latin1 => latin_text(alloc, bytes),
+    }
+}
+
+/// Whether some byte isn't what the charset allows.
+fn is_broken(charset: Charset, bytes: &[u8]) -> bool
+    ensures { result ≡ Rattle.mime_words.specs.Charsets.is_broken charset bytes.now }
+{
+    match charset {
+        Charset::Utf8 => std::str::from_utf8(bytes).is_err(),
+        Charset::Ascii => !bytes.is_ascii(),
+        Charset::Latin1 => false,
+    }
+}
+
+/// The text that bytes make in the charset of this name, in either case: `utf-8`, `us-ascii` or `iso-8859-1`. In any
+/// other what is ASCII is read.
+pub fn decode_charset(alloc: Global, charset: &[u8], bytes: &[u8]) -> Result<Decoded, NoMemory>
+    ensures text { IfOk result (λ d. d.text ≡ text_of (Rattle.mime_words.specs.Charsets.charset_named charset.now) bytes.now) }
+    ensures problem { IfOk result (λ d. d.problem ≡ has_problem (Rattle.mime_words.specs.Charsets.charset_named charset.now) bytes.now) }
+{
+    match charset_named(charset) {
+        Some(known) => Ok(Decoded {
+            text: Text::from_string(charset_text(alloc, known, bytes)?),
+            problem: is_broken(known, bytes),
+        }),
+        None => Ok(Decoded {
+            text: Text::from_string(ascii_text(alloc, bytes)?),
+            problem: true,
+        }),
+    }
+}

@@ -1,0 +1,49 @@
+// The pieces of an encoded word: =?charset?coding?text?= (RFC 2047, section 2).
+ghost use Rattle.std.specs.Prelude.{◌≡◌, ◌<◌, ◌≤◌, ◌∷◌, length, option_map, IfSome};
+ghost use Rattle.mime_words.specs.Words.{after_sign, at_question, shape_at};
+ghost use Rattle.mime_words.specs.Views.{halves, shape_of};
+
+/// The pieces of a word, and the text behind it.
+#[derive(Clone, Copy)]
+pub struct Shape<'a> {
+    pub charset: &'a str,
+    pub coding: &'a str,
+    pub encoded: &'a str,
+    pub rest: &'a str,
+}
+
+/// The text behind this ASCII character, where the text begins with it.
+fn strip_sign(text: &str, sign: char) -> Option<&str>
+    requires { sign < 128 }
+    ensures value { option_map (λ r. r.now) result ≡ after_sign sign text.now }
+    ensures within { IfSome result (λ r. length r.now < length text.now) }
+{
+    text.strip_prefix(sign)
+}
+
+/// The text before the first question mark, and the text behind it.
+fn split_question(text: &str) -> Option<(&str, &str)>
+    ensures value { option_map halves result ≡ at_question text.now }
+    ensures within { IfSome result (λ x. length x.1.now < length text.now) }
+{
+    text.split_once('?')
+}
+
+/// The pieces of the word that begins with an equals sign and this text.
+#[tactic(auto, unfolding(crate::specs::Words::shape_at))]
+pub fn split_shape(text: &str) -> Option<Shape<'_>>
+    ensures value { option_map shape_of result ≡ shape_at (61 ∷ text.now) }
+    ensures within { IfSome result (λ s. length s.rest.now < length text.now) }
+{
+    let inner = strip_sign(text, '?')?;
+    let (charset, later) = split_question(inner)?;
+    let (coding, later) = split_question(later)?;
+    let (encoded, later) = split_question(later)?;
+    let rest = strip_sign(later, '=')?;
+    Some(Shape {
+        charset,
+        coding,
+        encoded,
+        rest,
+    })
+}

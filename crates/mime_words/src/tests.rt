@@ -1,0 +1,147 @@
+// Tables. What texts mean is by RFC 2047, section 8, and by Python's `email`, where nothing else is said.
+use crate::{decode_charset, decode_words};
+use jm_base::NoMemory;
+use std::alloc::Global;
+use std::test::Fail;
+
+/// Whether each text of a table means what stands beside it.
+fn all_say(alloc: Global, table: &[(&[u8], &str)]) -> Result<bool, NoMemory> {
+    for (bytes, meant) in table {
+        if decode_words(alloc, bytes)?.as_str() != *meant {
+            return Ok(false);
+        }
+    }
+    Ok(true)
+}
+
+/// RFC 2047, section 8: the table at its end, and names and a subject of its header.
+#[test]
+fn examples_of_the_standard(rt: HostRuntime) -> Result<(), Fail> {
+    let table: [(&[u8], &str); 10] = [
+        (b"(=?ISO-8859-1?Q?a?=)", "(a)"),
+        (b"(=?ISO-8859-1?Q?a?= b)", "(a b)"),
+        (b"(=?ISO-8859-1?Q?a?= =?ISO-8859-1?Q?b?=)", "(ab)"),
+        (b"(=?ISO-8859-1?Q?a?=  =?ISO-8859-1?Q?b?=)", "(ab)"),
+        (b"(=?ISO-8859-1?Q?a?=\r\n\t =?ISO-8859-1?Q?b?=)", "(ab)"),
+        (b"(=?ISO-8859-1?Q?a_b?=)", "(a b)"),
+        (
+            b"=?US-ASCII?Q?Keith_Moore?= <moore@cs.utk.edu>",
+            "Keith Moore <moore@cs.utk.edu>",
+        ),
+        (
+            b"=?ISO-8859-1?Q?Keld_J=F8rn_Simonsen?=",
+            "Keld J\u{F8}rn Simonsen",
+        ),
+        (b"=?ISO-8859-1?Q?Andr=E9?= Pirard", "Andr\u{E9} Pirard"),
+        (
+            b"=?ISO-8859-1?B?SWYgeW91IGNhbiByZWFkIHRoaXMgeW8=?=",
+            "If you can read this yo",
+        ),
+    ];
+    assert!(rt; all_say(rt.alloc(), &table)?);
+    Ok(())
+}
+
+#[test]
+fn white_space_round_words(rt: HostRuntime) -> Result<(), Fail> {
+    let table: [(&[u8], &str); 9] = [
+        (b" =?utf-8?Q?a_b?= =?utf-8?B?Yw==?= ", " a bc "),
+        (b"=?utf-8?q?a?= , =?utf-8?q?b?=", "a , b"),
+        (b"=?utf-8?q?a?==?utf-8?q?b?=", "ab"),
+        // A word that stays keeps the white space round it.
+        (b"=?utf-8?q?a?= =?utf-8?q?b c?= d", "a =?utf-8?q?b c?= d"),
+        (
+            b"=?utf-8?Q?a?= =?ISO-8859-2?Q?_b?=",
+            "a =?ISO-8859-2?Q?_b?=",
+        ),
+        // Words in other text, in quotes too.
+        (b"x=?utf-8?q?a?=y", "xay"),
+        (b"\"=?utf-8?q?a?=\"", "\"a\""),
+        (b"==?utf-8?q?a?=", "=a"),
+        (b"=?=?utf-8?q?a?=", "=?a"),
+    ];
+    assert!(rt; all_say(rt.alloc(), &table)?);
+    Ok(())
+}
+
+#[test]
+fn words_that_stay(rt: HostRuntime) -> Result<(), Fail> {
+    let table: [(&[u8], &str); 9] = [
+        (b"=?utf-8?X?a?=", "=?utf-8?X?a?="),
+        (b"=?utf-8?QQ?a?=", "=?utf-8?QQ?a?="),
+        (b"=?utf-8?Q?a", "=?utf-8?Q?a"),
+        (b"=?utf-8?Q?a?b?=", "=?utf-8?Q?a?b?="),
+        (b"=?utf-8?Q?a\tb?=", "=?utf-8?Q?a\tb?="),
+        (b"=?utf-8*en?Q?a?=", "=?utf-8*en?Q?a?="),
+        (b"=??Q?a?=", "=??Q?a?="),
+        (b"=?=?=?=?", "=?=?=?=?"),
+        (b"", ""),
+    ];
+    assert!(rt; all_say(rt.alloc(), &table)?);
+    Ok(())
+}
+
+/// A word of 75 characters, and one of 76.
+#[test]
+fn longest_word(rt: HostRuntime) -> Result<(), Fail> {
+    let table: [(&[u8], &str); 2] = [
+        (
+            b"=?utf-8?Q?123456789-123456789-123456789-123456789-123456789-123456789-123?=",
+            "123456789-123456789-123456789-123456789-123456789-123456789-123",
+        ),
+        (
+            b"=?utf-8?Q?123456789-123456789-123456789-123456789-123456789-123456789-1234?=",
+            "=?utf-8?Q?123456789-123456789-123456789-123456789-123456789-123456789-1234?=",
+        ),
+    ];
+    assert!(rt; all_say(rt.alloc(), &table)?);
+    Ok(())
+}
+
+#[test]
+fn texts_of_words(rt: HostRuntime) -> Result<(), Fail> {
+    let table: [(&[u8], &str); 7] = [
+        // A bad escape stays, base64 ends at its equals sign, and no text says nothing.
+        (b"=?utf-8?Q?=ZZ=5F=4?=", "=ZZ_=4"),
+        (b"=?utf-8?B?Yw==Yw==?=", "c"),
+        (b"a=?utf-8?Q??=b=?utf-8?B?=?=c", "abc"),
+        // Control characters of ASCII are dropped.
+        (b"=?utf-8?Q?a=0D=0A=00=7F=C2=80b?=", "a\u{80}b"),
+        // Bytes that their charset doesn't have; characters above ~ in a word are their UTF-8 bytes.
+        (b"\xFF=?utf-8?Q?=FF?=\xE2\x82", "\u{FFFD}\u{FFFD}\u{FFFD}"),
+        (b"=?us-ascii?Q?=E9?=", "\u{FFFD}"),
+        (
+            b"=?utf-8?Q?\xC3\xA9?==?iso-8859-1?Q?\xC3\xA9?=",
+            "\u{E9}\u{C3}\u{A9}",
+        ),
+    ];
+    assert!(rt; all_say(rt.alloc(), &table)?);
+    Ok(())
+}
+
+/// Whether the bytes of each row make its text in its charset, with a problem or without.
+fn all_read(alloc: Global, table: &[(&[u8], &[u8], &str, bool)]) -> Result<bool, NoMemory> {
+    for (charset, bytes, meant, problem) in table {
+        let decoded = decode_charset(alloc, charset, bytes)?;
+        if decoded.text.as_str() != *meant || decoded.problem != *problem {
+            return Ok(false);
+        }
+    }
+    Ok(true)
+}
+
+#[test]
+fn charsets(rt: HostRuntime) -> Result<(), Fail> {
+    let table: [(&[u8], &[u8], &str, bool); 8] = [
+        (b"UTF-8", b"\xC3\xA9", "\u{E9}", false),
+        (b"utf-8", b"a\xC3", "a\u{FFFD}", true),
+        (b"utf-8", b"\xEF\xBF\xBD", "\u{FFFD}", false),
+        (b"US-ascii", b"a\0\x7F", "a\0\x7F", false),
+        (b"us-ascii", b"a\x80\xC3", "a\u{FFFD}\u{FFFD}", true),
+        (b"ISO-8859-1", b"a\x80\xE9", "a\u{80}\u{E9}", false),
+        (b"latin1", b"a\xE9", "a\u{FFFD}", true),
+        (b"", b"a", "a", true),
+    ];
+    assert!(rt; all_read(rt.alloc(), &table)?);
+    Ok(())
+}
