@@ -327,3 +327,24 @@ fn a_creation_id_that_was_given_stands_at_once(rt: HostRuntime) -> Result<(), Fa
     );
     Ok(())
 }
+
+// Two children of one name, a mailbox of that name elsewhere, a role twice, one that waits for one that is refused, and two that wait for
+// each other.
+const BROKEN: &str =
+    "{\"accountId\":\"A1\",\"create\":{\"a\":{\"name\":\"X\",\"parentId\":\"M1\"},\"b\":{\"name\":\"X\",\"parentId\":\"M1\"},\"c\":{\"name\":\"X\",\"role\":\"inbox\",\"sortOrder\":0},\"d\":{\"name\":\"Y\",\"role\":\"inbox\"},\"e\":{\"name\":\"E\",\"parentId\":\"#b\"},\"f\":{\"name\":\"F\",\"parentId\":\"#g\"},\"g\":{\"name\":\"G\",\"parentId\":\"#f\"}}}";
+
+const BROKEN_END: &str =
+    "\"destroyed\":null,\"newState\":\"3\",\"notCreated\":{\"b\":{\"properties\":[\"name\"],\"type\":\"invalidProperties\"},\"d\":{\"properties\":[\"role\"],\"type\":\"invalidProperties\"},\"e\":{\"properties\":[\"parentId\"],\"type\":\"invalidProperties\"},\"f\":{\"properties\":[\"parentId\"],\"type\":\"invalidProperties\"},\"g\":{\"properties\":[\"parentId\"],\"type\":\"invalidProperties\"}},\"notDestroyed\":null,\"notUpdated\":null,\"oldState\":\"1\",\"updated\":null}";
+
+#[test]
+fn rules_hold_between_the_creates_of_a_set(rt: HostRuntime) -> Result<(), Fail> {
+    let alloc = rt.alloc();
+    let none = Made::new(alloc);
+    let first = "{\"accountId\":\"A1\",\"create\":{\"p\":{\"name\":\"P\"}}}";
+    let reply = last_reply(alloc, &none, &texts(alloc, &[first, BROKEN])?)?;
+    assert!(rt;
+        reply.as_slice().starts_with(b"{\"accountId\":\"A1\",\"created\":{\"a\":{\"id\":\"M2\",")
+    );
+    assert!(rt; reply.as_slice().ends_with(BROKEN_END.as_bytes()));
+    Ok(())
+}
