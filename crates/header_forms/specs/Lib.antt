@@ -1,0 +1,5 @@
+pub mod Texts
+pub mod Angles
+pub mod Marks
+pub mod Groups
+pub mod Addresses
