@@ -3,3 +3,5 @@ pub mod Angles
 pub mod Marks
 pub mod Groups
 pub mod Addresses
+pub mod Dates
+pub mod Forms
