@@ -1,0 +1,36 @@
+-- The texts between angle brackets: identifiers of messages and URLs (RFC 8621, sections 4.1.2.5 and 4.1.2.7).
+use Rattle.std.specs.Prelude.{ℕ, Bool, true, false, not, ◌==◌, List, [], ◌∷◌, map, filter, Option, Some, None, if◌then◌else◌}
+use Rattle.std.specs.Char.{is_ascii_whitespace}
+
+-- what a text has, read from a place: `outside` are the texts between brackets, where no bracket is open there;
+-- where one is open, `inside` is the text up to the bracket that closes it, and the texts after that
+pub record Read : Type 0 where
+  pub outside : List (List ℕ)
+  pub inside : Option (List ℕ × List (List ℕ))
+
+-- a bracket that isn't closed gives no text
+abbrev pub opened : Option (List ℕ × List (List ℕ)) → List (List ℕ)
+opened None = []
+opened (Some x) = x.0 ∷ x.1
+
+abbrev pub onto : ℕ → Option (List ℕ × List (List ℕ)) → Option (List ℕ × List (List ℕ))
+onto b None = None
+onto b (Some x) = Some (b ∷ x.0, x.1)
+
+abbrev pub read : List ℕ → Read
+read [] = record { outside = []; inside = None }
+read (b ∷ bs) = let later = read bs in record {
+  outside = if b == 60 then opened later.inside else later.outside;
+  inside = if b == 62 then Some ([], later.outside) else onto b later.inside;
+}
+
+abbrev pub has_some : List ℕ → Bool
+has_some [] = false
+has_some (b ∷ bs) = true
+
+abbrev pub without_white : List ℕ → List ℕ
+without_white text = filter (λ b. not (is_ascii_whitespace b)) text
+
+-- the texts between brackets without their white space, empty ones left out
+abbrev pub angle_texts : List ℕ → List (List ℕ)
+angle_texts text = filter has_some (map without_white (read text).outside)

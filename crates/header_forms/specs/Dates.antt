@@ -1,0 +1,216 @@
+-- The Date form (RFC 5322, sections 3.3 and 4.3; RFC 8621, section 4.1.2.6).
+use Rattle.std.specs.Prelude.{ℕ, zero, suc, ◌+◌, ◌-◌, ◌*◌, ◌/◌, ◌%◌, Bool, true, false, ◌&&◌, ◌||◌, not, ◌==◌, nat_lt, nat_le, ℤ, pos, negsuc, min, List, [], ◌∷◌, ◌++◌, length, Option, Some, None, option_map, codes, bytes_eq, if◌then◌else◌}
+use Rattle.std.specs.List.{list_all, list_any}
+use Rattle.std.specs.Char.{is_ascii_whitespace}
+use Rattle.std.specs.Str.{str_to_ascii_lowercase}
+use Rattle.jiff.specs.Words.{days_in_month}
+use Rattle.mime_words.specs.Words.{◌>>=◌}
+
+-- the words of a text from a place on: the rest of the word that stands there, and the later ones
+pub record Read : Type 0 where
+  pub front : List ℕ
+  pub later : List (List ℕ)
+
+abbrev pub word_before : List ℕ → List (List ℕ) → List (List ℕ)
+word_before [] later = later
+word_before (b ∷ bs) later = (b ∷ bs) ∷ later
+
+abbrev pub all_words : Read → List (List ℕ)
+all_words r = word_before r.front r.later
+
+abbrev pub onto : ℕ → Read → Read
+onto b r = record { front = b ∷ r.front; later = r.later }
+
+-- a word ends here
+abbrev pub parted : Read → Read
+parted r = record { front = []; later = all_words r }
+
+-- a comma is a word of its own
+abbrev pub at_comma : Read → Read
+at_comma r = record { front = []; later = (44 ∷ []) ∷ all_words r }
+
+-- where a byte stands: between comments, in this many comments, or behind a backslash in this many
+pub data State : Type 0 where
+  between : State
+  inside : ℕ → State
+  escaped : ℕ → State
+
+abbrev pub closed : ℕ → State
+closed zero = between
+closed (suc zero) = between
+closed (suc (suc depth)) = inside (suc depth)
+
+-- where the byte behind this one stands
+abbrev pub next : State → ℕ → State
+next between b = if b == 40 then inside 1 else between
+next (inside depth) b = if b == 40 then inside (suc depth) else (if b == 41 then closed depth else (if b == 92 then escaped depth else inside depth))
+next (escaped depth) b = inside depth
+
+-- words are parted by white space and comments
+abbrev pub with_byte : State → ℕ → Read → Read
+with_byte between b r = if b == 40 || is_ascii_whitespace b then parted r else (if b == 44 then at_comma r else onto b r)
+with_byte (inside depth) b r = r
+with_byte (escaped depth) b r = r
+
+-- nothing is read where a comment doesn't close
+abbrev pub read_end : State → Option Read
+read_end between = Some (record { front = []; later = [] })
+read_end (inside depth) = None
+read_end (escaped depth) = None
+
+abbrev pub read_from : List ℕ → State → Option Read
+read_from [] state = read_end state
+read_from (b ∷ bs) state = option_map (with_byte state b) (read_from bs (next state b))
+
+abbrev pub words_of : List ℕ → Option (List (List ℕ))
+words_of text = option_map all_words (read_from text between)
+
+-- the number of a name in a list of names of three letters each, in either case, the first being 1
+abbrev pub place_in : List (List ℕ) → ℕ → List ℕ → Option ℕ
+place_in [] n name = None
+place_in (known ∷ names) n name = if bytes_eq (str_to_ascii_lowercase name) known then Some n else place_in names (n + 1) name
+
+abbrev pub weekdays : List (List ℕ)
+weekdays = codes "mon" ∷ codes "tue" ∷ codes "wed" ∷ codes "thu" ∷ codes "fri" ∷ codes "sat" ∷ codes "sun" ∷ []
+
+abbrev pub months : List (List ℕ)
+months =
+    codes "jan" ∷ codes "feb" ∷ codes "mar" ∷ codes "apr" ∷ codes "may" ∷ codes "jun" ∷ codes "jul" ∷ codes "aug" ∷ codes "sep" ∷ codes "oct"
+    ∷ codes "nov" ∷ codes "dec" ∷ []
+
+abbrev pub is_comma : List ℕ → Bool
+is_comma word = bytes_eq word (44 ∷ [])
+
+-- without a weekday and its comma; the weekday needn't be the date's
+abbrev pub behind_weekday : Option ℕ → List (List ℕ) → Option (List (List ℕ))
+behind_weekday None rest = None
+behind_weekday (Some day) rest = Some rest
+
+abbrev pub without_weekday : List (List ℕ) → Option (List (List ℕ))
+without_weekday [] = Some []
+without_weekday (a ∷ []) = Some (a ∷ [])
+without_weekday (a ∷ b ∷ rest) = if is_comma b then behind_weekday (place_in weekdays 1 a) rest else Some (a ∷ b ∷ rest)
+
+abbrev pub is_digit : ℕ → Bool
+is_digit b = nat_le 48 b && nat_le b 57
+
+abbrev pub value_from : ℕ → List ℕ → ℕ
+value_from n [] = n
+value_from n (b ∷ bs) = value_from (n * 10 + (b - 48)) bs
+
+-- the number that this many digits or so are
+abbrev pub number_in : ℕ → ℕ → List ℕ → Option ℕ
+number_in least most word =
+    if list_all is_digit word && (nat_le least (length word) && nat_le (length word) most) then Some (value_from 0 word) else None
+
+-- a year of two digits is of 1950 to 2049, one of three digits is counted from 1900
+abbrev pub full_year : ℕ → ℕ → ℕ
+full_year size n = if size == 4 then n else (if size == 2 && nat_lt n 50 then n + 2000 else n + 1900)
+
+abbrev pub year_in : List ℕ → Option ℕ
+year_in word = option_map (full_year (length word)) (number_in 2 4 word)
+
+pub record Time : Type 0 where
+  pub hour : ℕ
+  pub minute : ℕ
+  pub second : ℕ
+
+-- a leap second is taken as the one before it
+abbrev pub if_time : ℕ → ℕ → ℕ → Option Time
+if_time hour minute second =
+    if nat_lt hour 24 && (nat_lt minute 60 && nat_le second 60) then Some (record { hour = hour; minute = minute; second = min second 59 }) else None
+
+unfoldable pub time_by : List ℕ → List ℕ → List ℕ → Option Time
+time_by hour minute second = do
+  h ← number_in 2 2 hour
+  m ← number_in 2 2 minute
+  s ← number_in 2 2 second
+  if_time h m s
+
+-- hh:mm or hh:mm:ss
+abbrev pub time_in : List ℕ → Option Time
+time_in (a ∷ b ∷ x ∷ c ∷ d ∷ []) = if x == 58 then time_by (a ∷ b ∷ []) (c ∷ d ∷ []) (codes "00") else None
+time_in (a ∷ b ∷ x ∷ c ∷ d ∷ y ∷ e ∷ f ∷ []) = if x == 58 && y == 58 then time_by (a ∷ b ∷ []) (c ∷ d ∷ []) (e ∷ f ∷ []) else None
+time_in _ = None
+
+-- how far a zone's clock is ahead of UTC or behind it, in minutes
+pub record Offset : Type 0 where
+  pub behind : Bool
+  pub minutes : ℕ
+
+abbrev pub hours : Bool → ℕ → Offset
+hours behind n = record { behind = behind; minutes = n * 60 }
+
+-- the names of RFC 822; every other name has UTC (RFC 5322, section 4.3)
+abbrev pub zone_named : List ℕ → Offset
+zone_named name =
+    if bytes_eq name (codes "edt") then hours true 4
+    else (if bytes_eq name (codes "est") || bytes_eq name (codes "cdt") then hours true 5
+    else (if bytes_eq name (codes "cst") || bytes_eq name (codes "mdt") then hours true 6
+    else (if bytes_eq name (codes "mst") || bytes_eq name (codes "pdt") then hours true 7
+    else (if bytes_eq name (codes "pst") then hours true 8 else hours false 0))))
+
+abbrev pub is_letter : ℕ → Bool
+is_letter b = (nat_le 65 b && nat_le b 90) || (nat_le 97 b && nat_le b 122)
+
+-- hhmm, of which mm are below 60
+abbrev pub offset_by : Bool → Option ℕ → Option Offset
+offset_by behind None = None
+offset_by behind (Some n) = if nat_lt (n % 100) 60 then Some (record { behind = behind; minutes = (n / 100) * 60 + n % 100 }) else None
+
+abbrev pub zone_in : List ℕ → Option Offset
+zone_in [] = None
+zone_in (b ∷ bs) =
+    if b == 43 then offset_by false (number_in 4 4 bs)
+    else (if b == 45 then offset_by true (number_in 4 4 bs)
+    else (if list_all is_letter (b ∷ bs) then Some (zone_named (str_to_ascii_lowercase (b ∷ bs))) else None))
+
+pub record Moment : Type 0 where
+  pub year : ℕ
+  pub month : ℕ
+  pub day : ℕ
+  pub time : Time
+  pub offset : Offset
+
+-- a day that the month of the year has
+abbrev pub if_day : Moment → Option Moment
+if_day m = if nat_le 1 m.day && nat_le m.day (days_in_month (pos m.year) m.month) then Some m else None
+
+unfoldable pub moment_by : List ℕ → List ℕ → List ℕ → List ℕ → List ℕ → Option Moment
+moment_by day month year time zone = do
+  d ← number_in 1 2 day
+  m ← place_in months 1 month
+  y ← year_in year
+  t ← time_in time
+  z ← zone_in zone
+  if_day (record { year = y; month = m; day = d; time = t; offset = z })
+
+-- day, month, year, time and zone, and nothing else
+abbrev pub moment_of : List (List ℕ) → Option Moment
+moment_of (day ∷ month ∷ year ∷ time ∷ zone ∷ []) = moment_by day month year time zone
+moment_of _ = None
+
+unfoldable pub moment_in : List ℕ → Option Moment
+moment_in text = do
+  words ← words_of text
+  parts ← without_weekday words
+  moment_of parts
+
+abbrev pub two_digits : ℕ → List ℕ
+two_digits n = (48 + n / 10 % 10) ∷ (48 + n % 10) ∷ []
+
+-- Z, or the sign, the hours and the minutes
+abbrev pub offset_text : Offset → List ℕ
+offset_text z =
+    if z.minutes == 0 then codes "Z"
+    else ((if z.behind then 45 else 43) ∷ two_digits (z.minutes / 60) ++ 58 ∷ two_digits (z.minutes % 60))
+
+-- by RFC 3339: YYYY-MM-DDTHH:MM:SS and the offset
+abbrev pub moment_text : Moment → List ℕ
+moment_text m =
+    two_digits (m.year / 100) ++ two_digits m.year ++ 45 ∷ two_digits m.month ++ 45 ∷ two_digits m.day ++ 84 ∷ two_digits m.time.hour
+    ++ 58 ∷ two_digits m.time.minute ++ 58 ∷ two_digits m.time.second ++ offset_text m.offset
+
+-- the date that a value on one line says, if it says one
+abbrev pub date_text : List ℕ → Option (List ℕ)
+date_text text = option_map moment_text (moment_in text)
