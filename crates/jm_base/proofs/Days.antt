@@ -1,12 +1,12 @@
 -- The year, the month and the day of the month that a day since 1970 lies in.
-use Rattle.std.proofs.Common.{◌≡◌, ℕ, zero, suc, ◌+◌, ◌-◌, ◌*◌, ◌<◌, ◌≤◌, ◌⊎◌, inl, inr, Bool, true, false, refl, sym, ap, ◌∙◌, arith, ℤ, pos, negsuc, neg_ℤ, ◌+ℤ◌, ◌-ℤ◌, ◌*ℤ◌, ◌<ℤ◌, ◌≤ℤ◌, int_le, unsigned_abs}
+use Rattle.std.proofs.Common.{◌≡◌, ℕ, zero, suc, ◌-◌, ◌<◌, ◌≤◌, inl, inr, Bool, true, false, refl, sym, arith, ℤ, pos, negsuc, ◌-ℤ◌, ◌<ℤ◌, ◌≤ℤ◌, int_le, unsigned_abs}
 use Rattle.std.proofs.lemmas.Bool.{cases_order}
 use Rattle.std.proofs.lemmas.Int.{by_lt_z}
-use Rattle.jiff_core.specs.Calendar.{day_count, days_from_civil, days_in_month, IsCivilDate}
+use Rattle.jiff_core.specs.Calendar.{day_count, days_from_civil, IsCivilDate}
 use Rattle.jiff_core.proofs.SignedLemmas.{signed_arith}
 use Rattle.jiff_core.proofs.MarchLemmas.{day_count-early}
-use Rattle.jiff_core.proofs.CalendarLemmas.{days_from_civil-day_count, day_count-lt_year, day_count-lt_month, day_count-day, day_count-day_of_year}
-use Rattle.jm_base.specs.Moments.{last_of, year_of, month_of, day_of}
+use Rattle.jiff_core.proofs.CalendarLemmas.{days_from_civil-day_count, day_count-lt_year, day_count-lt_month, day_count-day, day_count-day_of_year, day_count_bounds}
+use Rattle.jm_base.specs.Moments.{last_of, year_of, month_of, day_of, IsDay}
 
 le_as : (a b : ℤ) (t : Bool) → int_le a b ≡ t → a ≤ℤ b → t ≡ true
 le_as a b true same le = refl
@@ -84,3 +84,23 @@ civil_of day (pos y) m d is to from same =
 civil_of day (negsuc y) m d is to from same =
     let one : pos 1 ≤ℤ negsuc y = year_from_one (negsuc y) m d is (rw same from) in
     absurd (omega (arith, signed_arith, one))
+
+civil_from : (y m d : ℕ) → IsDay y m d → IsCivilDate (pos y) m d
+civil_from y m d is = omega (arith, signed_arith, is.from_year, is.to_year, is.from_month, is.to_month, is.from_day, is.to_day)
+
+first_year : (m d : ℕ) → 1 ≤ d → day_count (pos 1) 1 1 ≤ day_count (pos 1) m d
+first_year m d from = omega (arith, day_count-day_of_year (pos 1) m d from)
+
+first_days : (y m d : ℕ) → IsCivilDate (pos y) m d → 1 ≤ y → day_count (pos 1) 1 1 ≤ day_count (pos y) m d
+first_days y m d is from =
+    elim (cases_order 1 y) [
+      | inl same ↦ rw (← same) (first_year m d is.2.0)
+      | inr (inl lt) ↦ omega (arith, day_count-lt_year (pos 1) 1 1 (pos y) m d (omega (arith, signed_arith)) is.2.0 (omega (arith, signed_arith, lt)))
+      | inr (inr gt) ↦ absurd (omega (arith, gt, from))
+    ]
+
+-- the days of the years 0001 to 9999
+pub day_bounds : (y m d : ℕ) → IsDay y m d → (negsuc 719161 ≤ℤ days_from_civil (pos y) m d) × (days_from_civil (pos y) m d ≤ℤ pos 2932896)
+day_bounds y m d is =
+    let civil = civil_from y m d is in
+    omega (arith, signed_arith, days_from_civil-day_count (pos y) m d, day_count-first, first_days y m d civil is.from_year, day_count_bounds (pos y) m d civil)

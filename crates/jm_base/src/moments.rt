@@ -156,8 +156,7 @@ fn two_at(place: usize, text: &[u8]) -> u64
 
 // The number of a day since the beginning of 1970, if the calendar has it.
 fn day_number(year: u64, month: u64, day: u64) -> Option<i64>
-    ensures bound { IfSome result (λ n. (negsuc 4_371_586 ≤ℤ n) × (n ≤ℤ pos 2_932_896)) }
-    ensures value { MatchOption result (¬ IsDay year month day) (λ n. IsDay year month day × (n ≡ days_from_civil (pos year) month day)) }
+    ensures { MatchOption result (¬ IsDay year month day) (λ n. IsDay year month day × (n ≡ days_from_civil (pos year) month day)) }
 {
     if year == 0 || year > 9999 || month > 12 || day > 31 {
         return None;
@@ -182,7 +181,8 @@ fn second_number(hour: u64, minute: u64, second: u64) -> Option<i64>
 // The seconds since the beginning of 1970 of what a text names, if there is such a day and time.
 fn seconds_in(text: &[u8]) -> Option<i64>
     requires { 19 ≤ length text.now }
-    ensures { MatchOption result (¬ IsClock (clock_in text.now)) (λ n. IsClock (clock_in text.now) × (n ≡ clock_seconds (clock_in text.now))) }
+    ensures bound { IfSome result (λ n. (negsuc 62_135_596_799 ≤ℤ n) × (n ≤ℤ pos 253_402_300_799)) }
+    ensures value { MatchOption result (¬ IsClock (clock_in text.now)) (λ n. IsClock (clock_in text.now) × (n ≡ clock_seconds (clock_in text.now))) }
 {
     let year = two_at(0, text) * 100 + two_at(2, text);
     let Some(day) = day_number(year, two_at(5, text), two_at(8, text)) else {
@@ -197,6 +197,7 @@ fn seconds_in(text: &[u8]) -> Option<i64>
 /// The moment of a text: `YYYY-MM-DDTHH:MM:SS`, perhaps a fraction, which is dropped, and `Z`, of the years 0001 to 9999.
 /// Any other text is `NotADate`.
 pub fn read_utc(text: &[u8]) -> Result<UtcDate, FormFault>
+    ensures moment { IfOk result IsMoment }
     ensures ok { IfOk result (λ date. IsUtcText text.now date) }
     ensures err { OnErr result ((date : TheDate) → ¬ (IsUtcText text.now date)) }
     ensures fault { IfErr result (λ e. e ≡ FormFault.NotADate) }

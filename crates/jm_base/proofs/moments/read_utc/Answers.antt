@@ -1,4 +1,4 @@
-use Rattle.std.proofs.Common.{ℕ, rules, arith, codes, take, length}
+use Rattle.std.proofs.Common.{ℕ, arith, codes, take}
 use Rattle.std.proofs.lemmas.List.{length-take}
 use Rattle.jm_base.proofs.LaidOut.{laid_out_length}
 use Rattle.jm_base.proofs.moments.read_utc.Goals as goal
