@@ -1,6 +1,5 @@
-ghost use Rattle.std.specs.Prelude.{◌≡◌, IfOk, MatchResult};
+ghost use Rattle.std.specs.Prelude.{IfOk};
 ghost use Rattle.mail_records.specs.Commits.{IsFormed};
-ghost use Rattle.record_codec.specs.declared.faults.CodecFault.TheVariants.{NoMemory as OutOfMemory};
 
 use crate::places::{READ, REFUSED};
 use crate::{CodecFault, decode, encode};
@@ -19,27 +18,6 @@ fn dropped_thread(alloc: Global) -> Result<Commit, NoMemory>
         edits,
         stamp: Stamp { pass: 1, serial: 1 },
     })
-}
-
-/// What was encoded, decoded: no commit that is formed is refused but for want of memory.
-fn read_again(alloc: Global, commit: &Commit) -> Result<Commit, CodecFault>
-    requires { IsFormed commit.now }
-    ensures { MatchResult result (λ again. again ≡ commit.now) (λ fault. fault ≡ OutOfMemory) }
-{
-    match encode(alloc, commit) {
-        Ok(bytes) => decode(alloc, bytes.as_slice()),
-        Err(NoMemory) => Err(CodecFault::NoMemory),
-    }
-}
-
-#[test]
-fn what_was_encoded_is_read_again(rt: HostRuntime) -> Result<(), Fail> {
-    let commit = dropped_thread(rt.alloc())?;
-    let again = read_again(rt.alloc(), &commit).ok().ok_or("it is read")?;
-    assert_eq!(rt; again.stamp, Stamp { pass: 1, serial: 1 });
-    assert_eq!(rt; again.blobs.len(), 0);
-    assert_eq!(rt; again.edits.len(), 1);
-    Ok(())
 }
 
 #[test]
