@@ -1,0 +1,2 @@
+pub mod Angled
+pub mod Folds
