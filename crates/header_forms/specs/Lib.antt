@@ -4,4 +4,5 @@ pub mod Marks
 pub mod Groups
 pub mod Addresses
 pub mod Dates
+pub mod DateWords
 pub mod Forms
