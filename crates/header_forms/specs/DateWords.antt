@@ -1,7 +1,9 @@
 -- The words of a date from the front on.
-use Rattle.std.specs.Prelude.{◌≡◌, ℕ, zero, suc, ◌+◌, ◌-◌, Bool, true, false, ◌||◌, not, ◌==◌, List, [], ◌∷◌, Option, Some, None, option_map, if◌then◌else◌}
+use Rattle.std.specs.Prelude.{◌≡◌, ℕ, zero, suc, ◌+◌, ◌-◌, Bool, true, false, ◌&&◌, ◌||◌, not, ◌==◌, List, [], ◌∷◌, Option, Some, None, option_map, if◌then◌else◌}
 use Rattle.std.specs.Char.{is_ascii_whitespace}
-use Rattle.header_forms.specs.Dates.{State, between, inside, read_from, all_words}
+use Rattle.mime_words.specs.Words.{◌>>=◌}
+use Rattle.header_forms.specs.Dates.{State, between, inside, read_from, all_words, words_of}
+use Rattle.header_forms.specs.declared.dates_moment.Moment.{Moment}
 
 -- where a byte stands if this many comments are open
 abbrev pub state_at : ℕ → State
@@ -32,7 +34,12 @@ begins_word (b ∷ bs) = not (is_gap b)
 
 -- a byte that goes on with a word
 abbrev pub is_in_word : ℕ → Bool
-is_in_word b = not (b == 40 || is_ascii_whitespace b || b == 44)
+is_in_word b = not (is_gap b) && not (b == 44)
+
+-- a word that is no comma begins
+abbrev pub starts_word : List ℕ → Bool
+starts_word [] = false
+starts_word (b ∷ bs) = is_in_word b
 
 -- the gap at the front ends here, or its last comment doesn't close
 abbrev pub Stops : ℕ → List ℕ → Type 0
@@ -50,3 +57,7 @@ abbrev pub is_end : Option (List (List ℕ)) → Bool
 is_end None = false
 is_end (Some []) = true
 is_end (Some (word ∷ words)) = false
+
+-- the moment that the words of a text say, by what words say
+abbrev pub moment_from : (List (List ℕ) → Option Moment) → List ℕ → Option Moment
+moment_from say text = words_of text >>= say

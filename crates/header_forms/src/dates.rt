@@ -1,10 +1,12 @@
 // The Date form (RFC 5322, sections 3.3 and 4.3; RFC 8621, section 4.1.2.6).
-ghost use Rattle.std.specs.Prelude.{◌≡◌, IfOk, IfSome};
+ghost use Rattle.std.specs.Prelude.{◌≡◌, ◌+◌, ◌*◌, ◌*ℤ◌, pos, IfOk, IfSome};
+ghost use Rattle.jiff.specs.Words.{IsWithin};
+ghost use Rattle.jiff_core.specs.Calendar.{days_from_civil};
 ghost use Rattle.jm_base.specs.Moments.{IsMoment};
 ghost use Rattle.header_forms.specs.Dates;
 ghost use Rattle.header_forms.specs.Dates.{IsReal, date_text, moment_seconds, utc_of};
 
-use crate::dates_moment::{Moment, Offset};
+use crate::dates_moment::{Moment, Offset, Time};
 use crate::dates_read::read_moment;
 use crate::dates_text::moment_text;
 use jiff::civil::date;
@@ -22,11 +24,30 @@ pub fn date_of(alloc: Global, text: &[u8]) -> Result<Option<Text>, NoMemory>
     }
 }
 
+/// The seconds from the beginning of 1970 to that of the day.
+fn day_seconds(moment: &Moment) -> i64
+    requires { IsReal moment.now }
+    ensures value { result ≡ days_from_civil (pos moment.now.year) moment.now.month moment.now.day *ℤ pos 86400 }
+    ensures bound { IsWithin 400000000000 result }
+{
+    let day = date(moment.year as i16, moment.month as i8, moment.day as i8);
+    i64::from(day.to_plain().to_unix_epoch_day()) * 86400
+}
+
+/// The seconds of a day that have gone by.
+fn clock_seconds(time: Time) -> i64
+    ensures value { result ≡ pos (time.hour * 3600 + time.minute * 60 + time.second) }
+    ensures bound { IsWithin 4294967295 result }
+{
+    i64::from(u32::from(time.hour) * 3600 + u32::from(time.minute) * 60 + u32::from(time.second))
+}
+
 /// How many seconds a zone's clock is ahead of UTC.
 fn offset_seconds(offset: Offset) -> i64
-    ensures { result ≡ Dates.offset_seconds offset }
+    ensures value { result ≡ Dates.offset_seconds offset }
+    ensures bound { IsWithin 4294967295 result }
 {
-    let seconds = i64::from(offset.minutes) * 60;
+    let seconds = i64::from(u32::from(offset.minutes) * 60);
     if offset.behind { -seconds } else { seconds }
 }
 
@@ -35,12 +56,7 @@ fn seconds_of(moment: &Moment) -> i64
     requires { IsReal moment.now }
     ensures { result ≡ moment_seconds moment.now }
 {
-    let day = date(moment.year as i16, moment.month as i8, moment.day as i8);
-    let days = i64::from(day.to_plain().to_unix_epoch_day());
-    let time = moment.time;
-    let clock =
-        i64::from(time.hour) * 3600 + i64::from(time.minute) * 60 + i64::from(time.second);
-    days * 86400 + clock - offset_seconds(moment.offset)
+    day_seconds(moment) + clock_seconds(moment.time) - offset_seconds(moment.offset)
 }
 
 /// The moment, if it is of the years 0001 to 9999.

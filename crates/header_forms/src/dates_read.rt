@@ -1,9 +1,9 @@
 // A date, word by word (RFC 5322, section 3.3).
 ghost use Rattle.std.specs.Prelude.{◌≡◌, ◌<◌, ◌≤◌, ◌∷◌, IfSome, pos, ◌&&◌, nat_le};
 ghost use Rattle.jiff.specs.Words.{days_in_month};
-ghost use Rattle.mime_words.specs.Words.{◌>>=◌};
 ghost use Rattle.header_forms.specs.Dates;
-ghost use Rattle.header_forms.specs.Dates.{IsReal, words_of, moment_of_words, moment_in};
+ghost use Rattle.header_forms.specs.Dates.{IsReal, moment_of_words, moment_in};
+ghost use Rattle.header_forms.specs.DateWords.{moment_from};
 
 use crate::dates_moment::Moment;
 use crate::dates_parts::{month, number, time, weekday, year, zone};
@@ -65,7 +65,7 @@ fn moment_by(
 
 /// The moment that these two words say with the words of the text.
 fn behind_month(day_word: &[u8], month_word: &[u8], text: &[u8]) -> Option<Moment>
-    ensures value { result ≡ words_of text.now >>= (λ later. moment_of_words (day_word.now ∷ month_word.now ∷ later)) }
+    ensures value { result ≡ moment_from (λ later. moment_of_words (day_word.now ∷ month_word.now ∷ later)) text.now }
     ensures real { IfSome result IsReal }
 {
     let year = next_word(text)?;
@@ -79,7 +79,7 @@ fn behind_month(day_word: &[u8], month_word: &[u8], text: &[u8]) -> Option<Momen
 
 /// The moment that the words of the text say, without a weekday.
 fn behind_comma(text: &[u8]) -> Option<Moment>
-    ensures value { result ≡ words_of text.now >>= moment_of_words }
+    ensures value { result ≡ moment_from moment_of_words text.now }
     ensures real { IfSome result IsReal }
 {
     let day = next_word(text)?;

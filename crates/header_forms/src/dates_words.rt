@@ -4,7 +4,7 @@ ghost use Rattle.std.specs.Prelude.{◌≡◌, ◌<◌, ◌≤◌, ◌+◌, ◌�
 ghost use Rattle.std.specs.List.{prefix_len};
 ghost use Rattle.header_forms.specs.Dates.{words_of};
 ghost use Rattle.header_forms.specs.DateWords;
-ghost use Rattle.header_forms.specs.DateWords.{words_from, begins_word, Stops, has_no_word, is_end};
+ghost use Rattle.header_forms.specs.DateWords.{words_from, begins_word, starts_word, Stops, has_no_word, is_end};
 
 /// How many comments are open, and the text that is left.
 #[derive(Clone, Copy)]
@@ -128,7 +128,7 @@ fn skip_gaps(text: &[u8]) -> Option<&[u8]>
 fn is_in_word(byte: u8) -> bool
     ensures { result ≡ DateWords.is_in_word byte }
 {
-    !(byte == b'(' || byte.is_ascii_whitespace() || byte == b',')
+    !(byte == b'(' || byte.is_ascii_whitespace()) && byte != b','
 }
 
 /// How long the word at the front is.
@@ -142,6 +142,16 @@ fn word_len(text: &[u8]) -> usize
         }
     }
     text.len()
+}
+
+/// The word at the front, which is no comma.
+#[tactic(auto, using(crate::proofs::DateSplit::word_split))]
+fn plain_word(text: &[u8]) -> Word<'_>
+    requires { starts_word text.now ≡ true }
+    ensures { words_of text.now ≡ option_map (λ later. result.word.now ∷ later) (words_of result.rest.now) }
+{
+    let (word, rest) = text.split_at(word_len(text));
+    Word { word, rest }
 }
 
 /// The word that begins the text; none where the text is at its end.
@@ -159,8 +169,7 @@ fn front_word(text: &[u8]) -> Option<Word<'_>>
                     rest,
                 });
             }
-            let (word, rest) = text.split_at(word_len(text));
-            Some(Word { word, rest })
+            Some(plain_word(text))
         }
     }
 }
