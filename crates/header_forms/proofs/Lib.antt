@@ -1,1 +1,2 @@
 pub mod DateSplit
+pub mod DateWalk

@@ -14,6 +14,7 @@ fn digits(word: &[u8]) -> Option<u16>
     ensures value { result ≡ (if list_all is_ascii_digit word.now then Some (value_from 0 word.now) else None) }
     ensures bound { IfSome result (λ n. n < 10000) }
     ensures short { IfSome result (λ n. length word.now ≤ 3 → n < 1000) }
+    ensures shorter { IfSome result (λ n. length word.now ≤ 2 → n < 100) }
 {
     let mut value: u16 = 0;
     for byte in word {
@@ -31,6 +32,7 @@ pub fn number(least: usize, most: usize, word: &[u8]) -> Option<u16>
     ensures value { result ≡ number_in least most word.now }
     ensures bound { IfSome result (λ n. n < 10000) }
     ensures short { IfSome result (λ n. length word.now ≤ 3 → n < 1000) }
+    ensures shorter { IfSome result (λ n. length word.now ≤ 2 → n < 100) }
     ensures within { IfSome result (λ n. length word.now ≤ most) }
 {
     if word.len() < least || most < word.len() {
