@@ -1,9 +1,9 @@
 -- A word at the front of a text, and the text behind it.
-use Rattle.std.proofs.Common.{◌≡◌, ℕ, zero, suc, ◌+◌, Bool, true, false, ◌&&◌, ◌||◌, not, cond, eqb, List, [], ◌∷◌, ◌++◌, take, drop, Option, Some, None, option_map, refl, sym, ap, subst, ◌∙◌, rules, arith}
+use Rattle.std.proofs.Common.{◌≡◌, ℕ, suc, ◌+◌, true, false, ◌&&◌, ◌||◌, not, cond, eqb, List, [], ◌∷◌, ◌++◌, take, drop, Option, Some, None, option_map, refl, sym, ap, subst, ◌∙◌, rules, arith}
 use Rattle.std.specs.Char.{is_ascii_whitespace}
 use Rattle.std.specs.List.{prefix_len}
 use Rattle.std.proofs.lemmas.List.{append-nil}
-use Rattle.header_forms.specs.Dates.{Read, State, between, inside, parted, at_comma, read_from, next, with_byte, all_words, word_before, onto, words_of}
+use Rattle.header_forms.specs.Dates.{Read, between, inside, parted, at_comma, read_from, next, with_byte, all_words, word_before, onto, words_of}
 use Rattle.header_forms.specs.DateWords.{is_gap, is_in_word, starts_word}
 
 -- with some bytes before it
@@ -90,7 +90,7 @@ word_split [] is = absurd (search rules)
 word_split (b ∷ bs) is =
     elim (is_in_word b) as (λ v. is_in_word b ≡ v → v ≡ true → words_of (b ∷ bs) ≡ option_map (λ later. take (cond v (1 + len bs) 0) (b ∷ bs) ∷ later) (words_of (drop (cond v (1 + len bs) 0) (b ∷ bs)))) [
       | true ↦ λ h k. subst (λ n. words_of (b ∷ bs) ≡ option_map (λ later. take n (b ∷ bs) ∷ later) (words_of (drop n (b ∷ bs)))) (one_more (len bs)) (
-        ap (option_map all_words) (byte_onto b bs h ∙ ap (option_map (onto b)) (split bs) ∙ onto_joined b (take (len bs) bs) (read_from (drop (len bs) bs) between))
-        ∙ joined b (take (len bs) bs) (read_from (drop (len bs) bs) between) (behind bs))
+          ap (option_map all_words) (byte_onto b bs h ∙ ap (option_map (onto b)) (split bs) ∙ onto_joined b (take (len bs) bs) (read_from (drop (len bs) bs) between))
+          ∙ joined b (take (len bs) bs) (read_from (drop (len bs) bs) between) (behind bs))
       | false ↦ λ h k. absurd (search rules)
     ] refl is

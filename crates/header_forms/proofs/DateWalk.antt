@@ -1,5 +1,5 @@
 -- What the words of a date say, taken one by one.
-use Rattle.std.proofs.Common.{◌≡◌, ℕ, true, false, cond, List, [], ◌∷◌, Option, Some, None, option_map, refl, sym, ap, ◌∙◌, rules}
+use Rattle.std.proofs.Common.{◌≡◌, ℕ, true, false, cond, List, [], ◌∷◌, Option, Some, None, option_map, refl, ap, ◌∙◌, rules}
 use Rattle.mime_words.specs.Words.{◌>>=◌}
 use Rattle.header_forms.specs.Dates.{is_comma, place_in, weekdays, behind_weekday, without_weekday, moment_by, moment_of_words, moment_in, words_of}
 use Rattle.header_forms.specs.declared.dates_moment.Moment.{Moment}

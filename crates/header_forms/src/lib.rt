@@ -5,6 +5,8 @@ mod dates;
 mod dates_moment;
 mod dates_parts;
 mod dates_read;
+#[cfg(test)]
+mod dates_tests;
 mod dates_text;
 mod dates_words;
 mod form;

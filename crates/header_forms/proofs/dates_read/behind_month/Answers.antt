@@ -1,5 +1,4 @@
 use Rattle.std.proofs.Common.{sym, ◌∙◌}
-use Rattle.header_forms.specs.Dates.{words_of}
 use Rattle.header_forms.proofs.DateWalk.{more_words, last_words}
 use Rattle.header_forms.proofs.dates_read.behind_month.Goals as goal
 
