@@ -3,3 +3,5 @@ pub mod Folds
 pub mod Cutting
 pub mod Turned
 pub mod Spelled
+pub mod DateSplit
+pub mod DateWalk

@@ -5,4 +5,5 @@ pub mod Groups
 pub mod Addresses
 pub mod Running
 pub mod Dates
+pub mod DateWords
 pub mod Forms

@@ -2,12 +2,12 @@
 ghost use Rattle.std.specs.Prelude.{◌≡◌, map, IfOk};
 ghost use Rattle.jm_json.specs.Json.{tree_of};
 ghost use Rattle.header_forms.specs.Forms;
-ghost use Rattle.header_forms.specs.Forms.{list_or_null, addresses_tree, form_tree};
-ghost use Rattle.jm_json.specs.Tree.{text as text', list, trees_of};
+ghost use Rattle.header_forms.specs.Forms.{form_tree};
+ghost use Rattle.jm_json.specs.Tree.{text as text'};
 
 use crate::address::{Address, Addresses, Group, Groups};
 use crate::angles::angle_texts_of;
-use crate::date_stand_in::date_of;
+use crate::dates::date_of;
 use crate::form::Form;
 use crate::groups::{addresses_of, groups_of};
 use crate::texts::{on_one_line, raw_of, text_of_value};

@@ -3,7 +3,14 @@
 
 mod address;
 mod angles;
-mod date_stand_in;
+mod dates;
+mod dates_moment;
+mod dates_parts;
+mod dates_read;
+#[cfg(test)]
+mod dates_tests;
+mod dates_text;
+mod dates_words;
 mod form;
 mod forms;
 mod groups;
@@ -18,6 +25,7 @@ mod texts;
 
 pub use address::{Address, Addresses, Group, Groups};
 pub use angles::angle_texts_of;
+pub use dates::{date_of, moment_of};
 pub use form::Form;
 pub use forms::form_of;
 pub use groups::{addresses_of, groups_of};

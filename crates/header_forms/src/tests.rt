@@ -175,6 +175,19 @@ fn unclosed(rt: HostRuntime) -> Result<(), Fail> {
     Ok(())
 }
 
+#[test]
+fn dates(rt: HostRuntime) -> Result<(), Fail> {
+    let table = [
+        (
+            " Tue, 1 Jul 03 10:52:37\r\n +0200 (x)",
+            r#""2003-07-01T10:52:37+02:00""#,
+        ),
+        (" 31 Feb 2020 00:00 GMT", "null"),
+    ];
+    assert!(rt; all_show(rt.alloc(), Form::Date, &table)?);
+    Ok(())
+}
+
 /// What the layers above read.
 #[test]
 fn parts_of_a_value(rt: HostRuntime) -> Result<(), Fail> {
