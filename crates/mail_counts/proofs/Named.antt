@@ -12,13 +12,13 @@ use Rattle.jm_base.specs.declared.identifiers.Kind.TheVariants.{Mailbox as OfMai
 use Rattle.mail_records.specs.Contents.{mailbox_number}
 use Rattle.mail_records.specs.Tables.{lookup}
 use Rattle.mail_records.specs.declared.records.Mailbox.{Mailbox}
-use Rattle.mail_counts.specs.Views.{mailbox_id}
-use Rattle.get_calls.specs.Mailboxes.{mailbox_named}
+use Rattle.mail_counts.specs.Views.{mailbox_id, mailbox_named}
 
+-- the text is the identifier of this number
 abbrev is_id_text : List ℕ → ℕ → Bool
 is_id_text id a = nat_le 1 a && nat_lt a (2 ^ 53) && bytes_eq (mailbox_id a) id
 
-abbrev IsIdText : List ℕ → ℕ → Type 0
+abbrev pub IsIdText : List ℕ → ℕ → Type 0
 IsIdText id a = ((1 ≤ a) × (a < 2 ^ 53)) × (mailbox_id a ≡ id)
 
 decides_from_one : (a : ℕ) → Decides (nat_le 1 a) (1 ≤ a)
