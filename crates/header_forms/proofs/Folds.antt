@@ -1,9 +1,9 @@
 -- Lines of a folded value, one at a time, and the spaces at its beginning.
-use Rattle.std.proofs.Common.{◌≡◌, ◌≢◌, ℕ, zero, suc, ◌<◌, Bool, true, false, eqb, ◌&&◌, List, [], ◌∷◌, ◌++◌, length, get_or, refl, sym, ap, ◌∙◌, arith}
+use Rattle.std.proofs.Common.{◌≡◌, ◌≢◌, ℕ, suc, Bool, true, false, eqb, ◌&&◌, List, [], ◌∷◌, ◌++◌, refl, ap, ◌∙◌, arith}
 use Rattle.std.specs.List.{onto_first, flat_map}
 use Rattle.std.proofs.lemmas.Bool.{ne_eqb}
 use Rattle.std.proofs.lemmas.List.{append-nil}
-use Rattle.mime_lines.specs.Lines.{lines, text, unfolded, is_line_end}
+use Rattle.mime_lines.specs.Lines.{lines, text, unfolded}
 use Rattle.header_forms.specs.Texts.{without_spaces}
 use Rattle.header_forms.proofs.Angled.{Lacks}
 
@@ -41,6 +41,7 @@ text_crlf [] = refl
 text_crlf (b ∷ []) = refl
 text_crlf (b ∷ c ∷ []) = refl
 text_crlf (b ∷ c ∷ d ∷ ds) = ap (λ t. b ∷ t) (text_crlf (c ∷ d ∷ ds))
+
 pub text_lf : (line : List ℕ) → ((front : List ℕ) → line ≢ front ++ 13 ∷ []) → text (line ++ 10 ∷ []) ≡ line
 text_lf [] other = refl
 text_lf (b ∷ []) other = rw (ne_eqb b 13 (λ e. other [] (ap (λ z. z ∷ []) e))) refl

@@ -1,6 +1,5 @@
 -- The groups of a list of which a part is read, piece by piece.
 use Rattle.std.specs.Prelude.{ℕ, List, [], ◌∷◌, ◌++◌, Option, Some, None, if◌then◌else◌}
-use Rattle.header_forms.specs.declared.marks.Mark.{Mark}
 use Rattle.header_forms.specs.declared.marks.Sign.TheVariants.{Comma, Colon, Semicolon}
 use Rattle.header_forms.specs.declared.marks.Part.TheVariants.{Phrase}
 use Rattle.header_forms.specs.declared.address.Address.{Address}

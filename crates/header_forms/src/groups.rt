@@ -30,11 +30,7 @@ fn is_shown(name: &Option<Text>, addresses: &Addresses) -> bool
 }
 
 /// Adds a group, if it is shown.
-fn push_group(
-    groups: &mut Groups,
-    name: Option<Text>,
-    addresses: Addresses,
-) -> Result<(), NoMemory>
+fn push_group(groups: &mut Groups, name: Option<Text>, addresses: Addresses) -> Result<(), NoMemory>
     ensures { OnOk result (groups.new ≡ groups.old ++ shown name addresses) }
 {
     if !is_shown(&name, &addresses) {

@@ -127,7 +127,10 @@ fn groups(rt: HostRuntime) -> Result<(), Fail> {
             "a@[IPv6:1]",
             r#"[{"addresses":[{"email":"1]","name":null}],"name":"a@[IPv6"}]"#,
         ),
-        (" ,; ", r#"[{"addresses":[{"email":";","name":null}],"name":null}]"#),
+        (
+            " ,; ",
+            r#"[{"addresses":[{"email":";","name":null}],"name":null}]"#,
+        ),
         ("", "[]"),
     ];
     assert!(rt; all_show(rt.alloc(), Form::GroupedAddresses, &table)?);
