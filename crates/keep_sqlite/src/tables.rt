@@ -9,7 +9,12 @@ pub const OTHER_FORM: Error = Error::SqliteFailure(ErrorCode::NotADatabase);
 const MAKE: &str =
     "CREATE TABLE about (item INTEGER PRIMARY KEY, value INTEGER NOT NULL); CREATE TABLE commits (place INTEGER PRIMARY KEY, bytes BLOB NOT NULL); INSERT INTO about (item, value) VALUES (1, 1)";
 
-const TABLES: &str = "SELECT count(*) FROM sqlite_schema WHERE name IN ('about', 'commits')";
+// what stands under the names of the two tables
+const NAMED: &str = "SELECT count(*) FROM sqlite_schema WHERE name IN ('about', 'commits')";
+
+// which of them were made as `MAKE` makes them
+const OURS: &str =
+    "SELECT count(*) FROM sqlite_schema WHERE sql IN ('CREATE TABLE about (item INTEGER PRIMARY KEY, value INTEGER NOT NULL)', 'CREATE TABLE commits (place INTEGER PRIMARY KEY, bytes BLOB NOT NULL)')";
 
 const ABOUT: &str = "SELECT item, value FROM about";
 
@@ -28,9 +33,19 @@ pub fn rows<S: Alter>(alloc: Global, tx: &mut Transaction<'_, S>) -> Result<Vec<
     read_rows(alloc, tx.query_all(COMMITS, &[])?)
 }
 
+// whether neither table is there
 fn is_new<S: Alter>(tx: &mut Transaction<'_, S>) -> Result<bool, Error> {
-    let tables: i64 = tx.query_row(TABLES, &[])?.get(0)?;
-    Ok(tables == 0)
+    let named = count(tx, NAMED)?;
+    let ours = count(tx, OURS)?;
+    match (named, ours) {
+        (0, 0) => Ok(true),
+        (2, 2) => Ok(false),
+        _ => Err(OTHER_FORM),
+    }
+}
+
+fn count<S: Alter>(tx: &mut Transaction<'_, S>, query: &str) -> Result<i64, Error> {
+    tx.query_row(query, &[])?.get(0)
 }
 
 fn check_about<S: Alter>(tx: &mut Transaction<'_, S>) -> Result<(), Error> {
