@@ -4,7 +4,7 @@ use crate::timing::{nanos_since, no_memory};
 use jm_base::Text;
 use jm_edge::EdgeFault;
 use keep_port::Keeper;
-use keep_sqlite::SqliteKeeper;
+use keep_sqlite::{OpenAt, SqliteKeeper};
 use std::alloc::Global;
 use std::io;
 use std::time::{Clock, Instant};
@@ -40,14 +40,24 @@ fn rows_of<K: Keeper>(alloc: Global, keeper: &mut K) -> io::Result<usize> {
     Ok(keeper.load(alloc).map_err(io_fault)?.rows.len())
 }
 
+// Measures appends to a keeper that is opened first.
+fn measure_keeper<R: Clock + Print + Eprint, S: OpenAt + Send>(
+    rt: &R,
+    alloc: Global,
+    mut keeper: SqliteKeeper<S>,
+) -> io::Result<()> {
+    rows_of(alloc, &mut keeper)?;
+    let nanos = timed_appends(rt, alloc, &mut keeper)?;
+    let rows = rows_of(alloc, &mut keeper)?;
+    println!(rt; "append: {rows} rows")?;
+    eprintln!(rt; "append: {nanos} ns")
+}
+
 /// Measures appends to a file, which it makes where there is none. How many rows the file has then goes to standard output, the time
 /// of the appends to the error output.
 pub(crate) fn measure_append(rt: &HostRuntime, file: &str) -> io::Result<()> {
-    let alloc = rt.alloc();
-    let path = Text::from_str(alloc, file).map_err(|_| no_memory())?;
-    let mut keeper = SqliteKeeper::at(rt, path);
-    rows_of(alloc, &mut keeper)?;
-    let nanos = timed_appends(rt, alloc, &mut keeper)?;
-    println!(rt; "append: {} rows", rows_of(alloc, &mut keeper)?)?;
-    eprintln!(rt; "append: {nanos} ns")
+    match Text::from_str(rt.alloc(), file) {
+        Ok(path) => measure_keeper(rt, rt.alloc(), SqliteKeeper::at(rt, path)),
+        Err(_) => Err(no_memory()),
+    }
 }

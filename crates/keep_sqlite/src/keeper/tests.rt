@@ -170,24 +170,29 @@ fn what_is_no_database_is_refused_and_left_alone(rt: HostRuntime) -> Result<(), 
     Ok(())
 }
 
+// whether it refuses a row before the folder is made, and takes one after it
+fn waits_for_folder<S: OpenAt + Send>(
+    rt: &HostRuntime,
+    mut keeper: SqliteKeeper<S>,
+    name: &str,
+) -> bool {
+    refuses_row(rt.alloc(), &mut keeper, b"a")
+        && fs::create_dir(rt, name).is_ok()
+        && appends(rt.alloc(), &mut keeper, &[b"b"])
+        && counts(&keeper) == [0, 1, 0]
+}
+
 #[test]
 fn a_path_in_no_folder_is_refused_until_there_is_one(rt: HostRuntime) -> Result<(), Fail> {
     let _ = fs::remove_dir_all(&rt, "keep_sqlite_later");
-    let mut keeper = at(&rt, "keep_sqlite_later/a.sqlite")?;
-    assert!(rt; refuses_row(rt.alloc(), &mut keeper, b"a"));
-    fs::create_dir(&rt, "keep_sqlite_later")?;
-    assert!(rt; appends(rt.alloc(), &mut keeper, &[b"b"]) && counts(&keeper) == [0, 1, 0]);
+    let keeper = at(&rt, "keep_sqlite_later/a.sqlite")?;
+    assert!(rt; waits_for_folder(&rt, keeper, "keep_sqlite_later"));
     Ok(())
 }
 
-// whether a call of each kind leaves the note alone
-fn leaves_the_note(rt: &HostRuntime, path: &str) -> Result<bool, Error> {
-    let made = "CREATE TABLE note (n INTEGER); INSERT INTO note VALUES (7)";
-    let mut keeper = adopted(rt, path, made)?;
-    let called = appends(rt.alloc(), &mut keeper, &[b"a"])
-        && replaces(rt.alloc(), &mut keeper, &[b"b"]);
-    drop(keeper);
-    Ok(called && note(Connection::open(rt, path)?)? == 7)
+// whether it takes a row and then another in its place; it is closed then
+fn takes_and_replaces<S: OpenAt + Send>(alloc: Global, mut keeper: SqliteKeeper<S>) -> bool {
+    appends(alloc, &mut keeper, &[b"a"]) && replaces(alloc, &mut keeper, &[b"b"])
 }
 
 fn note<S: Alter + Drop>(mut connection: Connection<S>) -> Result<i64, Error> {
@@ -197,7 +202,10 @@ fn note<S: Alter + Drop>(mut connection: Connection<S>) -> Result<i64, Error> {
 #[test]
 fn another_table_is_left_alone(rt: HostRuntime) -> Result<(), Fail> {
     folder(&rt, "keep_sqlite_other")?;
-    assert!(rt; leaves_the_note(&rt, "keep_sqlite_other/a.sqlite")?);
+    let path = "keep_sqlite_other/a.sqlite";
+    let made = "CREATE TABLE note (n INTEGER); INSERT INTO note VALUES (7)";
+    assert!(rt; takes_and_replaces(rt.alloc(), adopted(&rt, path, made)?));
+    assert_eq!(rt; note(Connection::open(&rt, path)?)?, 7);
     Ok(())
 }
 
