@@ -1,15 +1,13 @@
 // Turns at the account lock beside turns at a mutex, over the same work, by threads in contention.
 ghost use Rattle.std.specs.Prelude.{◌≡◌, true, false, [], length, ◌<◌, ◌^◌, ◌+◌, IfOk, All};
 
+use crate::timing::{RUNS, median, nanos_since, no_memory};
 use account_lock::{AccountLock, Pass, Standing};
 use std::alloc::Global;
 use std::sync::{Mutex, Wait};
 use std::thread::Threads;
 use std::time::{Clock, Instant};
 use std::{io, thread};
-
-// How often each shape is measured. The median counts.
-const RUNS: usize = 5;
 
 // What the locks guard: how many turns were taken. It has no history.
 #[derive(Drop)]
@@ -90,15 +88,6 @@ fn mutex_turns<R: Wait>(rt: &R, lock: &Mutex<Tally>, rounds: u64) {
     }
 }
 
-fn no_memory() -> io::Error {
-    io::Error::from(io::ErrorKind::OutOfMemory)
-}
-
-fn nanos_since<R: Clock>(rt: &R, start: Instant) -> io::Result<u64> {
-    let took = start.elapsed(rt)?;
-    Ok(u64::try_from(took.as_nanos()).unwrap_or(u64::MAX))
-}
-
 // Turns at a mutex, by threads at once.
 fn by_mutex<R: Threads + Wait + Clock + Sync>(
     rt: &R,
@@ -167,12 +156,6 @@ fn by_account_lock<R: Threads + Wait + Clock + Sync>(
     let turns = tally.turns;
     lock.give(&mut last, tally);
     Ok(Measured { nanos, turns })
-}
-
-// The middle one of the times.
-fn median(mut nanos: [u64; RUNS]) -> u64 {
-    nanos.sort_unstable();
-    nanos[RUNS / 2]
 }
 
 // Turns at both locks, one after the other, as often as there are runs.

@@ -1,29 +1,33 @@
 //! The program `measure`: how long calls of the library take, beside a plain way to do the same work. The benchmarks run it.
 //!
 //! Times go to the error output, and counts, which are the same whatever the schedule, to standard output. Status 2 comes where the
-//! words name nothing to measure, and 1 where the clock, the memory or the output failed.
+//! words name nothing to measure, and 1 where the clock, the memory, a file or the output failed.
 #![tactic(auto)]
 
+mod append;
 mod lock;
 mod task;
+mod timing;
 
+use crate::append::measure_append;
 use crate::lock::measure_lock;
 use crate::task::{Task, USAGE};
 use std::process::ExitCode;
 use std::{env, io};
 
 fn main(rt: HostRuntime) -> ExitCode {
-    let task = match words_of(&rt) {
-        Ok(words) => Task::of_words(words.as_slice()),
+    let words = match words_of(&rt) {
+        Ok(words) => words,
         Err(refused) => {
             if refused.kind() == io::ErrorKind::OutOfMemory {
                 return ExitCode::from(1);
             }
-            None
+            Vec::new(rt.alloc())
         }
     };
-    match task {
+    match Task::of_words(words.as_slice()) {
         Some(Task::Lock { rounds }) => status_of(measure_lock(&rt, rt.alloc(), rounds)),
+        Some(Task::Append { file }) => status_of(measure_append(&rt, file)),
         None => {
             let _ = eprintln!(rt; "{}", USAGE);
             ExitCode::from(2)

@@ -1,0 +1,130 @@
+// A keeper of rows in a database, with its faults counted. What the database holds is not told.
+ghost use Rattle.std.specs.Prelude.{◌≡◌, None, IsSome};
+ghost use Rattle.jm_edge.specs.Causes.{Rose};
+ghost use Rattle.keep_port.specs.Keeping.{IsCounted, kept_after, whole_if, MayLeave, MustLeave};
+
+use crate::access::{Access, OpenAt, Place};
+use jm_base::Text;
+use jm_edge::EdgeFault;
+use keep_port::{Keeper, Kept};
+use sqlite::{Alter, Connection, Error, ErrorCode, File, FileStore};
+use std::alloc::Global;
+
+#[cfg(test)]
+mod tests;
+
+/// Keeps rows in a database.
+///
+/// Each call is one transaction. A refusal changes nothing, and but for want of memory it raises the count of its call. Once the
+/// store has shut the database after a fault of the disk, each later call is refused.
+#[derive(Drop)]
+pub struct SqliteKeeper<S: Alter + Drop> {
+    access: Access<S>,
+    load_faults: u64,
+    append_faults: u64,
+    replace_faults: u64,
+}
+
+impl SqliteKeeper<FileStore<File>> {
+    /// A keeper of the file at this path. It opens nothing: the first call opens the file, or makes it. A call by which it can
+    /// not be opened is refused, and the next one tries it again.
+    pub fn at(rt: &HostRuntime, path: Text) -> SqliteKeeper<FileStore<File>>
+        ensures unopened { result.access.place ≡ Place.At rt.now path }
+        ensures loads { result.load_faults ≡ 0 }
+        ensures appends { result.append_faults ≡ 0 }
+        ensures replaces { result.replace_faults ≡ 0 }
+    {
+        SqliteKeeper::new(Place::At(*rt, path))
+    }
+}
+
+impl<S: OpenAt> SqliteKeeper<S> {
+    /// A keeper of what this connection is open to. While a transaction of it is not ended, each call is refused.
+    pub fn adopt(connection: Connection<S>) -> SqliteKeeper<S>
+        ensures adopted { result.access.place ≡ Place.Open connection }
+        ensures loads { result.load_faults ≡ 0 }
+        ensures appends { result.append_faults ≡ 0 }
+        ensures replaces { result.replace_faults ≡ 0 }
+    {
+        SqliteKeeper::new(Place::Open(connection))
+    }
+
+    fn new(place: Place<S>) -> SqliteKeeper<S>
+        ensures place { result.access.place ≡ place }
+        ensures loads { result.load_faults ≡ 0 }
+        ensures appends { result.append_faults ≡ 0 }
+        ensures replaces { result.replace_faults ≡ 0 }
+    {
+        SqliteKeeper {
+            access: Access::new(place),
+            load_faults: 0,
+            append_faults: 0,
+            replace_faults: 0,
+        }
+    }
+}
+
+fn count(faults: &mut u64)
+    ensures { Rose faults.old faults.new }
+{
+    *faults = faults.saturating_add(1);
+}
+
+impl<S: OpenAt + Send> Keeper for SqliteKeeper<S> {
+    ghost kept = { λ _. None };
+
+    ghost image = { λ _ _. ⊥ };
+
+    ghost load_faults = { λ k. k.load_faults };
+
+    ghost append_faults = { λ k. k.append_faults };
+
+    ghost replace_faults = { λ k. k.replace_faults };
+
+    fn load(&mut self, alloc: Global) -> Result<Kept, EdgeFault> {
+        match self.access.load(alloc) {
+            Ok(rows) => Ok(Kept { base: None, rows }),
+            Err(Error::SqliteFailure(ErrorCode::OutOfMemory)) => Err(EdgeFault::NoMemory),
+            Err(_) => {
+                count(&mut self.load_faults);
+                Err(EdgeFault::Failed)
+            }
+        }
+    }
+
+    fn append(&mut self, alloc: Global, row: &[u8]) -> Result<(), EdgeFault> {
+        match self.access.append(alloc, row) {
+            Ok(()) => Ok(()),
+            Err(Error::SqliteFailure(ErrorCode::OutOfMemory)) => Err(EdgeFault::NoMemory),
+            Err(_) => {
+                count(&mut self.append_faults);
+                Err(EdgeFault::Failed)
+            }
+        }
+    }
+
+    /// Keeps these rows in the place of those that are kept. A base is refused, and nothing is asked of the database then.
+    fn replace(&mut self, alloc: Global, whole: &Kept) -> Result<(), EdgeFault>
+        ensures base { IsSome whole.now.base → result ≡ Err EdgeFault.Failed }
+        ensures untouched { IsSome whole.now.base → self.new.access ≡ self.old.access }
+        ensures kept { None ≡ kept_after result (whole_if whole.now None) None }
+        ensures image { MayLeave result (whole_if whole.now None) (λ _. ⊥) (λ _. ⊥) }
+        ensures cases { MustLeave result (whole_if whole.now None) (λ _. ⊥) (λ _. ⊥) }
+        ensures cause { IsCounted self.old.replace_faults self.new.replace_faults result }
+        ensures load_count { self.new.load_faults ≡ self.old.load_faults }
+        ensures append_count { self.new.append_faults ≡ self.old.append_faults }
+    {
+        if whole.base.is_some() {
+            count(&mut self.replace_faults);
+            return Err(EdgeFault::Failed);
+        }
+        match self.access.replace(alloc, whole.rows.as_slice()) {
+            Ok(()) => Ok(()),
+            Err(Error::SqliteFailure(ErrorCode::OutOfMemory)) => Err(EdgeFault::NoMemory),
+            Err(_) => {
+                count(&mut self.replace_faults);
+                Err(EdgeFault::Failed)
+            }
+        }
+    }
+}

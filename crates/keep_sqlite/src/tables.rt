@@ -1,0 +1,106 @@
+// The two tables, made, read and written inside a transaction.
+use jm_base::Bytes;
+use sqlite::{Alter, Error, ErrorCode, Row, Transaction, params};
+use std::alloc::Global;
+
+/// The tables or their rows are not those of this format.
+pub const OTHER_FORM: Error = Error::SqliteFailure(ErrorCode::NotADatabase);
+
+const MAKE: &str =
+    "CREATE TABLE about (item INTEGER PRIMARY KEY, value INTEGER NOT NULL); CREATE TABLE commits (place INTEGER PRIMARY KEY, bytes BLOB NOT NULL); INSERT INTO about (item, value) VALUES (1, 1)";
+
+// what stands under the names of the two tables
+const NAMED: &str = "SELECT count(*) FROM sqlite_schema WHERE name IN ('about', 'commits')";
+
+// which of them were made as `MAKE` makes them
+const OURS: &str =
+    "SELECT count(*) FROM sqlite_schema WHERE sql IN ('CREATE TABLE about (item INTEGER PRIMARY KEY, value INTEGER NOT NULL)', 'CREATE TABLE commits (place INTEGER PRIMARY KEY, bytes BLOB NOT NULL)')";
+
+const ABOUT: &str = "SELECT item, value FROM about";
+
+const COMMITS: &str = "SELECT place, bytes FROM commits ORDER BY place";
+
+const INSERT: &str = "INSERT INTO commits (place, bytes) VALUES (?1, ?2)";
+
+/// The rows in the order of their places. It makes the tables where there is neither, and refuses any that are not of this
+/// format.
+pub fn rows<S: Alter>(alloc: Global, tx: &mut Transaction<'_, S>) -> Result<Vec<Bytes>, Error> {
+    if is_new(tx)? {
+        tx.execute_batch(MAKE)?;
+        return Ok(Vec::new(alloc));
+    }
+    check_about(tx)?;
+    read_rows(alloc, tx.query_all(COMMITS, &[])?)
+}
+
+// whether neither table is there
+fn is_new<S: Alter>(tx: &mut Transaction<'_, S>) -> Result<bool, Error> {
+    let named = count(tx, NAMED)?;
+    let ours = count(tx, OURS)?;
+    match (named, ours) {
+        (0, 0) => Ok(true),
+        (2, 2) => Ok(false),
+        _ => Err(OTHER_FORM),
+    }
+}
+
+fn count<S: Alter>(tx: &mut Transaction<'_, S>, query: &str) -> Result<i64, Error> {
+    tx.query_row(query, &[])?.get(0)
+}
+
+fn check_about<S: Alter>(tx: &mut Transaction<'_, S>) -> Result<(), Error> {
+    let about = tx.query_all(ABOUT, &[])?;
+    if about.len() != 1 {
+        return Err(OTHER_FORM);
+    }
+    let item: i64 = about[0].get(0)?;
+    let value: i64 = about[0].get(1)?;
+    if item == 1 && value == 1 {
+        Ok(())
+    } else {
+        Err(OTHER_FORM)
+    }
+}
+
+fn read_rows(alloc: Global, found: Vec<Row>) -> Result<Vec<Bytes>, Error> {
+    let mut rows = Vec::with_capacity(alloc, found.len())?;
+    let mut place = 0i64;
+    for row in found {
+        place = place.saturating_add(1);
+        rows.push(read_row(&row, place)?)?;
+    }
+    Ok(rows)
+}
+
+fn read_row(row: &Row, place: i64) -> Result<Bytes, Error> {
+    let found: i64 = row.get(0)?;
+    if found != place {
+        return Err(OTHER_FORM);
+    }
+    let bytes: Vec<u8> = row.get(1)?;
+    Ok(Bytes::from_vec(bytes))
+}
+
+/// The last place of so many rows.
+pub fn last_of(rows: usize) -> Result<i64, Error> {
+    i64::try_from(rows).map_err(|_| OTHER_FORM)
+}
+
+/// Puts a row at the place after the last one, and answers its place.
+pub fn insert<S: Alter>(tx: &mut Transaction<'_, S>, last: i64, row: &[u8]) -> Result<i64, Error> {
+    let Some(place) = last.checked_add(1) else {
+        return Err(OTHER_FORM);
+    };
+    tx.execute(INSERT, params![place, row])?;
+    Ok(place)
+}
+
+/// Puts these rows at the places from 1, after those that were there are gone, and answers the last place.
+pub fn insert_all<S: Alter>(tx: &mut Transaction<'_, S>, rows: &[Bytes]) -> Result<i64, Error> {
+    tx.execute("DELETE FROM commits", &[])?;
+    let mut last = 0i64;
+    for row in rows {
+        last = insert(tx, last, row.as_slice())?;
+    }
+    Ok(last)
+}

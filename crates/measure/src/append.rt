@@ -1,0 +1,63 @@
+// Appends of rows to a file, each in a transaction of its own.
+
+use crate::timing::{nanos_since, no_memory};
+use jm_base::Text;
+use jm_edge::EdgeFault;
+use keep_port::Keeper;
+use keep_sqlite::{OpenAt, SqliteKeeper};
+use std::alloc::Global;
+use std::io;
+use std::time::{Clock, Instant};
+
+// How many rows are put behind those of the file.
+const ROWS: u64 = 1000;
+
+// A row of 200 bytes.
+const ROW: [u8; 200] = [b'x'; 200];
+
+fn io_fault(fault: EdgeFault) -> io::Error {
+    match fault {
+        EdgeFault::NoMemory => no_memory(),
+        EdgeFault::Failed => io::Error::from(io::ErrorKind::Other),
+    }
+}
+
+fn append_rows<K: Keeper>(alloc: Global, keeper: &mut K) -> Result<(), EdgeFault> {
+    for _ in 0..ROWS {
+        keeper.append(alloc, &ROW)?;
+    }
+    Ok(())
+}
+
+// The nanoseconds of the appends, without the opening.
+fn timed_appends<R: Clock, K: Keeper>(rt: &R, alloc: Global, keeper: &mut K) -> io::Result<u64> {
+    let start = Instant::now(rt)?;
+    append_rows(alloc, keeper).map_err(io_fault)?;
+    nanos_since(rt, start)
+}
+
+fn rows_of<K: Keeper>(alloc: Global, keeper: &mut K) -> io::Result<usize> {
+    Ok(keeper.load(alloc).map_err(io_fault)?.rows.len())
+}
+
+// Measures appends to a keeper that is opened first.
+fn measure_keeper<R: Clock + Print + Eprint, S: OpenAt + Send>(
+    rt: &R,
+    alloc: Global,
+    mut keeper: SqliteKeeper<S>,
+) -> io::Result<()> {
+    rows_of(alloc, &mut keeper)?;
+    let nanos = timed_appends(rt, alloc, &mut keeper)?;
+    let rows = rows_of(alloc, &mut keeper)?;
+    println!(rt; "append: {rows} rows")?;
+    eprintln!(rt; "append: {nanos} ns")
+}
+
+/// Measures appends to a file, which it makes where there is none. How many rows the file has then goes to standard output, the time
+/// of the appends to the error output.
+pub(crate) fn measure_append(rt: &HostRuntime, file: &str) -> io::Result<()> {
+    match Text::from_str(rt.alloc(), file) {
+        Ok(path) => measure_keeper(rt, rt.alloc(), SqliteKeeper::at(rt, path)),
+        Err(_) => Err(no_memory()),
+    }
+}
