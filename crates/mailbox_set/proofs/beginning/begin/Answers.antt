@@ -12,7 +12,7 @@ returns-clause-follows c =
     let content = c.args.content.now.content in
     let next = c.next.ensures in
     record {
-      numbered = c.requires;
+      table = subst (IsTable mailbox_number) c.mailboxes.ensures.items c.mailboxes.ensures.table;
       next = c.next.ensures;
       grown = omega arith;
       found = λ n. found_first content.next_mailbox c.next.result n (is_some (mailbox_at content n)) c.next.ensures;
