@@ -1,5 +1,5 @@
 -- The mailboxes that a set has given numbers by now, and those from the next number on, as a new mailbox is put among them.
-use Rattle.std.proofs.Common.{◌≡◌, ◌≢◌, ◌==◌, ℕ, ◌+◌, ◌<◌, ◌≤◌, Bool, true, false, ◌&&◌, ◌||◌, not, eqb, ltb, leb, nat_le, nat_lt, List, [], ◌∷◌, ◌++◌, take, drop, refl, sym, ap, ap₂, ◌∙◌, arith, ⊎_elim, ne_eqb, eq-eqb, le-leb, le-ltb, lt-ltb, take-append-drop}
+use Rattle.std.proofs.Common.{◌≡◌, ◌≢◌, ◌==◌, ℕ, ◌+◌, ◌<◌, ◌≤◌, Bool, true, false, ◌&&◌, ◌||◌, not, eqb, ltb, leb, nat_le, nat_lt, List, [], ◌∷◌, ◌++◌, take, drop, refl, sym, ap, ap₂, ◌∙◌, subst, arith, ⊎_elim, ne_eqb, eq-eqb, le-leb, le-ltb, lt-ltb, take-append-drop}
 use Rattle.std.specs.List.{AllByRecursion, list_any}
 use Rattle.std.proofs.lemmas.Bool.{cases_Bool, eqb-true, eqb-false, ltb-true, ltb-false, leb-true}
 use Rattle.std.proofs.lemmas.List.Folds.{list_any-append}
@@ -60,7 +60,7 @@ any_put number test r (x ∷ xs) table =
     (λ (same : eqb (number r) (number x) ≡ true).
     let is : number r ≡ number x = eqb-true (number r) (number x) same in
     let flipped : eqb (number x) (number r) ≡ true = eq-eqb (number x) (number r) (sym is) in
-    rw (high, same, flipped) (ap (λ b. test r || b) (sym (rw is (any_other number (number x) test xs table.0)))))
+    rw (high, same, flipped) (ap (λ b. test r || b) (sym (any_other number (number r) test xs (subst (λ k. AllByRecursion (λ y. k < number y) xs) (sym is) table.0)))))
     (λ (differs : eqb (number r) (number x) ≡ false).
     let ne = eqb-false (number r) (number x) differs in
     let flipped : eqb (number x) (number r) ≡ false = ne_eqb (number x) (number r) (λ e. ne (sym e)) in

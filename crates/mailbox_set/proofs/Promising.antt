@@ -1,6 +1,5 @@
 -- What the edits of a set keep, create by create.
 use Rattle.std.proofs.Common.{◌≡◌, ◌≢◌, Result, Ok, Err, IfOk, IfErr, MatchResult, ℕ, zero, suc, nat_lt, if◌then◌else◌, Bool, true, false, not, cond, ◌||◌, List, [], ◌∷◌, ◌++◌, map, filter, length, Option, Some, None, is_some, unwrap_or, option_map, option_and_then, refl, sym, ap, ◌∙◌, subst, pos, negsuc, eqb, bytes_eq, codes}
-use Rattle.std.specs.List as lists
 use Rattle.std.specs.List.{AllByRecursion, list_any}
 use Rattle.std.specs.Ordering.{nat_cmp, match_ordering}
 use Rattle.std.specs.Cmp.Lexicographic.{slice_cmp}
@@ -20,7 +19,7 @@ use Rattle.mail_records.specs.declared.records.Mailbox.{Mailbox}
 use Rattle.mail_records.proofs.Growth.{AreNumbered-after_edit, after_edits-append, AllFit-append}
 use Rattle.mail_counts.specs.Forms.{is_name, is_role, is_sort_order}
 use Rattle.mail_counts.specs.Tidy.{IsTidy, IsThere, IsNewMailbox, is_sibling}
-use Rattle.mail_counts.specs.Views.{mailbox_id, mailbox_members}
+use Rattle.mail_counts.specs.Views.{is_id_of, mailbox_members, mailbox_named}
 use Rattle.mail_counts.proofs.Growth.{Fits-new_mailbox, Tidy_with_new_mailbox}
 use Rattle.mailbox_set.specs.Asked.{Asked, asked, asked_name, asked_parent, identifier, named, only_if, parent_in, role_in, sort_order_in}
 use Rattle.mailbox_set.specs.Creates.{Create, Course, after_create, after_checks, after_made, bad_in, bad_members, blank, faults_of, is_bad, is_name_taken, is_role_taken, mailbox_of, new_mailbox, property, refusal}

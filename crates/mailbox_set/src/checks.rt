@@ -139,12 +139,21 @@ fn is_role_used<'a>(planner: &Planner<'a>, role: Option<&'a Text>) -> bool
     }
 }
 
-fn is_role_taken<'a>(planner: &Planner<'a>, asked: &Asked<'a>) -> bool
-    ensures { (s : Course) → Follows planner.now s → result ≡ is_role_taken s.content (unwrap_or (asked_of asked.now).role None) }
+fn is_name_bad<'a>(planner: &Planner<'a>, asked: &Asked<'a>) -> bool
+    ensures { (s : Course) → Follows planner.now s → result ≡ (faults_of s.content (asked_of asked.now)).name }
+{
+    if asked.name.is_none() {
+        return true;
+    }
+    is_name_taken(planner, asked)
+}
+
+fn is_role_bad<'a>(planner: &Planner<'a>, asked: &Asked<'a>) -> bool
+    ensures { (s : Course) → Follows planner.now s → result ≡ (faults_of s.content (asked_of asked.now)).role }
 {
     match asked.role {
         Some(role) => is_role_used(planner, role),
-        None => false,
+        None => true,
     }
 }
 
@@ -153,9 +162,9 @@ pub fn faults_of<'a>(planner: &Planner<'a>, asked: &Asked<'a>) -> Faults
     ensures { (s : Course) → Follows planner.now s → result ≡ faults_of s.content (asked_of asked.now) }
 {
     Faults {
-        name: asked.name.is_none() || is_name_taken(planner, asked),
+        name: is_name_bad(planner, asked),
         parent: asked.parent.is_none(),
-        role: asked.role.is_none() || is_role_taken(planner, asked),
+        role: is_role_bad(planner, asked),
         sort_order: asked.sort_order.is_none(),
         subscribed: asked.subscribed.is_none(),
     }
