@@ -60,6 +60,13 @@ const ROUNDS: &str =
 const ROUNDED: &str =
     "{\"createdIds\":{\"a\":\"M2\",\"b\":\"M1\",\"x\":\"M7\"},\"methodResponses\":[[\"Mailbox/set\",{\"accountId\":\"A1\",\"created\":{\"a\":{\"id\":\"M2\",\"isSubscribed\":true,\"myRights\":{\"mayAddItems\":true,\"mayCreateChild\":true,\"mayDelete\":true,\"mayReadItems\":true,\"mayRemoveItems\":true,\"mayRename\":true,\"maySetKeywords\":true,\"maySetSeen\":true,\"maySubmit\":false},\"role\":null,\"sortOrder\":0,\"totalEmails\":0,\"totalThreads\":0,\"unreadEmails\":0,\"unreadThreads\":0},\"b\":{\"id\":\"M1\",\"isSubscribed\":true,\"myRights\":{\"mayAddItems\":true,\"mayCreateChild\":true,\"mayDelete\":true,\"mayReadItems\":true,\"mayRemoveItems\":true,\"mayRename\":true,\"maySetKeywords\":true,\"maySetSeen\":true,\"maySubmit\":false},\"parentId\":null,\"role\":null,\"sortOrder\":0,\"totalEmails\":0,\"totalThreads\":0,\"unreadEmails\":0,\"unreadThreads\":0}},\"destroyed\":null,\"newState\":\"2\",\"notCreated\":{\"c\":{\"properties\":[\"parentId\"],\"type\":\"invalidProperties\"}},\"notDestroyed\":null,\"notUpdated\":null,\"oldState\":\"0\",\"updated\":null},\"0\"]],\"sessionState\":\"0\"}\n";
 
+// One set makes a mailbox, the next one within it, by its creation id; a get shows both, and the next one those of its list.
+const NAMED: &str =
+    "{\"using\":[\"urn:ietf:params:jmap:core\",\"urn:ietf:params:jmap:mail\"],\"methodCalls\":[[\"Mailbox/set\",{\"accountId\":\"A1\",\"create\":{\"a\":{\"name\":\"A\"}}},\"0\"],[\"Mailbox/set\",{\"accountId\":\"A1\",\"create\":{\"b\":{\"name\":\"B\",\"parentId\":\"#a\"}}},\"1\"],[\"Mailbox/get\",{\"accountId\":\"A1\",\"ids\":null,\"properties\":[\"name\",\"parentId\"]},\"2\"],[\"Mailbox/get\",{\"accountId\":\"A1\",\"#ids\":{\"resultOf\":\"2\",\"name\":\"Mailbox/get\",\"path\":\"/list/*/id\"},\"properties\":[\"name\"]},\"3\"]]}\n";
+
+const NAMED_REPLY: &str =
+    "{\"methodResponses\":[[\"Mailbox/set\",{\"accountId\":\"A1\",\"created\":{\"a\":{\"id\":\"M1\",\"isSubscribed\":true,\"myRights\":{\"mayAddItems\":true,\"mayCreateChild\":true,\"mayDelete\":true,\"mayReadItems\":true,\"mayRemoveItems\":true,\"mayRename\":true,\"maySetKeywords\":true,\"maySetSeen\":true,\"maySubmit\":false},\"parentId\":null,\"role\":null,\"sortOrder\":0,\"totalEmails\":0,\"totalThreads\":0,\"unreadEmails\":0,\"unreadThreads\":0}},\"destroyed\":null,\"newState\":\"1\",\"notCreated\":null,\"notDestroyed\":null,\"notUpdated\":null,\"oldState\":\"0\",\"updated\":null},\"0\"],[\"Mailbox/set\",{\"accountId\":\"A1\",\"created\":{\"b\":{\"id\":\"M2\",\"isSubscribed\":true,\"myRights\":{\"mayAddItems\":true,\"mayCreateChild\":true,\"mayDelete\":true,\"mayReadItems\":true,\"mayRemoveItems\":true,\"mayRename\":true,\"maySetKeywords\":true,\"maySetSeen\":true,\"maySubmit\":false},\"role\":null,\"sortOrder\":0,\"totalEmails\":0,\"totalThreads\":0,\"unreadEmails\":0,\"unreadThreads\":0}},\"destroyed\":null,\"newState\":\"2\",\"notCreated\":null,\"notDestroyed\":null,\"notUpdated\":null,\"oldState\":\"1\",\"updated\":null},\"1\"],[\"Mailbox/get\",{\"accountId\":\"A1\",\"list\":[{\"id\":\"M1\",\"name\":\"A\",\"parentId\":null},{\"id\":\"M2\",\"name\":\"B\",\"parentId\":\"M1\"}],\"notFound\":[],\"state\":\"2\"},\"2\"],[\"Mailbox/get\",{\"accountId\":\"A1\",\"list\":[{\"id\":\"M1\",\"name\":\"A\"},{\"id\":\"M2\",\"name\":\"B\"}],\"notFound\":[],\"state\":\"2\"},\"3\"]],\"sessionState\":\"0\"}\n";
+
 #[test]
 fn makes_mailboxes_and_shows_them(rt: HostRuntime) -> Result<(), Fail> {
     let alloc = rt.alloc();
@@ -71,6 +78,13 @@ fn makes_mailboxes_and_shows_them(rt: HostRuntime) -> Result<(), Fail> {
 fn makes_mailboxes_in_rounds(rt: HostRuntime) -> Result<(), Fail> {
     let alloc = rt.alloc();
     assert!(rt; writes(&rt, alloc, ROUNDS, ROUNDED)?);
+    Ok(())
+}
+
+#[test]
+fn names_what_earlier_calls_made_and_showed(rt: HostRuntime) -> Result<(), Fail> {
+    let alloc = rt.alloc();
+    assert!(rt; writes(&rt, alloc, NAMED, NAMED_REPLY)?);
     Ok(())
 }
 
@@ -134,6 +148,37 @@ fn names_what_is_wrong_with_a_call(rt: HostRuntime) -> Result<(), Fail> {
             "{{\"methodResponses\":[[\"error\",{{\"type\":\"{kind}\"}},\"0\"]],\"sessionState\":\"0\"}}\n"
         )?;
         assert!(rt; writes(&rt, alloc, input.as_str(), reply.as_str())?);
+    }
+    Ok(())
+}
+
+// A get of this many times one identifier.
+fn get_of(alloc: Global, count: u32) -> Result<String, Fail> {
+    let mut line = String::from_str(
+        alloc,
+        "{\"using\":[\"urn:ietf:params:jmap:mail\"],\"methodCalls\":[[\"Mailbox/get\",{\"accountId\":\"A1\",\"ids\":[\"M1\"",
+    )?;
+    for _id in 1..count {
+        line.push_str(",\"M1\"")?;
+    }
+    line.push_str("]},\"0\"]]}")?;
+    Ok(line)
+}
+
+#[test]
+fn a_get_names_at_most_500_identifiers(rt: HostRuntime) -> Result<(), Fail> {
+    let alloc = rt.alloc();
+    for (count, reply) in [
+        (
+            500,
+            "{\"methodResponses\":[[\"Mailbox/get\",{\"accountId\":\"A1\",\"list\":[],\"notFound\":[\"M1\"],\"state\":\"0\"},\"0\"]],\"sessionState\":\"0\"}\n",
+        ),
+        (
+            501,
+            "{\"methodResponses\":[[\"error\",{\"type\":\"requestTooLarge\"},\"0\"]],\"sessionState\":\"0\"}\n",
+        ),
+    ] {
+        assert!(rt; writes(&rt, alloc, get_of(alloc, count)?.as_str(), reply)?);
     }
     Ok(())
 }
