@@ -37,12 +37,7 @@ fn has_role(mailbox: &Mailbox, role: &str) -> bool
 }
 
 /// Whether a mailbox with a number from this one on has this parent and name.
-pub fn is_name_beyond(
-    mailboxes: &[Mailbox],
-    next: u64,
-    parent: Option<u64>,
-    name: &str,
-) -> bool
+pub fn is_name_beyond(mailboxes: &[Mailbox], next: u64, parent: Option<u64>, name: &str) -> bool
     ensures { result ≡ list_any (is_beyond next (is_sibling parent name.now)) mailboxes.now }
 {
     for mailbox in mailboxes {
