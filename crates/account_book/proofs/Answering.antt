@@ -1,6 +1,40 @@
--- Facts of what is in a result.
-use Rattle.std.proofs.Common.{Result, Ok, Err, IfOk}
+-- What a call is answered, from how its plan stands to the limit.
+use Rattle.std.proofs.Common.{◌≡◌, ℕ, ◌+◌, [], ◌∷◌, codes, length, Result, Ok, Err, IfOk, inl, inr, refl, sym, ap, ◌∙◌, subst, arith, length-append}
+use Rattle.mail_records.specs.Histories.{History, Entry, Committed, account_after, grown}
+use Rattle.mail_records.specs.declared.edits.Stamp.{Stamp}
+use Rattle.mail_records.proofs.Prefixes.{account_after-all, account_after-grown_by}
+use Rattle.account_book.specs.Replies.{IsIdle, IsReply, IsReplyTo, IsWithin, commit_of, edit_bytes, refusal}
+use Rattle.account_book.specs.declared.asks.Call.{Call}
+use Rattle.account_book.specs.declared.plans.Out.{Out}
+use Rattle.account_book.specs.declared.plans.Plan.{Plan}
+use Rattle.account_book.specs.declared.plans.Point.{Point}
 
 pub IfOk-weaken : {T E : Type 0} (r : Result T E) (P Q : T → Type 0) → ((x : T) → P x → Q x) → IfOk r P → IfOk r Q
 IfOk-weaken (Ok x) P Q f p = f x p
 IfOk-weaken (Err e) P Q f p = tt
+
+abbrev point_of : ℕ → ℕ → ℕ → ℕ → Point
+point_of account before after moment = record { account = account; before = before; after = after; moment = moment }
+
+-- a plan past the limit is refused at the account's end
+pub IsReply-unavailable : (plan : History → Call → ℕ → Plan) (h : History) (p : Plan) (n moment : ℕ) (call : Call) (stamp : Stamp) (out : Out)
+    → n ≡ length h.entries → p ≡ plan h call moment → ¬ IsIdle p → ¬ IsWithin edit_bytes h p.edits → out ≡ refusal (codes "serverUnavailable") call.ask
+    → (account : ℕ) → IsReply plan edit_bytes h (record { account = account; before = n; after = n; moment = moment }) call stamp out
+IsReply-unavailable plan h p n moment call stamp out count is some past reply account =
+    let now : account_after h n ≡ h = account_after-all h n (omega (arith, count)) in
+    subst (λ b. IsReplyTo (plan b call moment) edit_bytes b b (point_of account n n moment) call.ask stamp out) (sym now)
+    (subst (λ q. IsReplyTo q edit_bytes h h (point_of account n n moment) call.ask stamp out) is (inr (inl (record { some = some; past = past; same = refl; reply = reply }))))
+
+-- a plan within it is answered, and its commit is the account's last entry
+pub IsReply-committed : (plan : History → Call → ℕ → Plan) (h g : History) (p : Plan) (n m moment : ℕ) (call : Call) (stamp : Stamp)
+    → n ≡ length h.entries → m ≡ length g.entries → p ≡ plan h call moment → ¬ IsIdle p → IsWithin edit_bytes h p.edits → g ≡ grown h (Committed (commit_of p stamp))
+    → (account : ℕ) → IsReply plan edit_bytes g (record { account = account; before = n; after = m; moment = moment }) call stamp p.out
+IsReply-committed plan h g p n m moment call stamp count more is some within grows account =
+    let e : Entry = Committed (commit_of p stamp) in
+    let first : account_after g n ≡ h =
+    ap (λ k. account_after k n) grows ∙ (account_after-grown_by h (e ∷ []) n (omega (arith, count)) ∙ account_after-all h n (omega (arith, count))) in
+    let last : account_after g m ≡ g = account_after-all g m (omega (arith, more)) in
+    let next : m ≡ n + 1 = more ∙ (ap (λ (k : History). length k.entries) grows ∙ (length-append h.entries (e ∷ []) ∙ ap (λ k. k + 1) (sym count))) in
+    subst (λ b. IsReplyTo (plan b call moment) edit_bytes b (account_after g m) (point_of account n m moment) call.ask stamp p.out) (sym first)
+    (subst (λ a. IsReplyTo (plan h call moment) edit_bytes h a (point_of account n m moment) call.ask stamp p.out) (sym last)
+    (subst (λ q. IsReplyTo q edit_bytes h g (point_of account n m moment) call.ask stamp p.out) is (inr (inr (record { some = some; within = within; next = next; grows = grows; reply = refl })))))

@@ -1,5 +1,4 @@
 pub mod Keeping
 pub mod Entering
 pub mod Answering
-pub mod Refusals
 pub mod Lasting

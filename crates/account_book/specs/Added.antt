@@ -1,20 +1,21 @@
 -- The rules of the tests keep what rules promise.
-use Rattle.std.proofs.Common.{◌≡◌, ◌↔◌, ℕ, ◌<◌, ◌≤◌, Bool, true, false, List, [], ◌∷◌, ◌++◌, filter, not, eqb, ne_eqb, is_some, None, refl, sym, ap, ◌∙◌, subst, arith}
+use Rattle.std.proofs.Common.{◌≡◌, ◌↔◌, ℕ, ◌<◌, ◌≤◌, Bool, true, false, List, [], ◌∷◌, ◌++◌, eqb, ne_eqb, is_some, None, refl, sym, ap, ap₂, ◌∙◌, subst, arith}
 use Rattle.std.specs.List.{AllByRecursion}
 use Rattle.std.proofs.lemmas.List.{length-append}
 use Rattle.mail_records.specs.Tables.{lookup}
 use Rattle.mail_records.specs.Contents.{Content, AreNumbered, mailbox_number}
 use Rattle.mail_records.specs.Commits.{IsFormed}
 use Rattle.mail_records.specs.Edits.{AllFit, IsSmall}
-use Rattle.mail_records.specs.Histories.{History, Entry, Committed, Refused, is_refused, edits_in, IsSound, NamesThread, edits_of, content_of, grown, empty_history}
+use Rattle.mail_records.specs.Histories.{History, Committed, IsSound, NamesThread, blobs_of, edits_of, content_of, grown, empty_history}
 use Rattle.mail_records.specs.declared.records.Email.{Email}
 use Rattle.mail_records.specs.declared.edits.Edit.{Edit}
 use Rattle.mail_records.specs.declared.edits.Edit.TheVariants.{PutMailbox, DropMailbox, PutEmail, DropEmail, PutThread, DropThread}
 use Rattle.mail_records.specs.declared.edits.Stamp.{Stamp}
 use Rattle.mail_records.proofs.Growth.{AreNumbered-after_edits, AllFit-append}
-use Rattle.mail_records.proofs.Prefixes.{edits_of-grown}
+use Rattle.mail_records.proofs.Prefixes.{edits_of-grown, blobs_of-grown}
 use Rattle.account_book.specs.Replies.{IsWithin, commit_of, edit_bytes, edit_limit}
-use Rattle.account_book.specs.Laws.{IsPlanFor, without_refusals}
+use Rattle.account_book.specs.Laws.{AreBlobsFew, IsPlanFor, without_refusals}
+use Rattle.account_book.specs.Refusals.{edits_of-without_refusals, blobs_of-without_refusals}
 use Rattle.account_book.specs.Adding.{IsAdded, PutsMailbox, adding_plan, plan_with, add}
 use Rattle.account_book.specs.declared.asks.Ask.{Ask}
 use Rattle.account_book.specs.declared.asks.Ask.TheVariants.{Method, Upload, Blob, Fetch, Place, States}
@@ -74,17 +75,24 @@ All-append P (x ∷ xs) ys a b = (a.0, All-append P xs ys a.1 b)
 adding_puts : (h : History) (call : Call) → AllByRecursion PutsMailbox (adding_plan h call).edits
 adding_puts h call = by_plan (λ p. AllByRecursion PutsMailbox p.edits) call.ask call.read_only (content_of h).next_mailbox (tt, tt) tt
 
+adding_blobs : (h : History) (call : Call) → (adding_plan h call).blobs ≡ []
+adding_blobs h call = by_plan (λ p. p.blobs ≡ []) call.ask call.read_only (content_of h).next_mailbox refl refl
+
 pub adding_keeps : (h : History) (call : Call) (stamp : Stamp) → IsAdded h → IsWithin edit_bytes h (adding_plan h call).edits → IsAdded (grown h (Committed (commit_of (adding_plan h call) stamp)))
 adding_keeps h call stamp whole within =
     let p = adding_plan h call in
     let all = edits_of-grown h (Committed (commit_of p stamp)) in
     record {
       no_emails = whole.no_emails;
+      no_blobs = blobs_of-grown h (Committed (commit_of p stamp)) ∙ ap₂ (λ xs ys. xs ++ ys) whole.no_blobs (adding_blobs h call);
       numbered = whole.numbered;
       fits = subst (AllFit h.base) (sym all) (AllFit-append (edits_of h) p.edits h.base whole.fits (adding_fits h call whole));
       puts = subst (AllByRecursion PutsMailbox) (sym all) (All-append PutsMailbox (edits_of h) p.edits whole.puts (adding_puts h call));
       within = subst (λ n. n ≤ edit_limit) (sym (ap edit_bytes all ∙ length-append (edits_of h) p.edits)) within;
     }
+
+pub adding_few : (h : History) → IsAdded h → AreBlobsFew (blobs_of h)
+adding_few h whole = subst AreBlobsFew (sym whole.no_blobs) (record { count = omega arith; bytes = omega arith })
 
 names_none : (es : List Edit) → AllByRecursion PutsMailbox es → AllByRecursion (NamesThread (λ _. 0)) es
 names_none [] all = tt
@@ -107,29 +115,26 @@ adding_sound h whole = record {
   );
 }
 
-with_edits : (h k : History) → k.base ≡ h.base → edits_of k ≡ edits_of h → IsAdded h → IsAdded k
-with_edits h k base edits whole = record {
+with_edits : (h k : History) → k.base ≡ h.base → edits_of k ≡ edits_of h → blobs_of k ≡ blobs_of h → IsAdded h → IsAdded k
+with_edits h k base edits blobs whole = record {
   no_emails = ap (λ (c : Content). c.emails) base ∙ whole.no_emails;
+  no_blobs = blobs ∙ whole.no_blobs;
   numbered = subst AreNumbered (sym base) whole.numbered;
   fits = subst (λ c. AllFit c (edits_of k)) (sym base) (subst (AllFit h.base) (sym edits) whole.fits);
   puts = subst (AllByRecursion PutsMailbox) (sym edits) whole.puts;
   within = subst (λ es. edit_bytes es ≤ edit_limit) (sym edits) whole.within;
 }
 
-without_marks : (es : List Entry) → edits_in (filter (λ (e : Entry). not (is_refused e)) es) ≡ edits_in es
-without_marks [] = refl
-without_marks (Committed commit ∷ es) = ap (λ edits. commit.edits ++ edits) (without_marks es)
-without_marks (Refused stamp ∷ es) = without_marks es
-
 pub adding_ignores : (h : History) → IsAdded (without_refusals h) ↔ IsAdded h
 adding_ignores h = (
-  with_edits (without_refusals h) h refl (sym (without_marks h.entries)),
-  with_edits h (without_refusals h) refl (without_marks h.entries),
+  with_edits (without_refusals h) h refl (sym (edits_of-without_refusals h)) (sym (blobs_of-without_refusals h)),
+  with_edits h (without_refusals h) refl (edits_of-without_refusals h) (blobs_of-without_refusals h),
 )
 
 pub adding_empty : IsAdded empty_history
 adding_empty = record {
   no_emails = refl;
+  no_blobs = refl;
   numbered = record {
     mailboxes = record { next_from_one = omega arith; from_one = tt; below_next = tt };
     emails = record { next_from_one = omega arith; from_one = tt; below_next = tt };

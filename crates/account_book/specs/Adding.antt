@@ -3,7 +3,7 @@ use Rattle.std.specs.Prelude.{◌≡◌, ℕ, ◌≤◌, Bool, false, [], ◌∷
 use Rattle.std.specs.List.{AllByRecursion}
 use Rattle.mail_records.specs.Contents.{AreNumbered}
 use Rattle.mail_records.specs.Edits.{AllFit}
-use Rattle.mail_records.specs.Histories.{History, edits_of, content_of}
+use Rattle.mail_records.specs.Histories.{History, blobs_of, edits_of, content_of}
 use Rattle.mail_records.specs.declared.records.Mailbox.{Mailbox}
 use Rattle.mail_records.specs.declared.edits.Edit.{Edit}
 use Rattle.mail_records.specs.declared.edits.Edit.TheVariants.{PutMailbox}
@@ -50,9 +50,10 @@ abbrev pub PutsMailbox : Edit → Type 0
 PutsMailbox (PutMailbox item was counts) = ⊤
 PutsMailbox _ = ⊥
 
--- all edits put mailboxes, and fit
+-- there are no emails and no blobs, and all edits put mailboxes, and fit
 pub record IsAdded (h : History) : Type 0 where
   pub no_emails : h.base.emails ≡ []
+  pub no_blobs : blobs_of h ≡ []
   pub numbered : AreNumbered h.base
   pub fits : AllFit h.base (edits_of h)
   pub puts : AllByRecursion PutsMailbox (edits_of h)

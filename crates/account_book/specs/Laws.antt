@@ -1,5 +1,5 @@
 -- What the rules of an account promise.
-use Rattle.std.specs.Prelude.{◌≡◌, ℕ, [], filter, not, ⊤}
+use Rattle.std.specs.Prelude.{◌≡◌, ℕ, ◌≤◌, List, [], filter, length, map, not, sum, ⊤}
 use Rattle.mail_records.specs.Histories.{History, Entry, is_refused}
 use Rattle.account_book.specs.Replies.{IsIdle}
 use Rattle.account_book.specs.declared.asks.Ask.{Ask}
@@ -22,6 +22,11 @@ IsPlanFor (Fetch call) p = IsIdle p
 IsPlanFor States p = IsIdle p
 IsPlanFor (Method call) p = ⊤
 IsPlanFor (Place call carried) p = ⊤
+
+-- an account's blobs are at most 1,000,000 and have at most 134,217,728 bytes
+pub record AreBlobsFew (blobs : List (List ℕ)) : Type 0 where
+  pub count : length blobs ≤ 1000000
+  pub bytes : sum (map length blobs) ≤ 134217728
 
 -- what contracts see of a book
 pub record Parts (R : Type 0) : Type 0 where

@@ -1,8 +1,7 @@
 -- What a call on an account is answered, and what it does to the account's history. What a call plans, and how many
 -- bytes edits take where they are kept, are parameters.
 use Rattle.std.specs.Prelude.{◌≡◌, ℕ, ◌+◌, ◌≤◌, List, [], ◌∷◌, ◌⊎◌, codes, length}
-use Rattle.jm_json.specs.Call.{Call as Response}
-use Rattle.jm_json.specs.Tree.{text, object, fields_of}
+use Rattle.jm_json.specs.Call.{error_of}
 use Rattle.mail_records.specs.Histories.{History, Committed, edits_of, account_after, grown}
 use Rattle.mail_records.specs.declared.edits.Edit.{Edit}
 use Rattle.mail_records.specs.declared.edits.Commit.{Commit}
@@ -14,10 +13,6 @@ use Rattle.account_book.specs.declared.plans.Out.{Out}
 use Rattle.account_book.specs.declared.plans.Out.TheVariants.{Replies, Failed}
 use Rattle.account_book.specs.declared.plans.Plan.{Plan}
 use Rattle.account_book.specs.declared.plans.Point.{Point}
-
--- the response that says an error of this type, to the call with this id (RFC 8620, section 3.6.2)
-abbrev pub error_of : List ℕ → List ℕ → Response
-error_of kind id = record { name = codes "error"; args = object (fields_of ((codes "type", text kind) ∷ [])); id = id }
 
 -- the answer that is that response alone
 abbrev pub error_reply : List ℕ → List ℕ → Out

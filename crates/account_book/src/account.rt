@@ -99,7 +99,8 @@ impl Account {
         self.entries.len() as u64
     }
 
-    // Where its edits are within the limit, its last position and next numbers are in bounds. Nothing is done.
+    // It does nothing: its clause says that where the edits are within the limit, the last position and the next numbers are in
+    // bounds, which callers can't see.
     pub(crate) fn bounds(&self)
         requires { edit_bytes (edits_of self.now.history) ≤ edit_limit }
         ensures { IsBounded self.now.history }

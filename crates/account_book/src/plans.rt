@@ -1,11 +1,11 @@
 // What an account answers, and what it is planned to do.
 ghost use Rattle.std.specs.Prelude.{◌≡◌, ◌↔◌, ◌∷◌, [], IfOk, IsTrue};
-ghost use Rattle.jm_json.specs.Invoked.{call_of};
-ghost use Rattle.account_book.specs.Replies.{IsIdle, error_of, refusal};
+ghost use Rattle.jm_json.specs.Call.{error_of};
+ghost use Rattle.account_book.specs.Replies.{IsIdle, refusal};
 
 use crate::{Ask, Carried};
 use jm_base::{Blobs, Bytes, NoMemory, Text};
-use jm_json::{Invocation, Invocations, Json, Made, Members, Replied};
+use jm_json::{Invocation, Invocations, Made, Replied};
 use mail_records::Edits;
 use std::alloc::Global;
 
@@ -68,26 +68,12 @@ pub struct Done {
     pub after: u64,
 }
 
-// The response that says an error, to the call with this id.
-fn error(alloc: Global, kind: &str, id: &Text) -> Result<Invocation, NoMemory>
-    ensures { IfOk result (λ c. call_of c ≡ error_of kind.now id.now) }
-{
-    let mut args = Members::new(alloc);
-    let kind = Text::from_str(alloc, kind)?;
-    args.set(alloc, "type", Json::Text(kind))?;
-    Ok(Invocation {
-        name: Text::from_str(alloc, "error")?,
-        args: Json::Object(args),
-        id: id.copy()?,
-    })
-}
-
 // The answer that is one response, which says an error.
 fn error_reply(alloc: Global, kind: &str, id: &Text) -> Result<Out, NoMemory>
     ensures { IfOk result (λ out. out ≡ Out.Replies (record { responses = error_of kind.now id.now ∷ []; made = [] })) }
 {
     let mut responses = Invocations::new(alloc);
-    responses.push(error(alloc, kind, id)?)?;
+    responses.push(Invocation::error(alloc, kind, id.copy()?)?)?;
     Ok(Out::Replies(Replied {
         responses,
         made: Made::new(alloc),

@@ -3,10 +3,10 @@ ghost use Rattle.std.specs.Prelude.{◌≡◌, ◌≤◌, ◌↔◌, ℕ, IfOk};
 ghost use Rattle.std.specs.List.{AllByRecursion};
 ghost use Rattle.mail_records.specs.Commits.{IsFormed};
 ghost use Rattle.mail_records.specs.Edits.{AllFit, IsSmall};
-ghost use Rattle.mail_records.specs.Histories.{History, Committed, IsSound, content_of, edits_of, empty_history, grown};
+ghost use Rattle.mail_records.specs.Histories.{History, Committed, IsSound, blobs_of, content_of, edits_of, empty_history, grown};
 ghost use Rattle.mail_records.specs.declared.edits.Stamp.{Stamp};
 ghost use Rattle.account_book.specs.Accounts.{IsBounded};
-ghost use Rattle.account_book.specs.Laws.{IsPlanFor, last_moment, without_refusals};
+ghost use Rattle.account_book.specs.Laws.{AreBlobsFew, IsPlanFor, last_moment, without_refusals};
 ghost use Rattle.account_book.specs.Replies.{IsWithin, commit_of, edit_bytes, edit_limit};
 ghost use Rattle.account_book.specs.declared.asks.Call.{Call as TheCall};
 ghost use Rattle.account_book.specs.declared.plans.Plan.{Plan as ThePlan};
@@ -25,7 +25,8 @@ pub trait Rules: Drop + Send + Sync {
     /// Whether an account with this history is whole: sound, and all that the rules want of its records.
     ghost is_whole: { Self → History → Type 0 };
 
-    /// The plan of a call, over a whole account at a moment.
+    /// The plan of a call, over an account at a moment. The account needn't be whole: what is promised of plans from whole ones
+    /// is said below.
     fn plan(
         &self,
         alloc: Global,
@@ -33,7 +34,6 @@ pub trait Rules: Drop + Send + Sync {
         call: &Call,
         moment: u64,
     ) -> Result<Plan, NoMemory>
-        requires whole { is_whole self.now account.now.history }
         requires bounded { IsBounded account.now.history }
         requires moment { moment ≤ last_moment }
         ensures { IfOk result (λ p. p ≡ plan_of self.now account.now.history call.now moment) };
@@ -58,6 +58,9 @@ pub trait Rules: Drop + Send + Sync {
 
     /// The edits of a whole account are within the limit.
     ghost limits: { (r : Self) (h : History) → is_whole r h → edit_bytes (edits_of h) ≤ edit_limit };
+
+    /// The blobs of a whole account are within the limits of their count and bytes.
+    ghost blobs: { (r : Self) (h : History) → is_whole r h → AreBlobsFew (blobs_of h) };
 
     /// Refusals play no part in what is whole.
     ghost ignores: { (r : Self) (h : History) → is_whole r (without_refusals h) ↔ is_whole r h };

@@ -53,7 +53,7 @@ fn idle(alloc: Global) -> Plan
 
 impl Rules for Adding {
     ghost use Rattle.account_book.specs.Adding.{adding_plan, IsAdded};
-    ghost use Rattle.account_book.specs.Added.{adding_fits, adding_small, adding_formed, adding_keeps, adding_reads, adding_sound, adding_ignores, adding_empty};
+    ghost use Rattle.account_book.specs.Added.{adding_fits, adding_small, adding_formed, adding_keeps, adding_reads, adding_sound, adding_few, adding_ignores, adding_empty};
 
     ghost plan_of = { λ r h call moment. adding_plan h call };
 
@@ -91,6 +91,8 @@ impl Rules for Adding {
     ghost sound = { λ r h whole. adding_sound h whole };
 
     ghost limits = { λ r h whole. whole.within };
+
+    ghost blobs = { λ r h whole. adding_few h whole };
 
     ghost ignores = { λ r h. adding_ignores h };
 

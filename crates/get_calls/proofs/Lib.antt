@@ -1,4 +1,3 @@
-pub mod Named
 pub mod LeftOut
 pub mod Mentions
 pub mod Answered

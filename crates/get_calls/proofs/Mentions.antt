@@ -9,7 +9,8 @@ use Rattle.std.proofs.lemmas.Slice.Eq.{bytes_eq-Decides}
 use Rattle.get_calls.specs.Arguments.{is_among}
 use Rattle.jm_json.specs.Tree.{Tree, text}
 use Rattle.mail_records.specs.declared.records.Mailbox.{Mailbox}
-use Rattle.get_calls.specs.Mailboxes.{first_mentions, mailbox_named, mailboxes_named, naming_none}
+use Rattle.mail_counts.specs.Views.{mailbox_named}
+use Rattle.get_calls.specs.Mailboxes.{first_mentions, mailboxes_named, naming_none}
 
 abbrev Texts : Type 0
 Texts = List (List ℕ)

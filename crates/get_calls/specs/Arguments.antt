@@ -2,12 +2,7 @@
 use Rattle.std.specs.Prelude.{ℕ, List, [], ◌∷◌, Bool, ◌&&◌, ◌||◌, is_some, is_none, Option, Some, None, if◌then◌else◌, not, option_map, option_and_then, unwrap_or, codes, bytes_eq}
 use Rattle.std.specs.List.{list_any, list_all}
 use Rattle.jm_json.specs.Tree.{Tree, null, boolean, number, text, list, object}
-use Rattle.jm_json.specs.Find.{find, as_text, as_list}
-
--- the texts of a list all of whose items are texts
-abbrev pub texts_from : List Tree → Option (List (List ℕ))
-texts_from [] = Some []
-texts_from (t ∷ ts) = option_and_then (λ s. option_map (λ ss. s ∷ ss) (texts_from ts)) (as_text t)
+use Rattle.jm_json.specs.Find.{find, as_text, as_list, texts_from}
 
 -- null stands for an argument that isn't given
 abbrev pub but_null : Tree → Option Tree

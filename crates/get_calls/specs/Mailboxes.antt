@@ -1,18 +1,9 @@
 -- The mailboxes that identifiers name, and what is shown of them (RFC 8621, 2).
-use Rattle.std.specs.Prelude.{ℕ, ◌^◌, List, [], ◌∷◌, Bool, true, ◌&&◌, ◌||◌, not, nat_le, nat_lt, is_none, Option, Some, None, filter, filter_map, codes, bytes_eq}
-use Rattle.std.specs.List.{find as first_that}
+use Rattle.std.specs.Prelude.{ℕ, List, [], ◌∷◌, Bool, true, ◌||◌, not, is_none, Option, Some, None, filter, filter_map, codes, bytes_eq}
 use Rattle.jm_json.specs.Tree.{Tree, object, fields_of}
 use Rattle.mail_records.specs.declared.records.Mailbox.{Mailbox}
-use Rattle.mail_counts.specs.Views.{mailbox_id, mailbox_members}
+use Rattle.mail_counts.specs.Views.{mailbox_members, mailbox_named}
 use Rattle.get_calls.specs.Arguments.{is_among}
-
--- the text is the identifier of the mailbox: identifiers are of numbers from 1 and below 2^53
-abbrev pub is_id_of : List ℕ → Mailbox → Bool
-is_id_of id m = nat_le 1 m.number && nat_lt m.number (2 ^ 53) && bytes_eq (mailbox_id m.number) id
-
--- the mailbox that an identifier names, if it names one
-abbrev pub mailbox_named : List Mailbox → List ℕ → Option Mailbox
-mailbox_named mailboxes id = first_that (is_id_of id) mailboxes
 
 -- the same texts, each once, in the order in which they first stand
 abbrev pub first_mentions : List (List ℕ) → List (List ℕ)

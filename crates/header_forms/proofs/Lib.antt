@@ -1,0 +1,7 @@
+pub mod Angled
+pub mod Folds
+pub mod Cutting
+pub mod Turned
+pub mod Spelled
+pub mod DateSplit
+pub mod DateWalk

@@ -1,9 +1,17 @@
 -- The Addresses and the GroupedAddresses form (RFC 8621, sections 4.1.2.3 and 4.1.2.4).
-use Rattle.std.specs.Prelude.{ℕ, ◌-◌, Bool, true, false, ◌&&◌, ◌||◌, not, ◌==◌, List, [], ◌∷◌, ◌++◌, length, take, drop, map, filter, Option, Some, None, if◌then◌else◌}
-use Rattle.std.specs.List.{prefix_len, suffix_len, list_any, position_or_len, flat_map}
+use Rattle.std.specs.Prelude.{ℕ, ◌-◌, Bool, true, false, ◌&&◌, not, ◌==◌, nat_lt, List, [], ◌∷◌, length, take, drop, map, filter, Option, Some, None, if◌then◌else◌}
+use Rattle.std.specs.List.{prefix_len, suffix_len, list_any, position_or_len, before_first, after_first, flat_map}
 use Rattle.std.specs.Char.{is_ascii_whitespace}
+use Rattle.std.specs.Str.{encode_utf8_all}
 use Rattle.mime_words.specs.Words.{decoded_words}
-use Rattle.header_forms.specs.Marks.{Mark, Place, bare, quoted, comment, angle, marks}
+use Rattle.header_forms.specs.declared.marks.Place.{Place}
+use Rattle.header_forms.specs.declared.marks.Place.TheVariants.{Bare, Quoted, Comment, Bracket}
+use Rattle.header_forms.specs.declared.marks.Mark.{Mark}
+use Rattle.header_forms.specs.declared.marks.Part.{Part}
+use Rattle.header_forms.specs.declared.marks.Part.TheVariants.{Whole, Plain, Phrase, Remark}
+use Rattle.header_forms.specs.declared.address.Address.{Address}
+use Rattle.header_forms.specs.declared.address.Group.{Group}
+use Rattle.header_forms.specs.Marks.{marks}
 use Rattle.header_forms.specs.Groups.{Entry, entries}
 
 abbrev pub trimmed_start : List ℕ → List ℕ
@@ -13,49 +21,47 @@ abbrev pub trimmed : List ℕ → List ℕ
 trimmed text = let t = trimmed_start text in take (length t - suffix_len is_ascii_whitespace t) t
 
 abbrev pub is_comment : Place → Bool
-is_comment bare = false
-is_comment quoted = false
-is_comment comment = true
-is_comment angle = false
+is_comment Bare = false
+is_comment Quoted = false
+is_comment Comment = true
+is_comment Bracket = false
 
-abbrev pub is_angle : Place → Bool
-is_angle bare = false
-is_angle quoted = false
-is_angle comment = false
-is_angle angle = true
+abbrev pub is_bracket : Place → Bool
+is_bracket Bare = false
+is_bracket Quoted = false
+is_bracket Comment = false
+is_bracket Bracket = true
 
-abbrev pub bytes_of : List Mark → List ℕ
-bytes_of ms = map (λ m. m.byte) ms
+abbrev pub in_part : Part → Mark → Bool
+in_part Whole m = true
+in_part Plain m = not (is_comment m.place)
+in_part Phrase m = m.said && not (is_comment m.place)
+in_part Remark m = m.said && is_comment m.place
 
-abbrev pub opens_angle : Mark → Bool
-opens_angle m = is_angle m.place && (not m.said && m.byte == 60)
+-- the text of a part of an item
+abbrev pub spelled : Part → List Mark → List ℕ
+spelled part ms = encode_utf8_all (map (λ m. m.character) (filter (in_part part) ms))
 
-abbrev pub closes_angle : Mark → Bool
-closes_angle m = is_angle m.place && (not m.said && m.byte == 62)
+abbrev pub opens_bracket : Mark → Bool
+opens_bracket m = is_bracket m.place && (not m.said && m.character == 60)
 
--- an item cut at its first bracket: what stands before it, and what stands in it, to the item's end where it isn't closed
-abbrev pub before_angle : List Mark → List Mark
-before_angle ms = take (position_or_len opens_angle ms) ms
+abbrev pub closes_bracket : Mark → Bool
+closes_bracket m = is_bracket m.place && (not m.said && m.character == 62)
 
-abbrev pub behind_angle : List Mark → List Mark
-behind_angle ms = drop (position_or_len opens_angle ms) ms
+abbrev pub has_bracket : List Mark → Bool
+has_bracket ms = nat_lt (position_or_len opens_bracket ms) (length ms)
 
-abbrev pub within_angle : List Mark → List Mark
-within_angle [] = []
-within_angle (m ∷ ms) = take (position_or_len closes_angle ms) ms
-
-abbrev pub has_angle : List Mark → Bool
-has_angle ms = list_any opens_angle ms
+-- what stands in the first bracket of an item, to the item's end where it isn't closed
+abbrev pub within_bracket : List Mark → List Mark
+within_bracket ms = before_first closes_bracket (after_first opens_bracket ms)
 
 -- the address: the text in the first bracket, else all but the comments; quote marks stay
 abbrev pub email_of : List Mark → List ℕ
-email_of ms =
-    if has_angle ms then trimmed (bytes_of (within_angle (behind_angle ms)))
-    else trimmed (bytes_of (filter (λ m. not (is_comment m.place)) ms))
+email_of ms = if has_bracket ms then trimmed (spelled Whole (within_bracket ms)) else trimmed (spelled Plain ms)
 
--- what is said outside comments, without the signs of quoting, trimmed and with its words decoded
-abbrev pub phrase_of : List Mark → List ℕ
-phrase_of ms = decoded_words (trimmed (bytes_of (filter (λ m. m.said && not (is_comment m.place)) ms)))
+-- a part of an item as a name: trimmed, and with its words decoded
+abbrev pub phrase_of : Part → List Mark → List ℕ
+phrase_of part ms = decoded_words (trimmed (spelled part ms))
 
 abbrev pub if_some : List ℕ → Option (List ℕ)
 if_some [] = None
@@ -65,29 +71,26 @@ abbrev pub or_else : Option (List ℕ) → Option (List ℕ) → Option (List �
 or_else None other = other
 or_else (Some text) other = Some text
 
--- the name before a bracket; an item without a bracket has none there
-abbrev pub phrase_before : List Mark → Option (List ℕ)
-phrase_before ms = if has_angle ms then if_some (phrase_of (before_angle ms)) else None
+-- the name before a bracket: what is said there outside comments, without the signs of quoting. An item without a bracket
+-- has none there.
+abbrev pub name_before : List Mark → Option (List ℕ)
+name_before ms = if has_bracket ms then if_some (phrase_of Phrase (before_first opens_bracket ms)) else None
 
 abbrev pub opens_comment : Mark → Bool
-opens_comment m = is_comment m.place && (not m.said && m.byte == 40)
+opens_comment m = is_comment m.place && (not m.said && m.character == 40)
 
--- what stands in the comments from the last one on
+-- what stands behind the parenthesis that opens the last comment
 abbrev pub last_comment : List Mark → List Mark
 last_comment [] = []
 last_comment (m ∷ ms) = if list_any opens_comment ms then last_comment ms else (if opens_comment m then ms else [])
 
 -- the text of the last comment
 abbrev pub comment_name : List Mark → Option (List ℕ)
-comment_name ms = if_some (decoded_words (trimmed (bytes_of (filter (λ m. m.said && is_comment m.place) (last_comment ms)))))
+comment_name ms = if_some (phrase_of Remark (last_comment ms))
 
 -- the name of an item: what stands before the bracket, else the text of its last comment
 abbrev pub name_of : List Mark → Option (List ℕ)
-name_of ms = or_else (phrase_before ms) (comment_name ms)
-
-pub record Address : Type 0 where
-  pub email : List ℕ
-  pub name : Option (List ℕ)
+name_of ms = or_else (name_before ms) (comment_name ms)
 
 abbrev pub if_address : Option (List ℕ) → Option (List ℕ) → List Address
 if_address None name = []
@@ -97,13 +100,9 @@ if_address (Some email) name = record { email = email; name = name } ∷ []
 abbrev pub address_of : List Mark → List Address
 address_of ms = if_address (if_some (email_of ms)) (name_of ms)
 
-pub record Group : Type 0 where
-  pub name : Option (List ℕ)
-  pub addresses : List Address
-
 abbrev pub group_name : Option (List Mark) → Option (List ℕ)
 group_name None = None
-group_name (Some ms) = Some (phrase_of ms)
+group_name (Some ms) = Some (phrase_of Phrase ms)
 
 abbrev pub group_of : Entry → Group
 group_of e = record { name = group_name e.name; addresses = flat_map address_of e.items }
@@ -117,9 +116,13 @@ shown_by (Some name) addresses = true
 abbrev pub is_shown : Group → Bool
 is_shown g = shown_by g.name g.addresses
 
+-- the groups of a list that is cut into marks
+abbrev pub groups_by : List Mark → List Group
+groups_by ms = filter is_shown (map group_of (entries ms))
+
 -- the groups of a value on one line
 abbrev pub groups_in : List ℕ → List Group
-groups_in text = filter is_shown (map group_of (entries (marks text)))
+groups_in text = groups_by (marks text)
 
 -- all its addresses
 abbrev pub addresses_in : List ℕ → List Address

@@ -1,6 +1,7 @@
 -- The texts between angle brackets: identifiers of messages and URLs (RFC 8621, sections 4.1.2.5 and 4.1.2.7).
-use Rattle.std.specs.Prelude.{ℕ, Bool, true, false, not, ◌==◌, List, [], ◌∷◌, map, filter, Option, Some, None, if◌then◌else◌}
+use Rattle.std.specs.Prelude.{ℕ, Bool, true, false, ◌==◌, List, [], ◌∷◌, map, filter, Option, Some, None, if◌then◌else◌}
 use Rattle.std.specs.Char.{is_ascii_whitespace}
+use Rattle.header_forms.specs.Texts.{without}
 
 -- what a text has, read from a place: `outside` are the texts between brackets, where no bracket is open there;
 -- where one is open, `inside` is the text up to the bracket that closes it, and the texts after that
@@ -28,9 +29,10 @@ abbrev pub has_some : List ℕ → Bool
 has_some [] = false
 has_some (b ∷ bs) = true
 
-abbrev pub without_white : List ℕ → List ℕ
-without_white text = filter (λ b. not (is_ascii_whitespace b)) text
+-- without their white space, and without those that are empty then
+abbrev pub shown_texts : List (List ℕ) → List (List ℕ)
+shown_texts texts = filter has_some (map (without is_ascii_whitespace) texts)
 
--- the texts between brackets without their white space, empty ones left out
+-- the texts between brackets
 abbrev pub angle_texts : List ℕ → List (List ℕ)
-angle_texts text = filter has_some (map without_white (read text).outside)
+angle_texts text = shown_texts (read text).outside

@@ -1,10 +1,15 @@
 -- The Date form (RFC 5322, sections 3.3 and 4.3; RFC 8621, section 4.1.2.6).
-use Rattle.std.specs.Prelude.{ℕ, zero, suc, ◌+◌, ◌-◌, ◌*◌, ◌/◌, ◌%◌, Bool, true, false, ◌&&◌, ◌||◌, not, ◌==◌, nat_lt, nat_le, ℤ, pos, negsuc, min, List, [], ◌∷◌, ◌++◌, length, Option, Some, None, option_map, codes, bytes_eq, if◌then◌else◌}
-use Rattle.std.specs.List.{list_all, list_any}
-use Rattle.std.specs.Char.{is_ascii_whitespace}
+use Rattle.std.specs.Prelude.{ℕ, ◌<◌, ◌≤◌, zero, suc, ◌+◌, ◌-◌, ◌*◌, ◌/◌, ◌%◌, Bool, true, false, ◌&&◌, ◌||◌, ◌==◌, nat_lt, nat_le, ℤ, pos, negsuc, neg_ℤ, ◌-ℤ◌, int_le, min, List, [], ◌∷◌, ◌++◌, length, Option, Some, None, option_map, codes, bytes_eq, if◌then◌else◌}
+use Rattle.std.specs.List.{list_all}
+use Rattle.std.specs.Char.{is_ascii_whitespace, is_ascii_digit, is_ascii_alphabetic}
 use Rattle.std.specs.Str.{str_to_ascii_lowercase}
 use Rattle.jiff.specs.Words.{days_in_month}
+use Rattle.jm_base.specs.Moments.{clock_seconds}
+use Rattle.jm_base.specs.declared.identifiers.UtcDate.{UtcDate}
 use Rattle.mime_words.specs.Words.{◌>>=◌}
+use Rattle.header_forms.specs.declared.dates_moment.Moment.{Moment}
+use Rattle.header_forms.specs.declared.dates_moment.Offset.{Offset}
+use Rattle.header_forms.specs.declared.dates_moment.Time.{Time}
 
 -- the words of a text from a place on: the rest of the word that stands there, and the later ones
 pub record Read : Type 0 where
@@ -91,9 +96,6 @@ without_weekday [] = Some []
 without_weekday (a ∷ []) = Some (a ∷ [])
 without_weekday (a ∷ b ∷ rest) = if is_comma b then behind_weekday (place_in weekdays 1 a) rest else Some (a ∷ b ∷ rest)
 
-abbrev pub is_digit : ℕ → Bool
-is_digit b = nat_le 48 b && nat_le b 57
-
 abbrev pub value_from : ℕ → List ℕ → ℕ
 value_from n [] = n
 value_from n (b ∷ bs) = value_from (n * 10 + (b - 48)) bs
@@ -101,7 +103,7 @@ value_from n (b ∷ bs) = value_from (n * 10 + (b - 48)) bs
 -- the number that this many digits or so are
 abbrev pub number_in : ℕ → ℕ → List ℕ → Option ℕ
 number_in least most word =
-    if list_all is_digit word && (nat_le least (length word) && nat_le (length word) most) then Some (value_from 0 word) else None
+    if list_all is_ascii_digit word && (nat_le least (length word) && nat_le (length word) most) then Some (value_from 0 word) else None
 
 -- a year of two digits is of 1950 to 2049, one of three digits is counted from 1900
 abbrev pub full_year : ℕ → ℕ → ℕ
@@ -109,11 +111,6 @@ full_year size n = if size == 4 then n else (if size == 2 && nat_lt n 50 then n 
 
 abbrev pub year_in : List ℕ → Option ℕ
 year_in word = option_map (full_year (length word)) (number_in 2 4 word)
-
-pub record Time : Type 0 where
-  pub hour : ℕ
-  pub minute : ℕ
-  pub second : ℕ
 
 -- a leap second is taken as the one before it
 abbrev pub if_time : ℕ → ℕ → ℕ → Option Time
@@ -133,11 +130,6 @@ time_in (a ∷ b ∷ x ∷ c ∷ d ∷ []) = if x == 58 then time_by (a ∷ b �
 time_in (a ∷ b ∷ x ∷ c ∷ d ∷ y ∷ e ∷ f ∷ []) = if x == 58 && y == 58 then time_by (a ∷ b ∷ []) (c ∷ d ∷ []) (e ∷ f ∷ []) else None
 time_in _ = None
 
--- how far a zone's clock is ahead of UTC or behind it, in minutes
-pub record Offset : Type 0 where
-  pub behind : Bool
-  pub minutes : ℕ
-
 abbrev pub hours : Bool → ℕ → Offset
 hours behind n = record { behind = behind; minutes = n * 60 }
 
@@ -150,9 +142,6 @@ zone_named name =
     else (if bytes_eq name (codes "mst") || bytes_eq name (codes "pdt") then hours true 7
     else (if bytes_eq name (codes "pst") then hours true 8 else hours false 0))))
 
-abbrev pub is_letter : ℕ → Bool
-is_letter b = (nat_le 65 b && nat_le b 90) || (nat_le 97 b && nat_le b 122)
-
 -- hhmm, of which mm are below 60
 abbrev pub offset_by : Bool → Option ℕ → Option Offset
 offset_by behind None = None
@@ -163,18 +152,19 @@ zone_in [] = None
 zone_in (b ∷ bs) =
     if b == 43 then offset_by false (number_in 4 4 bs)
     else (if b == 45 then offset_by true (number_in 4 4 bs)
-    else (if list_all is_letter (b ∷ bs) then Some (zone_named (str_to_ascii_lowercase (b ∷ bs))) else None))
-
-pub record Moment : Type 0 where
-  pub year : ℕ
-  pub month : ℕ
-  pub day : ℕ
-  pub time : Time
-  pub offset : Offset
+    else (if list_all is_ascii_alphabetic (b ∷ bs) then Some (zone_named (str_to_ascii_lowercase (b ∷ bs))) else None))
 
 -- a day that the month of the year has
 abbrev pub if_day : Moment → Option Moment
 if_day m = if nat_le 1 m.day && nat_le m.day (days_in_month (pos m.year) m.month) then Some m else None
+
+-- a day that the calendar has
+pub record IsReal (m : Moment) : Type 0 where
+  pub to_year : m.year < 10000
+  pub from_month : 1 ≤ m.month
+  pub to_month : m.month ≤ 12
+  pub from_day : 1 ≤ m.day
+  pub to_day : m.day ≤ days_in_month (pos m.year) m.month
 
 unfoldable pub moment_by : List ℕ → List ℕ → List ℕ → List ℕ → List ℕ → Option Moment
 moment_by day month year time zone = do
@@ -186,15 +176,15 @@ moment_by day month year time zone = do
   if_day (record { year = y; month = m; day = d; time = t; offset = z })
 
 -- day, month, year, time and zone, and nothing else
-abbrev pub moment_of : List (List ℕ) → Option Moment
-moment_of (day ∷ month ∷ year ∷ time ∷ zone ∷ []) = moment_by day month year time zone
-moment_of _ = None
+abbrev pub moment_of_words : List (List ℕ) → Option Moment
+moment_of_words (day ∷ month ∷ year ∷ time ∷ zone ∷ []) = moment_by day month year time zone
+moment_of_words _ = None
 
 unfoldable pub moment_in : List ℕ → Option Moment
 moment_in text = do
   words ← words_of text
   parts ← without_weekday words
-  moment_of parts
+  moment_of_words parts
 
 abbrev pub two_digits : ℕ → List ℕ
 two_digits n = (48 + n / 10 % 10) ∷ (48 + n % 10) ∷ []
@@ -214,3 +204,21 @@ moment_text m =
 -- the date that a value on one line says, if it says one
 abbrev pub date_text : List ℕ → Option (List ℕ)
 date_text text = option_map moment_text (moment_in text)
+
+-- how many seconds a zone's clock is ahead of UTC
+abbrev pub offset_seconds : Offset → ℤ
+offset_seconds z = if z.behind then neg_ℤ (pos (z.minutes * 60)) else pos (z.minutes * 60)
+
+-- the seconds since the beginning of 1970 in UTC: the clock of the zone, less its offset
+abbrev pub moment_seconds : Moment → ℤ
+moment_seconds m =
+    clock_seconds (record { year = m.year; month = m.month; day = m.day; hour = m.time.hour; minute = m.time.minute; second = m.time.second })
+    -ℤ offset_seconds m.offset
+
+-- the moments of the years 0001 to 9999 (RFC 8620, section 1.4)
+abbrev pub if_kept : ℤ → Option UtcDate
+if_kept seconds = if int_le (negsuc 62135596799) seconds && int_le seconds (pos 253402300799) then Some (record { seconds = seconds }) else None
+
+-- the moment that a value on one line says, if it says one of these
+abbrev pub utc_of : List ℕ → Option UtcDate
+utc_of text = moment_in text >>= (λ m. if_kept (moment_seconds m))

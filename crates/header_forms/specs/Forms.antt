@@ -5,7 +5,9 @@ use Rattle.header_forms.specs.declared.form.Form.{Form}
 use Rattle.header_forms.specs.declared.form.Form.TheVariants.{Raw, Text, Addresses, GroupedAddresses, MessageIds, Date, Urls}
 use Rattle.header_forms.specs.Texts.{raw_text, on_one_line, text_of}
 use Rattle.header_forms.specs.Angles.{angle_texts}
-use Rattle.header_forms.specs.Addresses.{Address, Group, addresses_in, groups_in}
+use Rattle.header_forms.specs.declared.address.Address.{Address}
+use Rattle.header_forms.specs.declared.address.Group.{Group}
+use Rattle.header_forms.specs.Addresses.{addresses_in, groups_in}
 use Rattle.header_forms.specs.Dates.{date_text}
 
 abbrev pub text_or_null : Option (List ℕ) → Tree

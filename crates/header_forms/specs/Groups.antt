@@ -1,32 +1,31 @@
 -- A list of addresses cut at its commas and groups (RFC 5322, section 3.4).
 use Rattle.std.specs.Prelude.{ℕ, Bool, true, false, ◌&&◌, not, ◌==◌, List, [], ◌∷◌, Option, Some, None, if◌then◌else◌}
-use Rattle.header_forms.specs.Marks.{Mark, Place, bare, quoted, comment, angle}
-
-pub data Sign : Type 0 where
-  comma : Sign
-  colon : Sign
-  semicolon : Sign
+use Rattle.header_forms.specs.declared.marks.Place.{Place}
+use Rattle.header_forms.specs.declared.marks.Place.TheVariants.{Bare, Quoted, Comment, Bracket}
+use Rattle.header_forms.specs.declared.marks.Mark.{Mark}
+use Rattle.header_forms.specs.declared.marks.Sign.{Sign}
+use Rattle.header_forms.specs.declared.marks.Sign.TheVariants.{Comma, Colon, Semicolon}
 
 abbrev pub is_bare : Place → Bool
-is_bare bare = true
-is_bare quoted = false
-is_bare comment = false
-is_bare angle = false
+is_bare Bare = true
+is_bare Quoted = false
+is_bare Comment = false
+is_bare Bracket = false
 
--- the sign that a byte outside quotes, comments and brackets is: a colon opens a group where none is open, a semicolon
+-- the sign that a character outside quotes, comments and brackets is: a colon opens a group where none is open, a semicolon
 -- ends an open one; elsewhere they are plain characters
 abbrev pub bare_sign : Bool → ℕ → Option Sign
-bare_sign open' b =
-    if b == 44 then Some comma
-    else (if b == 58 && not open' then Some colon else (if b == 59 && open' then Some semicolon else None))
+bare_sign open' c =
+    if c == 44 then Some Comma
+    else (if c == 58 && not open' then Some Colon else (if c == 59 && open' then Some Semicolon else None))
 
 abbrev pub sign_of : Bool → Mark → Option Sign
-sign_of open' m = if is_bare m.place then bare_sign open' m.byte else None
+sign_of open' m = if is_bare m.place then bare_sign open' m.character else None
 
 abbrev pub open_behind : Bool → Sign → Bool
-open_behind open' comma = open'
-open_behind open' colon = true
-open_behind open' semicolon = false
+open_behind open' Comma = open'
+open_behind open' Colon = true
+open_behind open' Semicolon = false
 
 -- the pieces between signs
 pub data Slices : Type 0 where
@@ -58,9 +57,9 @@ with_item item (e ∷ es) = record { name = e.name; items = item ∷ e.items } �
 -- items before that are an entry; a group ends at its semicolon or with the text.
 abbrev pub entries_from : Slices → Option (List Mark) → List Entry
 entries_from (last ms) name = record { name = name; items = ms ∷ [] } ∷ []
-entries_from (slice ms comma later) name = with_item ms (entries_from later name)
-entries_from (slice ms colon later) name = record { name = name; items = [] } ∷ entries_from later (Some ms)
-entries_from (slice ms semicolon later) name = record { name = name; items = ms ∷ [] } ∷ entries_from later None
+entries_from (slice ms Comma later) name = with_item ms (entries_from later name)
+entries_from (slice ms Colon later) name = record { name = name; items = [] } ∷ entries_from later (Some ms)
+entries_from (slice ms Semicolon later) name = record { name = name; items = ms ∷ [] } ∷ entries_from later None
 
 abbrev pub entries : List Mark → List Entry
 entries ms = entries_from (slices_from ms false) None

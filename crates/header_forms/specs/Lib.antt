@@ -3,5 +3,7 @@ pub mod Angles
 pub mod Marks
 pub mod Groups
 pub mod Addresses
+pub mod Running
 pub mod Dates
+pub mod DateWords
 pub mod Forms

@@ -1,13 +1,21 @@
 -- The Raw and the Text form of a field's value (RFC 8621, sections 4.1.2.1 and 4.1.2.2).
 use Rattle.std.specs.Prelude.{ℕ, Bool, not, ◌==◌, List, filter, drop}
 use Rattle.std.specs.List.{prefix_len}
+use Rattle.std.specs.Str.{chars, encode_utf8_all}
 use Rattle.std.specs.Str.Lossy.{utf8_lossy}
 use Rattle.mime_lines.specs.Lines.{unfolded}
 use Rattle.mime_words.specs.Words.{decoded_words}
 
+-- a text without its characters of a class
+abbrev pub without : (ℕ → Bool) → List ℕ → List ℕ
+without class text = encode_utf8_all (filter (λ c. not (class c)) (chars text))
+
+abbrev pub is_zero : ℕ → Bool
+is_zero c = c == 0
+
 -- the value with U+FFFD for what is no UTF-8, and without U+0000
 abbrev pub raw_text : List ℕ → List ℕ
-raw_text value = filter (λ b. not (b == 0)) (utf8_lossy value)
+raw_text value = without is_zero (utf8_lossy value)
 
 -- on one line
 abbrev pub on_one_line : List ℕ → List ℕ

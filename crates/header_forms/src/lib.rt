@@ -1,8 +1,33 @@
 //! The forms of header fields (RFC 8621, section 4.1.2).
 #![tactic(auto)]
 
+mod address;
+mod angles;
+mod dates;
+mod dates_moment;
+mod dates_parts;
+mod dates_read;
+#[cfg(test)]
+mod dates_tests;
+mod dates_text;
+mod dates_words;
 mod form;
+mod forms;
+mod groups;
+mod items;
 mod laws;
+mod marking;
+mod marks;
+mod pieces;
+#[cfg(test)]
+mod tests;
+mod texts;
 
+pub use address::{Address, Addresses, Group, Groups};
+pub use angles::angle_texts_of;
+pub use dates::{date_of, moment_of};
 pub use form::Form;
+pub use forms::form_of;
+pub use groups::{addresses_of, groups_of};
 pub use laws::{dates_of_examples, forms_of_examples};
+pub use texts::{on_one_line, raw_of, text_of_value};

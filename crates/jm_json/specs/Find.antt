@@ -1,5 +1,5 @@
 -- Looking into an object.
-use Rattle.std.specs.Prelude.{ℕ, List, [], ◌∷◌, Option, Some, None, cond, bytes_eq}
+use Rattle.std.specs.Prelude.{ℕ, List, [], ◌∷◌, Option, Some, None, option_map, option_and_then, cond, bytes_eq}
 use Rattle.jm_json.specs.Tree.{Tree, null, boolean, number, text, list, object, Trees, no_trees, tree, Fields, no_fields, field}
 
 -- the value at a key
@@ -38,3 +38,8 @@ as_object (number z) = None
 as_object (text s) = None
 as_object (list ts) = None
 as_object (object fs) = Some (pairs_of fs)
+
+-- the texts of a list all of whose items are texts
+abbrev pub texts_from : List Tree → Option (List (List ℕ))
+texts_from [] = Some []
+texts_from (t ∷ ts) = option_and_then (λ s. option_map (λ ss. s ∷ ss) (texts_from ts)) (as_text t)

@@ -1,9 +1,10 @@
 // The calls of a request and the responses to them (RFC 8620, sections 3.2 to 3.4).
 ghost use Rattle.std.specs.Prelude.{◌≡◌, ◌==◌, [], ◌∷◌, ◌++◌, map, length, IfOk, OnOk, OnErr};
+ghost use Rattle.jm_json.specs.Call.{error_of};
 ghost use Rattle.jm_json.specs.Invoked.{call_of};
 
 use crate::copies::copy;
-use crate::tree::Json;
+use crate::tree::{Json, Members};
 use jm_base::{NoMemory, Sequence, Text};
 use std::alloc::Global;
 use std::marker::Model;
@@ -56,6 +57,20 @@ impl Model for Invocations {
 }
 
 impl Invocation {
+    /// The response that says an error of this type, to the call with this id (RFC 8620, section 3.6.2).
+    pub fn error(alloc: Global, kind: &str, id: Text) -> Result<Invocation, NoMemory>
+        ensures { IfOk result (λ c. call_of c ≡ error_of kind.now id) }
+    {
+        let mut args = Members::new(alloc);
+        let kind = Text::from_str(alloc, kind)?;
+        args.set(alloc, "type", Json::Text(kind))?;
+        Ok(Invocation {
+            name: Text::from_str(alloc, "error")?,
+            args: Json::Object(args),
+            id,
+        })
+    }
+
     /// The same call, in memory of its own.
     pub fn copy(&self, alloc: Global) -> Result<Invocation, NoMemory>
         ensures { IfOk result (λ c. call_of c ≡ call_of self.now) }

@@ -327,6 +327,17 @@ fn keeps_calls_and_what_was_made(rt: HostRuntime) -> Result<(), Fail> {
     Ok(())
 }
 
+#[test]
+fn says_an_error(rt: HostRuntime) -> Result<(), Fail> {
+    let id = Text::from_str(rt.alloc(), "a")?;
+    let said = Invocation::error(rt.alloc(), "notFound", id)?;
+    assert_eq!(rt; said.name.as_str(), "error");
+    assert_eq!(rt; said.id.as_str(), "a");
+    let args = write(rt.alloc(), &said.args)?;
+    assert_eq!(rt; args.as_slice(), b"{\"type\":\"notFound\"}".as_slice());
+    Ok(())
+}
+
 fn text_of(alloc: Global, tree: &Json) -> Result<Vec<u8>, AllocError> {
     match write(alloc, tree) {
         Ok(text) => Ok(text.into_vec()),

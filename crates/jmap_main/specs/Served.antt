@@ -1,13 +1,12 @@
 -- What the port of `batch` replies to a call: it serves one account, which its one user may change.
 use Rattle.std.specs.Prelude.{◌≡◌, ℕ, ◌+◌, ◌^◌, ◌-◌, min, List, [], ◌∷◌, length, Bool, true, false, not, ◌&&◌, ◌||◌, nat_le, Option, Some, None, is_some, is_none, unwrap_or, option_and_then, cond, codes, bytes_eq}
-use Rattle.jm_json.specs.Call.{Call as Invocation}
+use Rattle.jm_json.specs.Call.{Call as Invocation, error_of}
 use Rattle.jm_json.specs.Invoked.{call_of}
 use Rattle.jm_json.specs.declared.invocation.Invocation.{Invocation as TheInvocation}
 use Rattle.jm_json.specs.Find.{find, as_text, as_object}
 use Rattle.jm_json.specs.Tree.{Tree}
 use Rattle.jm_json.specs.declared.invocation.Created.{Created}
 use Rattle.jm_json.specs.declared.invocation.Replied.{Replied}
-use Rattle.method_batch.specs.Prepared.{error_of}
 use Rattle.mail_records.specs.Histories.{History, Committed, edits_of, account_after, grown}
 use Rattle.mail_records.specs.declared.edits.Stamp.{Stamp}
 use Rattle.account_book.specs.Replies.{IsReply, edit_bytes, edit_limit, commit_of}

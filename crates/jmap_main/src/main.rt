@@ -1,17 +1,11 @@
 //! The program `jmap`: a JMAP mail server and a synchronising client.
 #![tactic(auto)]
 
-#[cfg(test)]
-mod account_tests;
 mod batch;
-#[cfg(test)]
-mod edge_tests;
 mod ending;
 mod leaves;
 mod line;
 mod read;
-#[cfg(test)]
-mod read_tests;
 mod run;
 mod served;
 mod steps;

@@ -3,7 +3,7 @@ ghost use Rattle.std.specs.Prelude.{◌≡◌, ◌∷◌, [], ℕ, List, ◌||�
 ghost use Rattle.jm_json.specs.Json.{tree_of};
 ghost use Rattle.jm_json.specs.Invoked.{call_of};
 ghost use Rattle.jm_json.specs.declared.invocation.Replied.{Replied as TheReplied};
-ghost use Rattle.method_batch.specs.Prepared.{error_of};
+ghost use Rattle.jm_json.specs.Call.{error_of};
 ghost use Rattle.mail_records.specs.Histories.{empty_history};
 ghost use Rattle.mail_records.specs.Histories.{History};
 ghost use Rattle.mail_calls.specs.Plans.{method_plan};
@@ -18,7 +18,7 @@ use jm_base::{NoMemory, Sequence};
 use jm_json::{Created, Invocation, Invocations, Json, Made, Replied};
 use mail_calls::MailRules;
 use mail_records::Stamp;
-use method_batch::{Port, error};
+use method_batch::Port;
 use std::alloc::Global;
 use std::marker::Model;
 
@@ -183,7 +183,7 @@ fn error_reply(alloc: Global, kind: &str, call: &Invocation) -> Result<Replied, 
     ensures { IfOk result (λ r. r ≡ record { responses = error_of kind.now call.now.id ∷ []; made = [] }) }
 {
     let mut responses = Invocations::new(alloc);
-    responses.push(error(alloc, kind, call.id.copy()?)?)?;
+    responses.push(Invocation::error(alloc, kind, call.id.copy()?)?)?;
     Ok(Replied {
         responses,
         made: Made::new(alloc),

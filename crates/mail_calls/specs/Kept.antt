@@ -60,8 +60,8 @@ set_keeps h call made (sets.invalid name) tidy is = idle_keeps (content_of h) _ 
 set_keeps h call made sets.too_large tidy is = idle_keeps (content_of h) _ tidy refl refl
 set_keeps h call made sets.state_mismatch tidy is = idle_keeps (content_of h) _ tidy refl refl
 set_keeps h call made (sets.planned p) tidy is =
-    let all = promised (ground_in h) call.args made p tidy.numbered is in
-    record { blobs = refl; fits = all.fits; new = all_map PutsNew IsNew p.edits new_of all.puts; tidy = all.tidy tidy }
+    let all = promised (ground_in h) call.args made p is in
+    record { blobs = refl; fits = all.fits tidy.numbered; new = all_map PutsNew IsNew p.edits new_of all.puts; tidy = all.tidy tidy }
 
 by_set : (b : Bool) (h : History) (call : Invocation) (made : List Created) → IsTidy (content_of h)
     → Keeps (content_of h) (if b then set_plan call (set_outcome (ground_in h) call.args made) else refused call (codes "unknownMethod"))

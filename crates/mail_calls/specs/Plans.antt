@@ -1,11 +1,10 @@
 -- What the methods of mail plan (RFC 8621). Mailbox/get and creating by Mailbox/set are built.
 use Rattle.std.specs.Prelude.{ℕ, List, [], ◌∷◌, Bool, codes, bytes_eq, if◌then◌else◌}
 use Rattle.jm_base.specs.declared.identifiers.Kind.TheVariants.{Mailbox as OfMailbox}
-use Rattle.jm_json.specs.Call.{Call as Invocation}
+use Rattle.jm_json.specs.Call.{Call as Invocation, error_of}
 use Rattle.jm_json.specs.Invoked.{call_of}
 use Rattle.jm_json.specs.Tree.{Tree}
 use Rattle.jm_json.specs.declared.invocation.Created.{Created}
-use Rattle.method_batch.specs.Prepared.{error_of}
 use Rattle.mail_records.specs.Histories.{History, content_of, end_of}
 use Rattle.mail_records.specs.States.{state_of}
 use Rattle.get_calls.specs.Get.{Got, invalid, too_large, got, get_in}

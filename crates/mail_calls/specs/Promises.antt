@@ -1,10 +1,10 @@
 -- What the rules of mail promise of plans, and of when an account is whole.
-use Rattle.std.proofs.Common.{◌≡◌, ◌↔◌, ℕ, ◌+◌, ◌≤◌, Bool, true, false, not, List, [], ◌∷◌, ◌++◌, None, filter, flat_map, length, refl, sym, ap, ap₂, ◌∙◌, subst, ◌^◌, arith, length-append, append-nil, append_assoc}
+use Rattle.std.proofs.Common.{◌≡◌, ◌↔◌, ℕ, ◌+◌, ◌≤◌, Bool, true, false, List, [], ◌∷◌, ◌++◌, None, length, refl, sym, ap, ap₂, ◌∙◌, subst, ◌^◌, arith, length-append, append-nil, append_assoc}
 use Rattle.std.specs.List.{AllByRecursion}
 use Rattle.mail_records.specs.Commits.{IsFormed, IsFormedEdit}
 use Rattle.mail_records.specs.Contents.{Content, NextAtMost}
 use Rattle.mail_records.specs.Edits.{AllFit, IsSmall, after_edits}
-use Rattle.mail_records.specs.Histories.{History, Entry, Committed, Refused, IsSound, NamesThread, HasOneThread, entry_edits, entry_blobs, is_refused, edits_in, blobs_in, edits_of, blobs_of, content_of, end_of, empty_history, grown}
+use Rattle.mail_records.specs.Histories.{History, Committed, IsSound, NamesThread, HasOneThread, entry_edits, entry_blobs, edits_of, blobs_of, content_of, end_of, empty_history, grown}
 use Rattle.mail_records.specs.declared.edits.Edit.{Edit}
 use Rattle.mail_records.specs.declared.edits.Edit.TheVariants.{PutMailbox}
 use Rattle.mail_records.specs.declared.edits.Commit.{Commit}
@@ -18,14 +18,15 @@ use Rattle.mail_counts.specs.Tidy.{IsTidy}
 use Rattle.mail_counts.proofs.Growth.{IsTidy-empty}
 use Rattle.mail_counts.proofs.Kept.{emails-after_edits}
 use Rattle.account_book.specs.Accounts.{IsBounded}
-use Rattle.account_book.specs.Laws.{IsPlanFor, without_refusals}
+use Rattle.account_book.specs.Laws.{AreBlobsFew, IsPlanFor, without_refusals}
+use Rattle.account_book.specs.Refusals.{edits_of-without_refusals, blobs_of-without_refusals}
 use Rattle.account_book.specs.Replies.{IsWithin, commit_of, edit_bytes, edit_limit}
 use Rattle.account_book.specs.declared.asks.Ask.{Ask}
 use Rattle.account_book.specs.declared.asks.Ask.TheVariants.{Method, Upload, Blob, Fetch, Place, States}
 use Rattle.account_book.specs.declared.asks.Call.{Call}
 use Rattle.account_book.specs.declared.plans.Plan.{Plan}
 use Rattle.mail_calls.specs.Plans.{call_plan, ask_plan}
-use Rattle.mail_calls.specs.Whole.{IsWhole, HasMessage, AreBlobsFew}
+use Rattle.mail_calls.specs.Whole.{IsWhole, HasMessage}
 use Rattle.mail_calls.specs.Kept.{IsNew, Keeps, call_keeps}
 
 -- whole, whatever the summary of a message is
@@ -122,17 +123,10 @@ whole_sound h whole = (whole no_summary).sound
 pub whole_limits : (h : History) → IsWholeAlways h → edit_bytes (edits_of h) ≤ edit_limit
 whole_limits h whole = (whole no_summary).limit
 
+pub whole_blobs : (h : History) → IsWholeAlways h → AreBlobsFew (blobs_of h)
+whole_blobs h whole = (whole no_summary).blobs
+
 -- ---- refusals play no part
-
-edits_unrefused : (es : List Entry) → edits_in (filter (λ (e : Entry). not (is_refused e)) es) ≡ edits_in es
-edits_unrefused [] = refl
-edits_unrefused (Committed c ∷ es) = ap (λ xs. c.edits ++ xs) (edits_unrefused es)
-edits_unrefused (Refused s ∷ es) = edits_unrefused es
-
-blobs_unrefused : (es : List Entry) → blobs_in (filter (λ (e : Entry). not (is_refused e)) es) ≡ blobs_in es
-blobs_unrefused [] = refl
-blobs_unrefused (Committed c ∷ es) = ap (λ xs. c.blobs ++ xs) (blobs_unrefused es)
-blobs_unrefused (Refused s ∷ es) = blobs_unrefused es
 
 -- two histories with one floor, one base, the same edits and the same blobs
 same_whole : (summary : List ℕ → Summary) (h g : History) → h.floor ≡ g.floor → h.base ≡ g.base → edits_of h ≡ edits_of g → blobs_of h ≡ blobs_of g → IsWhole summary edit_bytes h → IsWhole summary edit_bytes g
@@ -161,8 +155,8 @@ same_whole summary h g floor base edits blobs w =
 
 pub whole_ignores : (h : History) → IsWholeAlways (without_refusals h) ↔ IsWholeAlways h
 whole_ignores h =
-    let edits : edits_of (without_refusals h) ≡ edits_of h = edits_unrefused h.entries in
-    let blobs : blobs_of (without_refusals h) ≡ blobs_of h = ap (λ bs. h.base_blobs ++ bs) (blobs_unrefused h.entries) in (
+    let edits = edits_of-without_refusals h in
+    let blobs = blobs_of-without_refusals h in (
       λ whole summary. same_whole summary (without_refusals h) h refl refl edits blobs (whole summary),
       λ whole summary. same_whole summary h (without_refusals h) refl refl (sym edits) (sym blobs) (whole summary),
     )

@@ -1,6 +1,6 @@
 -- When an account is whole: its history is sound, its records are tidy, its emails are those of its blobs, and it is within
 -- the limits. What is kept of a message beside its bytes, and how many bytes edits take, are parameters.
-use Rattle.std.specs.Prelude.{◌≡◌, ℕ, ◌+◌, ◌-◌, ◌≤◌, ◌^◌, List, [], length, map, sum, slice_index_or}
+use Rattle.std.specs.Prelude.{◌≡◌, ℕ, ◌+◌, ◌-◌, ◌≤◌, ◌^◌, List, [], length, slice_index_or}
 use Rattle.std.specs.List.{AllByRecursion}
 use Rattle.mail_records.specs.Contents.{Content, NextAtMost}
 use Rattle.mail_records.specs.Histories.{History, IsSound, edits_of, content_of, blobs_of, end_of}
@@ -8,6 +8,7 @@ use Rattle.mail_records.specs.declared.edits.Edit.{Edit}
 use Rattle.mail_records.specs.declared.records.Email.{Email}
 use Rattle.mail_records.specs.declared.records.Summary.{Summary}
 use Rattle.mail_counts.specs.Tidy.{IsTidy}
+use Rattle.account_book.specs.Laws.{AreBlobsFew}
 use Rattle.account_book.specs.Replies.{edit_limit}
 
 -- the bytes are the email's message: it has their size and their summary
@@ -20,11 +21,6 @@ pub record HasMessage (summary : List ℕ → Summary) (blobs : List (List ℕ))
   pub from_one : 1 ≤ e.blob
   pub there : e.blob ≤ length blobs
   pub message : IsMessageOf summary e (slice_index_or blobs (e.blob - 1) [])
-
--- an account's blobs are at most 1,000,000 and have at most 134,217,728 bytes
-pub record AreBlobsFew (blobs : List (List ℕ)) : Type 0 where
-  pub count : length blobs ≤ 1000000
-  pub bytes : sum (map length blobs) ≤ 134217728
 
 -- an account with this history is whole
 pub record IsWhole (summary : List ℕ → Summary) (bytes : List Edit → ℕ) (h : History) : Type 0 where

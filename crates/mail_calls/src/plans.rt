@@ -14,7 +14,6 @@ use jm_json::{Invocation, Invocations, Json, Made, Replied};
 use mail_counts::SetFault;
 use mail_records::Edits;
 use mailbox_set::plan_mailbox_set;
-use method_batch::error;
 use std::alloc::Global;
 
 /// Answers nothing, and changes nothing.
@@ -53,7 +52,7 @@ fn plan_with(
 fn refused(alloc: Global, call: &Invocation, kind: &str) -> Result<Plan, NoMemory>
     ensures { IfOk result (λ p. p ≡ refused (call_of call.now) kind.now) }
 {
-    let response = error(alloc, kind, call.id.copy()?)?;
+    let response = Invocation::error(alloc, kind, call.id.copy()?)?;
     plan_with(alloc, response, Made::new(alloc), Edits::new(alloc))
 }
 

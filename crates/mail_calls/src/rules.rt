@@ -17,7 +17,7 @@ impl Rules for MailRules {
     ghost use Rattle.account_book.specs.Replies.{edit_bytes};
     ghost use Rattle.mail_calls.specs.Plans.{call_plan};
     ghost use Rattle.mail_calls.specs.Whole.{IsWhole};
-    ghost use Rattle.mail_calls.specs.Promises.{plan_fits, plan_small, plan_formed, plan_keeps, plan_reads, whole_sound, whole_limits, whole_ignores, whole_empty};
+    ghost use Rattle.mail_calls.specs.Promises.{plan_fits, plan_small, plan_formed, plan_keeps, plan_reads, whole_sound, whole_limits, whole_blobs, whole_ignores, whole_empty};
 
     ghost plan_of = { λ r h call moment. call_plan h call };
 
@@ -53,6 +53,8 @@ impl Rules for MailRules {
     ghost sound = { λ r h whole. whole_sound h whole };
 
     ghost limits = { λ r h whole. whole_limits h whole };
+
+    ghost blobs = { λ r h whole. whole_blobs h whole };
 
     ghost ignores = { λ r h. whole_ignores h };
 

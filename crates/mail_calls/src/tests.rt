@@ -88,6 +88,49 @@ fn performs_the_methods_of_mail(rt: HostRuntime) -> Result<(), Fail> {
     Ok(())
 }
 
+// The front and 500 items more, each of its own name.
+fn many(alloc: Global, front: &str, end: &str) -> Result<String, NoMemory> {
+    let mut args = String::from_str(alloc, front)?;
+    for i in 0..500u32 {
+        let item = format!(in alloc; ",\"M{i}\"{end}")?;
+        args.push_str(item.as_str())?;
+    }
+    Ok(args)
+}
+
+#[test]
+fn refuses_calls_that_name_too_many(rt: HostRuntime) -> Result<(), Fail> {
+    let alloc = rt.alloc();
+    let mut book = Book::begin(alloc, MailRules)?;
+    for (name, front, end, close) in [
+        (
+            "Mailbox/get",
+            "{\"accountId\":\"A\",\"ids\":[\"M\"",
+            "",
+            "]}",
+        ),
+        (
+            "Mailbox/set",
+            "{\"accountId\":\"A\",\"create\":{\"M\":{}",
+            ":{}",
+            "}}",
+        ),
+    ] {
+        let mut args = many(alloc, front, end)?;
+        args.push_str(close)?;
+        assert!(rt;
+            answers(
+                alloc,
+                &mut book,
+                name,
+                args.as_str(),
+                "{\"type\":\"requestTooLarge\"}"
+            )?
+        );
+    }
+    Ok(())
+}
+
 #[test]
 fn answers_nothing_else_yet(rt: HostRuntime) -> Result<(), Fail> {
     let alloc = rt.alloc();

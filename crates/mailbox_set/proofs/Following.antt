@@ -1,41 +1,29 @@
 -- A planner keeps in step with the course of a set.
-use Rattle.std.proofs.Common.{◌≡◌, ◌==◌, ℕ, map, length, Result, Ok, Err, OnOk, ◌+◌, ◌≤◌, Bool, true, false, ◌&&◌, ◌||◌, eqb, ltb, leb, nat_le, nat_lt, List, [], ◌∷◌, ◌++◌, Option, Some, None, is_some, refl, sym, ap, ◌∙◌, arith, ⊎_elim, bytes_eq, le-leb, le-ltb, lt-ltb}
+use Rattle.std.proofs.Common.{◌≡◌, ◌==◌, ℕ, map, length, Result, Ok, Err, OnOk, ◌+◌, ◌≤◌, Bool, true, false, ◌&&◌, ◌||◌, eqb, ltb, leb, nat_le, nat_lt, List, [], ◌∷◌, ◌++◌, Option, Some, None, is_some, refl, sym, ap, ap₂, ◌∙◌, arith, ⊎_elim, bytes_eq, le-leb, le-ltb, lt-ltb}
 use Rattle.std.specs.List.{list_any}
 use Rattle.std.proofs.lemmas.Bool.{cases_Bool, false≢true, eqb-true, eqb-false, ltb-true, ltb-false, leb-true}
-use Rattle.std.proofs.lemmas.List.Folds.{list_any-append}
 use Rattle.jm_json.specs.Tree.{Tree}
 use Rattle.jm_json.specs.Order.{put as put_member}
 use Rattle.jm_json.specs.declared.invocation.Created.{Created}
-use Rattle.mail_records.specs.Contents.{Content, Held, mailbox_number, mailbox_at, AreNumbered}
+use Rattle.mail_records.specs.Contents.{Content, Held, mailbox_number, mailbox_at}
 use Rattle.mail_records.specs.Edits.{after_edit}
 use Rattle.mail_records.specs.declared.records.Mailbox.{Mailbox}
-use Rattle.mail_records.proofs.Tables.{lookup-put_same, lookup-put_other}
-use Rattle.mail_records.proofs.Growth.{AreNumbered-after_edit}
+use Rattle.mail_records.specs.Tables.{put}
+use Rattle.mail_records.proofs.Tables.{lookup-put_same, lookup-put_other, IsTable-put}
 use Rattle.mail_counts.specs.Tidy.{is_sibling, same_parent, same_role}
-use Rattle.mail_counts.proofs.Growth.{Fits-new_mailbox, mailboxes-new}
 use Rattle.jm_json.specs.Json.{member_of}
 use Rattle.jm_json.specs.declared.tree.Member.{Member}
 use Rattle.mail_counts.specs.Views.{mailbox_members}
 use Rattle.mailbox_set.specs.Asked.{Asked, asked}
+use Rattle.mailbox_set.specs.Beyond.{has_role, is_beyond, is_given}
 use Rattle.mailbox_set.specs.declared.faults.Faults.{Faults}
 use Rattle.mailbox_set.specs.Creates.{Create, Course, after_create, after_checks, after_made, bad_members, blank, created_tree, faults_of, made_under, mailbox_of, new_mailbox, refusal}
 use Rattle.mailbox_set.specs.Holds.{holds}
 use Rattle.mailbox_set.specs.Knows.{Knows}
 use Rattle.mailbox_set.specs.Follows.{Follows, is_found}
 use Rattle.mailbox_set.specs.declared.planner.Planner.{Planner}
-
-or_last : (a b : Bool) → (a || (b || false)) ≡ (b || a)
-or_last true true = refl
-or_last true false = refl
-or_last false true = refl
-or_last false false = refl
-
--- the mailboxes with a new one pass a test where they passed it, or the new one does
-any_with_new : (c : Content) (m : Mailbox) (test : Mailbox → Bool) → AreNumbered c → m.number ≡ c.next_mailbox
-    → list_any test (after_edit c (new_mailbox m)).mailboxes ≡ (test m || list_any test c.mailboxes)
-any_with_new c m test numbered is =
-    ap (list_any test) (mailboxes-new c m numbered is)
-    ∙ (list_any-append test c.mailboxes (m ∷ []) ∙ or_last (list_any test c.mailboxes) (test m))
+use Rattle.mailbox_set.proofs.Givens.{given_with_new, beyond_with_new, beyond_twice, tested_more}
+use Rattle.mailbox_set.proofs.Texts.{any_same}
 
 -- one more number is found
 found_with_new : (c : Content) (m : Mailbox) (n : ℕ) → is_some (mailbox_at (after_edit c (new_mailbox m)) n) ≡ (eqb m.number n || is_some (mailbox_at c n))
@@ -48,17 +36,6 @@ found_with_new c m n =
 or_true : (b : Bool) → (b || true) ≡ true
 or_true true = refl
 or_true false = refl
-
--- below the next number but one: below the next one, or that one
-tested_more : (n next : ℕ) → (n ≡ next → ⊥) → ltb n (next + 1) ≡ ltb n next
-tested_more n next apart =
-    ⊎_elim
-    (λ (lt : ltb n next ≡ true). let less = ltb-true n next lt in lt-ltb n (next + 1) (omega arith) ∙ sym lt)
-    (λ (ge : ltb n next ≡ false). let most = ltb-false n next ge in le-ltb n (next + 1) (above apart most) ∙ sym ge)
-    (cases_Bool (ltb n next))
-  where
-    above : (n ≡ next → ⊥) → next ≤ n → next + 1 ≤ n
-    above ne le = omega arith
 
 within_more : (first next n : ℕ) (there : Bool) → first ≤ next → (eqb next n || (there || (nat_le first n && nat_lt n next))) ≡ (there || (nat_le first n && nat_lt n (next + 1)))
 within_more first next n there le =
@@ -81,6 +58,7 @@ pub record Adds (p q : Planner) (x : Create) (m : Mailbox) : Type 0 where
   pub content : q.content.now ≡ p.content.now
   pub number : m.number ≡ p.next
   pub next : q.next ≡ p.next + 1
+  pub beyond : q.beyond ≡ p.beyond
   pub names : (g : Option ℕ) (t : List ℕ) → holds q.names.keys.keys g t ≡ (same_parent m.parent g && bytes_eq m.name t || holds p.names.keys.keys g t)
   pub roles : (t : List ℕ) → holds q.roles.keys.keys None t ≡ (same_role m.role (Some t) || holds p.roles.keys.keys None t)
   pub known : (made : List Created) → Knows p.known made → Knows q.known (made ++ made_under x.creation m ∷ [])
@@ -91,9 +69,10 @@ pub record Adds (p q : Planner) (x : Create) (m : Mailbox) : Type 0 where
 
 pub Follows-made : (p q : Planner) (s : Course) (x : Create) (m : Mailbox) → Adds p q x m → Follows p s → Follows q (after_made s x m)
 Follows-made p q s x m adds f =
-    let is : m.number ≡ s.content.next_mailbox = adds.number ∙ f.next in
+    let rows = s.content.mailboxes in
+    let more = put mailbox_number m rows in
     record {
-      numbered = AreNumbered-after_edit s.content (new_mailbox m) (Fits-new_mailbox s.content m false f.numbered is) f.numbered;
+      table = IsTable-put mailbox_number m rows f.table;
       next = adds.next ∙ ap (λ n. n + 1) (sym adds.number);
       grown = let low = f.grown in omega (arith, adds.next, ap (λ (c : Held). c.content.next_mailbox) adds.content);
       found = λ n.
@@ -102,8 +81,20 @@ Follows-made p q s x m adds f =
           ∙ (ap (λ k. eqb k n || is_found p.content.now.content p.next n) adds.number
           ∙ (within_more p.content.now.content.next_mailbox p.next n (is_some (mailbox_at p.content.now.content n)) f.grown
           ∙ (ap (is_found_from p.content.now.content n) (sym adds.next) ∙ ap (λ (c : Held). is_found c.content q.next n) (sym adds.content)))));
-      names = λ g t. adds.names g t ∙ (ap (λ b. same_parent m.parent g && bytes_eq m.name t || b) (f.names g t) ∙ sym (any_with_new s.content m (is_sibling g t) f.numbered is));
-      roles = λ t. adds.roles t ∙ (ap (λ b. same_role m.role (Some t) || b) (f.roles t) ∙ sym (any_with_new s.content m (λ (n : Mailbox). same_role n.role (Some t)) f.numbered is));
+      names = λ g t.
+          adds.names g t
+          ∙ (ap (λ b. is_sibling g t m || b) (f.names g t)
+          ∙ (sym (given_with_new p.next (is_sibling g t) m rows f.table adds.number) ∙ ap (λ n. list_any (is_given n (is_sibling g t)) more) (sym adds.next)));
+      roles = λ t.
+          adds.roles t
+          ∙ (ap (λ b. has_role t m || b) (f.roles t)
+          ∙ (sym (given_with_new p.next (has_role t) m rows f.table adds.number) ∙ ap (λ n. list_any (is_given n (has_role t)) more) (sym adds.next)));
+      beyond = λ test.
+          ap (λ n. list_any (is_beyond n test) more) adds.next
+          ∙ (beyond_with_new p.next test m rows f.table adds.number
+          ∙ (f.beyond (λ y. nat_le (p.next + 1) y.number && test y)
+          ∙ (any_same _ _ (λ y. sym (beyond_twice y.number p.next (test y))) p.beyond.now
+          ∙ ap₂ (λ (n : ℕ) (ys : List Mailbox). list_any (is_beyond n test) ys) (sym adds.next) (sym (ap (λ b. b.now) adds.beyond)))));
       known = adds.known s.made f.known;
       fresh = adds.fresh ∙ ap (λ xs. xs ++ made_under x.creation m ∷ []) f.fresh;
       edits = adds.edits ∙ ap (λ xs. xs ++ new_mailbox m ∷ []) f.edits;

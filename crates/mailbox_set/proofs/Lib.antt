@@ -3,6 +3,7 @@ pub mod Sames
 pub mod Knowing
 pub mod Naming
 pub mod Rising
+pub mod Givens
 pub mod Following
 pub mod Rounding
 pub mod Promising

@@ -1,6 +1,5 @@
 -- What the edits of a set keep, create by create.
 use Rattle.std.proofs.Common.{◌≡◌, ◌≢◌, Result, Ok, Err, IfOk, IfErr, MatchResult, ℕ, zero, suc, nat_lt, if◌then◌else◌, Bool, true, false, not, cond, ◌||◌, List, [], ◌∷◌, ◌++◌, map, filter, length, Option, Some, None, is_some, unwrap_or, option_map, option_and_then, refl, sym, ap, ◌∙◌, subst, pos, negsuc, eqb, bytes_eq, codes}
-use Rattle.std.specs.List as lists
 use Rattle.std.specs.List.{AllByRecursion, list_any}
 use Rattle.std.specs.Ordering.{nat_cmp, match_ordering}
 use Rattle.std.specs.Cmp.Lexicographic.{slice_cmp}
@@ -20,7 +19,7 @@ use Rattle.mail_records.specs.declared.records.Mailbox.{Mailbox}
 use Rattle.mail_records.proofs.Growth.{AreNumbered-after_edit, after_edits-append, AllFit-append}
 use Rattle.mail_counts.specs.Forms.{is_name, is_role, is_sort_order}
 use Rattle.mail_counts.specs.Tidy.{IsTidy, IsThere, IsNewMailbox, is_sibling}
-use Rattle.mail_counts.specs.Views.{mailbox_id, mailbox_members}
+use Rattle.mail_counts.specs.Views.{is_id_of, mailbox_members, mailbox_named}
 use Rattle.mail_counts.proofs.Growth.{Fits-new_mailbox, Tidy_with_new_mailbox}
 use Rattle.mailbox_set.specs.Asked.{Asked, asked, asked_name, asked_parent, identifier, named, only_if, parent_in, role_in, sort_order_in}
 use Rattle.mailbox_set.specs.Creates.{Create, Course, after_create, after_checks, after_made, bad_in, bad_members, blank, faults_of, is_bad, is_name_taken, is_role_taken, mailbox_of, new_mailbox, property, refusal}
@@ -137,17 +136,17 @@ there_at m n rows true e h = refl
 there_at m n rows false e h = h
 
 abbrev named_in : List Mailbox → List ℕ → Option ℕ
-named_in rows s = option_map mailbox_number (lists.find (λ (m : Mailbox). bytes_eq (mailbox_id m.number) s) rows)
+named_in rows s = option_map mailbox_number (mailbox_named rows s)
 
 named_there_at : (s : List ℕ) (m : Mailbox) (n : ℕ) (rows : List Mailbox) (b : Bool) → (named_in rows s ≡ Some n → is_some (lookup mailbox_number n rows) ≡ true)
-    → option_map mailbox_number (cond b (Some m) (lists.find (λ (x : Mailbox). bytes_eq (mailbox_id x.number) s) rows)) ≡ Some n → is_some (lookup mailbox_number n (m ∷ rows)) ≡ true
+    → option_map mailbox_number (cond b (Some m) (mailbox_named rows s)) ≡ Some n → is_some (lookup mailbox_number n (m ∷ rows)) ≡ true
 named_there_at s m n rows true rest e =
     let same : eqb m.number n ≡ true = eq-eqb m.number n (same_Some m.number n e) in rw same refl
 named_there_at s m n rows false rest e = there_at m n rows (eqb m.number n) refl (rest e)
 
 named_there : (s : List ℕ) (rows : List Mailbox) (n : ℕ) → named_in rows s ≡ Some n → is_some (lookup mailbox_number n rows) ≡ true
 named_there s [] n e = absurd (none-some n e)
-named_there s (m ∷ rows) n e = named_there_at s m n rows (bytes_eq (mailbox_id m.number) s) (named_there s rows n) e
+named_there s (m ∷ rows) n e = named_there_at s m n rows (is_id_of s m) (named_there s rows n) e
 
 parent_at : (o : Option ℕ) (n : ℕ) → unwrap_or (option_map (λ x. Some x) o) None ≡ Some n → o ≡ Some n
 parent_at None n e = absurd (none-some n e)
@@ -238,36 +237,56 @@ by_rounds : (P : Course → Type 0) → ((s : Course) (x : Create) → P s → P
 by_rounds P step zero s xs p = by_each P step xs s p
 by_rounds P step (suc n) s xs p = by_round P step n s xs p (λ t ys q. by_rounds P step n t ys q) (taken_out (stands s.made) xs)
 
--- the edits so far fit, lead to the content so far, and put new mailboxes
-pub record Fitting (c : Content) (s : Course) : Type 0 where
-  pub fits : AllFit c s.edits
+-- the edits so far lead to the content so far, and put new mailboxes
+pub record Leading (c : Content) (s : Course) : Type 0 where
   pub content : s.content ≡ after_edits c s.edits
-  pub numbered : AreNumbered s.content
   pub puts : AllByRecursion PutsNew s.edits
 
 all_push : {A : Type 0} (P : A → Type 0) (xs : List A) (x : A) → AllByRecursion P xs → P x → AllByRecursion P (xs ++ x ∷ [])
 all_push P [] x all p = (p, tt)
 all_push P (y ∷ xs) x all p = (all.0, all_push P xs x all.1 p)
 
+leading_made : (c : Content) (s : Course) (x : Create) (a : Asked) → Leading c s → Leading c (after_made s x (mailbox_of s.content.next_mailbox a))
+leading_made c s x a f =
+    let m = mailbox_of s.content.next_mailbox a in
+    record {
+      content = ap (λ d. after_edit d (new_mailbox m)) f.content ∙ sym (after_edits-append s.edits (new_mailbox m ∷ []) c);
+      puts = all_push PutsNew s.edits (new_mailbox m) f.puts (refl, refl, record { total_emails = refl; unread_emails = refl; total_threads = refl; unread_threads = refl });
+    }
+
+leading_create : (c : Content) (s : Course) (x : Create) → Leading c s → Leading c (after_create s x)
+leading_create c s x f =
+    let a = asked s.content s.made x.members in
+    by_checks (Leading c) s x (mailbox_of s.content.next_mailbox a) (bad_in s.content a x.members) (λ none. leading_made c s x a f)
+    (λ r. record { content = f.content; puts = f.puts })
+
+Leading-creates : (c : Content) (s : Course) (xs : List Create) → Leading c s → Leading c (after_creates s xs)
+Leading-creates c s xs f = by_rounds (Leading c) (leading_create c) (length xs) s xs f
+
+-- the edits so far fit too, where numbers are below the next ones
+pub record Fitting (c : Content) (s : Course) : Type 0 where
+  pub leads : Leading c s
+  pub fits : AllFit c s.edits
+  pub numbered : AreNumbered s.content
+
 fitting_made : (c : Content) (s : Course) (x : Create) (a : Asked) → Fitting c s → Fitting c (after_made s x (mailbox_of s.content.next_mailbox a))
 fitting_made c s x a f =
     let m = mailbox_of s.content.next_mailbox a in
     let fit : Fits s.content (new_mailbox m) = Fits-new_mailbox s.content m false f.numbered refl in
-    let last : AllFit (after_edits c s.edits) (new_mailbox m ∷ []) = subst (λ d. AllFit d (new_mailbox m ∷ [])) f.content (fit, tt) in
+    let last : AllFit (after_edits c s.edits) (new_mailbox m ∷ []) = subst (λ d. AllFit d (new_mailbox m ∷ [])) f.leads.content (fit, tt) in
     record {
+      leads = leading_made c s x a f.leads;
       fits = AllFit-append s.edits (new_mailbox m ∷ []) c f.fits last;
-      content = ap (λ d. after_edit d (new_mailbox m)) f.content ∙ sym (after_edits-append s.edits (new_mailbox m ∷ []) c);
       numbered = AreNumbered-after_edit s.content (new_mailbox m) fit f.numbered;
-      puts = all_push PutsNew s.edits (new_mailbox m) f.puts (refl, refl, record { total_emails = refl; unread_emails = refl; total_threads = refl; unread_threads = refl });
     }
 
 fitting_create : (c : Content) (s : Course) (x : Create) → Fitting c s → Fitting c (after_create s x)
 fitting_create c s x f =
     let a = asked s.content s.made x.members in
     by_checks (Fitting c) s x (mailbox_of s.content.next_mailbox a) (bad_in s.content a x.members) (λ none. fitting_made c s x a f)
-    (λ r. record { fits = f.fits; content = f.content; numbered = f.numbered; puts = f.puts })
+    (λ r. record { leads = record { content = f.leads.content; puts = f.leads.puts }; fits = f.fits; numbered = f.numbered })
 
-pub Fitting-creates : (c : Content) (s : Course) (xs : List Create) → Fitting c s → Fitting c (after_creates s xs)
+Fitting-creates : (c : Content) (s : Course) (xs : List Create) → Fitting c s → Fitting c (after_creates s xs)
 Fitting-creates c s xs f = by_rounds (Fitting c) (fitting_create c) (length xs) s xs f
 
 abbrev Tidied : Course → Type 0
@@ -287,15 +306,16 @@ Tidy-creates s xs tidy = by_rounds Tidied tidy_create (length xs) s xs tidy
 
 -- what the edits of a plan are promised to be
 pub record Promised (c : Content) (es : List Edit) : Type 0 where
-  pub fits : AllFit c es
+  pub fits : AreNumbered c → AllFit c es
   pub tidy : IsTidy c → IsTidy (after_edits c es)
   pub puts : AllByRecursion PutsNew es
 
-promised_creates : (c : Content) (made : List Created) (xs : List Create) → AreNumbered c → Promised c (after_creates (beginning c made) xs).edits
-promised_creates c made xs numbered =
-    let f = Fitting-creates c (beginning c made) xs (record { fits = tt; content = refl; numbered = numbered; puts = tt }) in
+promised_creates : (c : Content) (made : List Created) (xs : List Create) → Promised c (after_creates (beginning c made) xs).edits
+promised_creates c made xs =
+    let first : Leading c (beginning c made) = record { content = refl; puts = tt } in
+    let f = Leading-creates c (beginning c made) xs first in
     record {
-      fits = f.fits;
+      fits = λ numbered. (Fitting-creates c (beginning c made) xs (record { leads = first; fits = tt; numbered = numbered })).fits;
       tidy = λ tidy. subst IsTidy f.content (Tidy-creates (beginning c made) xs tidy);
       puts = f.puts;
     }
@@ -317,19 +337,19 @@ promised_at c true b p q h e = absurd (not_large q e)
 promised_at c false true p q h e = absurd (not_mismatch q e)
 promised_at c false false p q h e = subst (λ (r : Plan). Promised c r.edits) (planned_same p q e) h
 
-promised_arguments : (g : Ground) (made : List Created) (ms : Pairs) (o : Option (List ℕ)) (q : Plan) → AreNumbered g.content → outcome_of_arguments g made ms o ≡ planned q → Promised g.content q.edits
-promised_arguments g made ms (Some k) q numbered e = absurd (not_invalid k q e)
-promised_arguments g made ms None q numbered e =
+promised_arguments : (g : Ground) (made : List Created) (ms : Pairs) (o : Option (List ℕ)) (q : Plan) → outcome_of_arguments g made ms o ≡ planned q → Promised g.content q.edits
+promised_arguments g made ms (Some k) q e = absurd (not_invalid k q e)
+promised_arguments g made ms None q e =
     let xs = creates_in ms in
     promised_at g.content (nat_lt 500 (length xs)) (is_other_state g.state (text_at (codes "ifInState") ms)) (plan_after g (account_in ms) (after_creates (beginning g.content made) xs)) q
-    (promised_creates g.content made xs numbered) e
+    (promised_creates g.content made xs) e
 
-promised_members : (g : Ground) (made : List Created) (o : Option Pairs) (q : Plan) → AreNumbered g.content → outcome_of_members g made o ≡ planned q → Promised g.content q.edits
-promised_members g made None q numbered e = absurd (not_invalid [] q e)
-promised_members g made (Some ms) q numbered e = promised_arguments g made ms (bad_argument ms) q numbered e
+promised_members : (g : Ground) (made : List Created) (o : Option Pairs) (q : Plan) → outcome_of_members g made o ≡ planned q → Promised g.content q.edits
+promised_members g made None q e = absurd (not_invalid [] q e)
+promised_members g made (Some ms) q e = promised_arguments g made ms (bad_argument ms) q e
 
-pub promised : (g : Ground) (args : Tree) (made : List Created) (q : Plan) → AreNumbered g.content → set_outcome g args made ≡ planned q → Promised g.content q.edits
-promised g args made q numbered e = promised_members g made (as_object args) q numbered e
+pub promised : (g : Ground) (args : Tree) (made : List Created) (q : Plan) → set_outcome g args made ≡ planned q → Promised g.content q.edits
+promised g args made q e = promised_members g made (as_object args) q e
 
 -- what holds of each value, and of each error
 pub if_ok : {T E : Type 0} (r : Result T E) (P S : T → Type 0) (Q : E → Type 0) → ((x : T) → P x → S x) → MatchResult r P Q → IfOk r S

@@ -2,14 +2,12 @@
 -- that isn't good by itself.
 use Rattle.std.specs.Prelude.{ℕ, pos, List, [], ◌∷◌, Bool, true, ◌==◌, Option, Some, None, option_map, option_and_then, if◌then◌else◌, codes, bytes_eq}
 use Rattle.std.specs.Option.{option_or}
-use Rattle.std.specs.List as lists
 use Rattle.jm_json.specs.Tree.{Tree, null, boolean, number, text}
 use Rattle.jm_json.specs.Find.{find, as_text}
 use Rattle.jm_json.specs.declared.invocation.Created.{Created}
 use Rattle.mail_records.specs.Contents.{Content, mailbox_number}
-use Rattle.mail_records.specs.declared.records.Mailbox.{Mailbox}
 use Rattle.mail_counts.specs.Forms.{is_name, is_role, is_sort_order}
-use Rattle.mail_counts.specs.Views.{mailbox_id}
+use Rattle.mail_counts.specs.Views.{mailbox_named}
 
 -- the value, if it passes
 abbrev pub only_if : {A : Type 0} → (A → Bool) → A → Option A
@@ -33,9 +31,9 @@ by_reference made s (Some k) = last_made k made
 abbrev pub identifier : List Created → List ℕ → Option (List ℕ)
 identifier made s = by_reference made s (reference s)
 
--- the number of the mailbox that has this identifier, if it is there
+-- the number of the mailbox that an identifier names, if it is there
 abbrev pub named : Content → List ℕ → Option ℕ
-named c s = option_map mailbox_number (lists.find (λ (m : Mailbox). bytes_eq (mailbox_id m.number) s) c.mailboxes)
+named c s = option_map mailbox_number (mailbox_named c.mailboxes s)
 
 -- the name
 abbrev pub asked_name : List (List ℕ × Tree) → Option (List ℕ)

@@ -3,6 +3,7 @@ pub mod Asked
 pub mod Creates
 pub mod Drafts
 pub mod Holds
+pub mod Beyond
 pub mod Known
 pub mod Knows
 pub mod Wants

@@ -2,7 +2,8 @@
 ghost use Rattle.std.specs.Prelude.{◌≡◌, ℕ, List, None, Some, Option, option_map, IfOk};
 ghost use Rattle.std.specs.List.{list_any};
 ghost use Rattle.mail_counts.specs.Tidy.{is_sibling, same_role};
-ghost use Rattle.mail_records.specs.Contents.{AreNumbered};
+ghost use Rattle.mail_records.specs.Contents.{mailbox_number};
+ghost use Rattle.mail_records.specs.Tables.{IsPlace, IsTable};
 ghost use Rattle.mail_records.specs.declared.records.Mailbox.{Mailbox as TheMailbox};
 ghost use Rattle.mailbox_set.specs.Follows.{Follows};
 ghost use Rattle.mailbox_set.specs.Holds.{holds};
@@ -46,22 +47,33 @@ fn roles_of<'a>(alloc: Global, mailboxes: &'a [Mailbox]) -> Result<Taken<'a>, No
     Ok(roles)
 }
 
+// The place of the first mailbox whose number is not below this one.
+fn place_of(mailboxes: &[Mailbox], number: u64) -> usize
+    requires { IsTable mailbox_number mailboxes.now }
+    ensures { IsPlace mailbox_number number mailboxes.now result }
+{
+    mailboxes.partition_point(|mailbox| mailbox.number < number)
+}
+
 /// A planner before the first create.
 pub fn begin<'a>(
     alloc: Global,
     content: &'a Content,
     made: &'a [Created],
 ) -> Result<Planner<'a>, NoMemory>
-    requires { AreNumbered content.now.content }
     ensures follows { IfOk result (λ p. Follows p (beginning content.now.content made.now)) }
     ensures next { IfOk result (λ p. p.next ≡ content.now.content.next_mailbox) }
 {
-    let names = names_of(alloc, content.mailboxes())?;
-    let roles = roles_of(alloc, content.mailboxes())?;
+    let next = content.next(Kind::Mailbox);
+    let mailboxes = content.mailboxes();
+    let (given, beyond) = mailboxes.split_at(place_of(mailboxes, next));
+    let names = names_of(alloc, given)?;
+    let roles = roles_of(alloc, given)?;
     let known = known_of(alloc, made)?;
     Ok(Planner {
         content,
-        next: content.next(Kind::Mailbox),
+        next,
+        beyond,
         names,
         roles,
         known,

@@ -1,17 +1,21 @@
 // Which properties of a create are bad, beside the creates before it.
 ghost use Rattle.std.specs.Prelude.{◌≡◌, ◌<◌, ◌^◌, false, map, filter, is_some, option_map, unwrap_or, codes, IfOk};
+ghost use Rattle.std.specs.List.{list_any};
 ghost use Rattle.jm_json.specs.Json.{tree_of, member_of};
 ghost use Rattle.jm_json.specs.Order.{KeysRise};
 ghost use Rattle.jm_json.specs.Tree.{text as text_tree};
 ghost use Rattle.mail_records.specs.Contents.{mailbox_at};
+ghost use Rattle.mail_counts.specs.Tidy.{is_sibling};
 ghost use Rattle.mail_counts.specs.Views.{mailbox_members};
 ghost use Rattle.mailbox_set.specs.Asked.{asked, asked_parent, identifier, parent_in};
+ghost use Rattle.mailbox_set.specs.Beyond.{has_role};
 ghost use Rattle.mailbox_set.specs.Creates.{Course, bad_members, blank, differs, faults_of, is_bad, is_name_taken, is_role_taken, property};
 ghost use Rattle.mailbox_set.specs.Follows.{Follows};
 ghost use Rattle.mailbox_set.specs.Known.{MeansIfAny};
 ghost use Rattle.mailbox_set.specs.Wants.{asked_of};
 
 use crate::asked::{asked_name, asked_role, asked_sort_order, asked_subscribed};
+use crate::beyond::{is_name_beyond, is_role_beyond};
 use crate::faults::Faults;
 use crate::known::{known_at, mailbox_number, reference};
 use crate::planner::Planner;
@@ -94,33 +98,62 @@ pub fn asked<'a>(planner: &Planner<'a>, members: &'a Members) -> Asked<'a>
     }
 }
 
+// Whether some mailbox has this parent and name.
+fn is_name_used<'a>(planner: &Planner<'a>, parent: Option<u64>, name: &'a str) -> bool
+    ensures { (s : Course) → Follows planner.now s → result ≡ list_any (is_sibling parent name.now) s.content.mailboxes }
+{
+    if has(&planner.names, parent, name) {
+        return true;
+    }
+    is_name_beyond(planner.beyond, planner.next, parent, name)
+}
+
 fn is_name_taken<'a>(planner: &Planner<'a>, asked: &Asked<'a>) -> bool
     ensures { (s : Course) → Follows planner.now s → result ≡ is_name_taken s.content (asked_of asked.now).parent (asked_of asked.now).name }
 {
     match asked.parent {
         Some(parent) => match asked.name {
-            Some(name) => has(&planner.names, parent, name.as_str()),
+            Some(name) => is_name_used(planner, parent, name.as_str()),
             None => false,
         },
         None => false,
     }
 }
 
+// Whether some mailbox has this role.
+fn is_role_held<'a>(planner: &Planner<'a>, role: &'a str) -> bool
+    ensures { (s : Course) → Follows planner.now s → result ≡ list_any (has_role role.now) s.content.mailboxes }
+{
+    if has(&planner.roles, None, role) {
+        return true;
+    }
+    is_role_beyond(planner.beyond, planner.next, role)
+}
+
 fn is_role_used<'a>(planner: &Planner<'a>, role: Option<&'a Text>) -> bool
     ensures { (s : Course) → Follows planner.now s → result ≡ is_role_taken s.content (option_map (λ t. t.now) role.entry) }
 {
     match role {
-        Some(role) => has(&planner.roles, None, role.as_str()),
+        Some(role) => is_role_held(planner, role.as_str()),
         None => false,
     }
 }
 
-fn is_role_taken<'a>(planner: &Planner<'a>, asked: &Asked<'a>) -> bool
-    ensures { (s : Course) → Follows planner.now s → result ≡ is_role_taken s.content (unwrap_or (asked_of asked.now).role None) }
+fn is_name_bad<'a>(planner: &Planner<'a>, asked: &Asked<'a>) -> bool
+    ensures { (s : Course) → Follows planner.now s → result ≡ (faults_of s.content (asked_of asked.now)).name }
+{
+    if asked.name.is_none() {
+        return true;
+    }
+    is_name_taken(planner, asked)
+}
+
+fn is_role_bad<'a>(planner: &Planner<'a>, asked: &Asked<'a>) -> bool
+    ensures { (s : Course) → Follows planner.now s → result ≡ (faults_of s.content (asked_of asked.now)).role }
 {
     match asked.role {
         Some(role) => is_role_used(planner, role),
-        None => false,
+        None => true,
     }
 }
 
@@ -129,9 +162,9 @@ pub fn faults_of<'a>(planner: &Planner<'a>, asked: &Asked<'a>) -> Faults
     ensures { (s : Course) → Follows planner.now s → result ≡ faults_of s.content (asked_of asked.now) }
 {
     Faults {
-        name: asked.name.is_none() || is_name_taken(planner, asked),
+        name: is_name_bad(planner, asked),
         parent: asked.parent.is_none(),
-        role: asked.role.is_none() || is_role_taken(planner, asked),
+        role: is_role_bad(planner, asked),
         sort_order: asked.sort_order.is_none(),
         subscribed: asked.subscribed.is_none(),
     }

@@ -4,6 +4,7 @@
 mod arguments;
 mod asked;
 mod beginning;
+mod beyond;
 mod checks;
 mod draft;
 mod faults;

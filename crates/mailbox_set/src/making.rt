@@ -11,7 +11,7 @@ ghost use Rattle.mailbox_set.specs.Wants.{asked_of};
 use crate::asked::wanted;
 use crate::checks::{asked, bad_members, faults_of, given_members};
 use crate::draft::Draft;
-use crate::known::learn;
+use crate::known::{learn, mailbox_number};
 use crate::planner::Planner;
 use crate::taken::{Taken, add};
 use crate::telling::{created_object, refusal};
@@ -88,10 +88,13 @@ fn make<'a>(
     let wanted = wanted(asked);
     add(&mut planner.names, wanted.parent, wanted.name)?;
     add_role(&mut planner.roles, wanted.role)?;
-    learn(&mut planner.known, draft.creation.as_bytes(), Some(number))?;
-    planner
-        .fresh
-        .push(made_under(alloc, draft.creation, number)?)?;
+    let made = made_under(alloc, draft.creation, number)?;
+    learn(
+        &mut planner.known,
+        draft.creation.as_bytes(),
+        mailbox_number(made.id.as_bytes()),
+    )?;
+    planner.fresh.push(made)?;
     planner.created.put(draft.creation.copy()?, told)?;
     planner.edits.push(Edit::PutMailbox {
         item,

@@ -44,6 +44,7 @@ fn planned<'a>(
     let Planner {
         content: _,
         next: _,
+        beyond: _,
         names: _names,
         roles: _roles,
         known: _known,
@@ -68,7 +69,6 @@ fn after_all<'a>(
     made: &'a Made,
     drafts: Vec<Draft<'a>>,
 ) -> Result<Planner<'a>, NoMemory>
-    requires numbered { AreNumbered content.now.content }
     requires room { content.now.content.next_mailbox + length drafts.items < 2 ^ 53 }
     ensures { IfOk result (λ p. Follows p (after_creates (beginning content.now.content made.now) (map create_of drafts.entry.items))) }
 {
@@ -85,7 +85,6 @@ fn plan_creates<'a>(
     members: &'a Members,
     made: &'a Made,
 ) -> Result<SetPlan, SetFault>
-    requires numbered { AreNumbered content.now.content }
     requires next { content.now.content.next_mailbox ≤ 2 ^ 52 + 2 ^ 26 }
     requires last { log_end log.now ≤ 2 ^ 52 + 2 ^ 26 }
     ensures { MatchResult result
@@ -111,7 +110,6 @@ fn plan_members<'a>(
     members: &'a Members,
     made: &'a Made,
 ) -> Result<SetPlan, SetFault>
-    requires numbered { AreNumbered content.now.content }
     requires next { content.now.content.next_mailbox ≤ 2 ^ 52 + 2 ^ 26 }
     requires last { log_end log.now ≤ 2 ^ 52 + 2 ^ 26 }
     ensures { MatchResult result
@@ -131,7 +129,6 @@ fn plan<'a>(
     args: &'a Json,
     made: &'a Made,
 ) -> Result<SetPlan, SetFault>
-    requires numbered { AreNumbered content.now.content }
     requires next { content.now.content.next_mailbox ≤ 2 ^ 52 + 2 ^ 26 }
     requires last { log_end log.now ≤ 2 ^ 52 + 2 ^ 26 }
     ensures { MatchResult result
@@ -153,8 +150,8 @@ fn plan<'a>(
 /// with an `ifInState` that isn't the text of the mailboxes' state. Of several the first in this order is told.
 ///
 /// Creates are done in rounds, each the first in byte order whose `parentId` refers to nothing or to what has been made. One
-/// with bad properties is told in `notCreated`, and makes nothing. The edits fit the content, put new mailboxes with
-/// counts 0, and leave a tidy content tidy.
+/// with bad properties is told in `notCreated`, and makes nothing. The edits put new mailboxes with counts 0, fit a content whose
+/// numbers are below its next ones, and leave a tidy one tidy.
 pub fn plan_mailbox_set(
     alloc: Global,
     content: &Content,
@@ -162,12 +159,11 @@ pub fn plan_mailbox_set(
     args: &Json,
     made: &Made,
 ) -> Result<SetPlan, SetFault>
-    requires numbered { AreNumbered content.now.content }
     requires next { content.now.content.next_mailbox ≤ 2 ^ 52 + 2 ^ 26 }
     requires last { log_end log.now ≤ 2 ^ 52 + 2 ^ 26 }
     ensures outcome { IfOk result (λ p. set_outcome (ground_of content.now.content log.now) (tree_of args.now) made.now ≡ planned (plan_of p)) }
     ensures fault { IfErr result (λ e. ExplainsSet e (set_outcome (ground_of content.now.content log.now) (tree_of args.now) made.now)) }
-    ensures fits { IfOk result (λ p. AllFit content.now.content p.edits) }
+    ensures fits { IfOk result (λ p. AreNumbered content.now.content → AllFit content.now.content p.edits) }
     ensures tidy { IfOk result (λ p. IsTidy content.now.content → IsTidy (after_edits content.now.content p.edits)) }
     ensures puts { IfOk result (λ p. AllByRecursion PutsNew p.edits) }
 {

@@ -2,18 +2,14 @@
 -- 3.6.2 and 3.7).
 use Rattle.std.specs.Prelude.{ℕ, List, [], ◌∷◌, Bool, false, cond, codes, Option, Some, None}
 use Rattle.std.specs.List.{list_any}
-use Rattle.jm_json.specs.Tree.{Tree, text, object, fields_of}
+use Rattle.jm_json.specs.Tree.{Tree}
 use Rattle.jm_json.specs.Find.{as_object}
-use Rattle.jm_json.specs.Call.{Call}
+use Rattle.jm_json.specs.Call.{Call, error_of}
 use Rattle.jm_json.specs.Invoked.{call_of}
 use Rattle.result_refs.specs.References.{Resolution, bad_reference, both, resolved, resolution, is_marked}
 use Rattle.method_batch.specs.Method.{is_allowed}
 use Rattle.method_batch.specs.declared.prepare.Prepared.{Prepared}
 use Rattle.method_batch.specs.declared.prepare.Prepared.TheVariants.{Refused, Ready}
-
--- the response that says an error (RFC 8620, section 3.6.2)
-abbrev pub error_of : List ℕ → List ℕ → Call
-error_of kind id = record { name = codes "error"; args = object (fields_of ((codes "type", text kind) ∷ [])); id = id }
 
 -- a call is refused by a response, or it is ready, with its arguments resolved
 pub data Preparation : Type 0 where

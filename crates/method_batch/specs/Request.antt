@@ -2,18 +2,13 @@
 use Rattle.std.specs.Prelude.{ℕ, List, [], ◌∷◌, length, nat_lt, Bool, cond, Option, Some, None, option_map, option_and_then, codes, bytes_eq}
 use Rattle.std.specs.List.{list_any, list_all}
 use Rattle.jm_json.specs.Tree.{Tree}
-use Rattle.jm_json.specs.Find.{find, as_text, as_list, as_object}
+use Rattle.jm_json.specs.Find.{find, as_text, as_list, as_object, texts_from}
 use Rattle.jm_json.specs.Call.{Call}
 use Rattle.jm_json.specs.declared.invocation.Created.{Created}
 use Rattle.method_batch.specs.Method.{is_capability}
 use Rattle.method_batch.specs.declared.request.Request.{Request}
 use Rattle.method_batch.specs.declared.outcome.Problem.{Problem}
 use Rattle.method_batch.specs.declared.outcome.Problem.TheVariants.{UnknownCapability, TooManyCalls}
-
--- the texts of a list all of whose items are texts
-abbrev pub texts_from : List Tree → Option (List (List ℕ))
-texts_from [] = Some []
-texts_from (t ∷ ts) = option_and_then (λ s. option_map (λ ss. s ∷ ss) (texts_from ts)) (as_text t)
 
 abbrev pub call_of_parts : Option (List ℕ) → Option (List (List ℕ × Tree)) → Tree → Option (List ℕ) → Option Call
 call_of_parts None members args id = None

@@ -20,4 +20,3 @@ mod using;
 pub use answer::{answer_request, answer_request_with, answer_tree};
 pub use outcome::{Outcome, Problem};
 pub use port::Port;
-pub use response::error;

@@ -2,13 +2,12 @@
 ghost use Rattle.std.specs.Prelude.{◌≡◌, false, List, map, IfOk};
 ghost use Rattle.std.specs.List.{list_any};
 ghost use Rattle.jm_json.specs.Json.{tree_of, member_of};
-ghost use Rattle.jm_json.specs.Call.{Call};
+ghost use Rattle.jm_json.specs.Call.{Call, error_of};
 ghost use Rattle.jm_json.specs.Invoked.{call_of};
 ghost use Rattle.result_refs.specs.References.{resolution, resolved, is_marked};
 ghost use Rattle.method_batch.specs.Prepared.{has_reference};
 
 use crate::method::is_allowed;
-use crate::response::error;
 use jm_base::{NoMemory, Text};
 use jm_json::{Invocation, Json, Member};
 use result_refs::{RefFault, resolve};
@@ -22,7 +21,7 @@ pub(crate) enum Prepared {
 }
 
 impl Prepared {
-    ghost use Rattle.method_batch.specs.Prepared.{preparation, preparation_of, by_resolution, refused, error_of};
+    ghost use Rattle.method_batch.specs.Prepared.{preparation, preparation_of, by_resolution, refused};
 
     /// What a call comes to behind these responses, in a request that uses the capabilities of the core and of mail, or not.
     pub(crate) fn of_call(
@@ -75,7 +74,7 @@ impl Prepared {
     fn refusal(alloc: Global, kind: &str, id: Text) -> Result<Prepared, NoMemory>
         ensures { IfOk result (λ p. preparation_of p ≡ refused (error_of kind.now id)) }
     {
-        Ok(Prepared::Refused(error(alloc, kind, id)?))
+        Ok(Prepared::Refused(Invocation::error(alloc, kind, id)?))
     }
 }
 

@@ -1,8 +1,7 @@
-// The Response to a request as a tree (RFC 8620, section 3.4), and the response that says an error (section 3.6.2).
+// The Response to a request as a tree (RFC 8620, section 3.4).
 ghost use Rattle.std.specs.Prelude.{◌≡◌, IfOk, List, Bool, map};
 ghost use Rattle.jm_json.specs.Json.{tree_of};
 ghost use Rattle.jm_json.specs.Invoked.{call_of};
-ghost use Rattle.method_batch.specs.Prepared.{error_of};
 ghost use Rattle.method_batch.specs.Outcome.{call_tree, created_member, response_tree};
 
 use crate::created::id_members;
@@ -11,20 +10,6 @@ use jm_base::{NoMemory, Text};
 use jm_json::{Invocation, Invocations, Items, Json, Made, Members};
 use std::alloc::Global;
 use std::collections::VecDeque;
-
-/// The response that says an error, to the call with this id.
-pub fn error(alloc: Global, kind: &str, id: Text) -> Result<Invocation, NoMemory>
-    ensures { IfOk result (λ c. call_of c ≡ error_of kind.now id) }
-{
-    let mut args = Members::new(alloc);
-    let kind = Text::from_str(alloc, kind)?;
-    args.set(alloc, "type", Json::Text(kind))?;
-    Ok(Invocation {
-        name: Text::from_str(alloc, "error")?,
-        args: Json::Object(args),
-        id,
-    })
-}
 
 /// The tree of the Response to a request that came so far, which is moved into it. It shows what was created where the request
 /// itself did.

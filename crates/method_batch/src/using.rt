@@ -2,9 +2,9 @@
 ghost use Rattle.std.specs.Prelude.{◌≡◌, IfOk, option_map, option_and_then};
 ghost use Rattle.std.specs.List.{list_all};
 ghost use Rattle.jm_json.specs.Json.{tree_of};
-ghost use Rattle.jm_json.specs.Find.{as_list};
+ghost use Rattle.jm_json.specs.Find.{as_list, texts_from};
 ghost use Rattle.method_batch.specs.Method.{is_capability};
-ghost use Rattle.method_batch.specs.Request.{texts_from, uses};
+ghost use Rattle.method_batch.specs.Request.{uses};
 
 use crate::method::is_capability;
 use crate::parts::{into_items, into_text};

@@ -7,7 +7,7 @@ use Rattle.std.proofs.lemmas.Nat.{be_bytes_8, from_be_bytes-to_be_bytes_8}
 use Rattle.std.proofs.Math.Nat.{mul-le-mul_left, mul_comm, mul-suc, pow-succ'}
 use Rattle.record_codec.specs.Places.{AreBytes}
 use Rattle.record_codec.specs.Spelling.{number}
-use Rattle.record_codec.specs.Widths.{IsWord}
+use Rattle.record_codec.specs.Widths.{FitsIn64Bits}
 use Rattle.record_codec.specs.Awaiting.{is_outside, left_in_word}
 use Rattle.record_codec.specs.Reading.{Read}
 use Rattle.record_codec.specs.Readers.{number_at, is_between, number_between}
@@ -21,7 +21,7 @@ byte_small (x ∷ xs) h zero = h.0
 byte_small (x ∷ xs) h (suc i) = byte_small xs h.1 i
 
 -- eight bytes are a number's
-pub word_back : (w : List ℕ) → length w ≡ 8 → AreBytes w → (number (from_be_bytes w64 w) ≡ w) × IsWord (from_be_bytes w64 w)
+pub word_back : (w : List ℕ) → length w ≡ 8 → AreBytes w → (number (from_be_bytes w64 w) ≡ w) × FitsIn64Bits (from_be_bytes w64 w)
 unfolding number
 word_back w l h =
     let small = byte_small w h in
@@ -57,7 +57,7 @@ err_is d left e = cc
 err_no_ok : (left : ℕ) (x : ℕ × List ℕ) → failed left ≡ Ok x → ⊥
 err_no_ok left x e = cc
 
-pub number_exact : Exact IsWord number number_at
+pub number_exact : Exact FitsIn64Bits number number_at
 number_exact = record {
   found = λ xs h n rest e. elim (cases_lt (length xs) 8) [
     | inl lt ↦ absurd (err_no_ok 0 (n, rest) (rw (lt-ltb (length xs) 8 lt) at e))
@@ -65,7 +65,7 @@ number_exact = record {
         let got : ℕ × List ℕ = (from_be_bytes w64 (take 8 xs), drop 8 xs) in
         let is : got ≡ (n, rest) = ok_is got (n, rest) (rw (le-ltb (length xs) 8 ge) at e) in
         let b = word_back (take 8 xs) (omega (arith, length-take 8 xs)) (bytes_left (take 8 xs) (drop 8 xs) (subst AreBytes (sym (take-append-drop 8 xs)) h.bytes)) in
-        subst (λ (r : ℕ × List ℕ). IsWord r.0 × (xs ≡ number r.0 ++ r.1)) is (b.1, sym (take-append-drop 8 xs) ∙ ap (λ (w : List ℕ). w ++ drop 8 xs) (sym b.0))
+        subst (λ (r : ℕ × List ℕ). FitsIn64Bits r.0 × (xs ≡ number r.0 ++ r.1)) is (b.1, sym (take-append-drop 8 xs) ∙ ap (λ (w : List ℕ). w ++ drop 8 xs) (sym b.0))
   ];
   fault = λ xs h left e. elim (cases_lt (length xs) 8) [
     | inl lt ↦
@@ -74,7 +74,7 @@ number_exact = record {
         let w = xs ++ 0 ∷ more in
         let long : length w ≡ 8 = omega (arith, length-append xs (0 ∷ more), zeros_long (7 - length xs)) in
         let b = word_back w long (bytes_both xs (0 ∷ more) h.bytes (lit< tt, zeros_bytes (7 - length xs))) in
-        subst (λ (k : ℕ). Stops (Spelled IsWord number) (Spelled IsWord number) xs k) is (stops_short (Spelled IsWord number) (Spelled IsWord number) xs 0 more (from_be_bytes w64 w, b.1, sym b.0))
+        subst (λ (k : ℕ). Stops (Spelled FitsIn64Bits number) (Spelled FitsIn64Bits number) xs k) is (stops_short (Spelled FitsIn64Bits number) (Spelled FitsIn64Bits number) xs 0 more (from_be_bytes w64 w, b.1, sym b.0))
     | inr ge ↦ absurd (ok_no_err (from_be_bytes w64 (take 8 xs), drop 8 xs) left (rw (le-ltb (length xs) 8 ge) at e))
   ];
 }
@@ -158,16 +158,16 @@ eight (a ∷ b ∷ c ∷ d ∷ e ∷ f ∷ g ∷ []) l = absurd (omega (arith, l
 eight (a ∷ b ∷ c ∷ d ∷ e ∷ f ∷ g ∷ h ∷ []) l = omega arith
 eight (a ∷ b ∷ c ∷ d ∷ e ∷ f ∷ g ∷ h ∷ x ∷ xs) l = absurd (omega (arith, l))
 
-number_is : (n : ℕ) → IsWord n → from_be_bytes w64 (number n) ≡ n
+number_is : (n : ℕ) → FitsIn64Bits n → from_be_bytes w64 (number n) ≡ n
 unfolding number
 number_is n h = from_be_bytes-to_be_bytes_8 n h
 
 -- the order of numbers is that of their bytes
-pub number_up : (m n : ℕ) → IsWord m → IsWord n → m ≤ n → UpTo (number m) (number n)
+pub number_up : (m n : ℕ) → FitsIn64Bits m → FitsIn64Bits n → m ≤ n → UpTo (number m) (number n)
 number_up m n hm hn le =
     up_worth (number m) (number n) (number_bytes m) (number_bytes n) (number_long m ∙ sym (number_long n)) (rw (eight (number m) (number_long m), eight (number n) (number_long n), number_is m hm, number_is n hn) le)
 
-pub up_number : (m n : ℕ) → IsWord m → IsWord n → UpTo (number m) (number n) → m ≤ n
+pub up_number : (m n : ℕ) → FitsIn64Bits m → FitsIn64Bits n → UpTo (number m) (number n) → m ≤ n
 up_number m n hm hn up =
     let w : worth (number m) ≤ worth (number n) = worth_up (number m) (number n) (number_bytes m) (number_bytes n) (number_long m ∙ sym (number_long n)) up in
     rw (eight (number m) (number_long m), eight (number n) (number_long n), number_is m hm, number_is n hn) at w
@@ -284,7 +284,7 @@ pub record IsWithin (low high n : ℕ) : Type 0 where
   pub from : low ≤ n
   pub upto : n ≤ high
 
-within_word : (low high n : ℕ) → high < 2 ^ 64 → IsWithin low high n → IsWord n
+within_word : (low high n : ℕ) → high < 2 ^ 64 → IsWithin low high n → FitsIn64Bits n
 within_word low high n h i = omega (arith, h, i.upto)
 
 lies_spelled : (low high : ℕ) (w : List ℕ) → low ≤ high → high < 2 ^ 64 → Lies false false (number low) (number high) w → Spelled (IsWithin low high) number w

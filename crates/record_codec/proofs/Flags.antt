@@ -9,7 +9,7 @@ use Rattle.jm_base.specs.declared.identifiers.UtcDate.{UtcDate}
 use Rattle.jm_base.specs.Moments.{IsMoment}
 use Rattle.record_codec.specs.Places.{AreBytes}
 use Rattle.record_codec.specs.Spelling.{number, blob, truth, optional, since_year_one, date}
-use Rattle.record_codec.specs.Widths.{IsWord, HasWord}
+use Rattle.record_codec.specs.Widths.{FitsIn64Bits, LengthFitsIn64Bits}
 use Rattle.record_codec.specs.Reading.{Read, then}
 use Rattle.record_codec.specs.Readers.{number_at, number_between, truth_at, optional_at, tag_at, date_from, date_at, bytes_at, blob_at}
 use Rattle.record_codec.proofs.OneForm.{OneForm, number_one, blob_one, truth_one, optional_one}
@@ -26,7 +26,7 @@ failed_is d left e = cc
 failed_no : {A : Type 0} (d : ℕ) (x : A × List ℕ) → failed {A = A} d ≡ Ok x → ⊥
 failed_no d x e = cc
 
-pub number_field : Field IsWord number number_at
+pub number_field : Field FitsIn64Bits number number_at
 number_field = record { one = number_one; some = (0, lit< tt); exact = number_exact }
 
 -- ---- so many bytes
@@ -60,13 +60,13 @@ bytes_exact n = record {
 }
 
 abbrev pub IsBlob : List ℕ → Type 0
-IsBlob t = HasWord t × AreBytes t
+IsBlob t = LengthFitsIn64Bits t × AreBytes t
 
 blob_exact : Exact IsBlob blob blob_at
 blob_exact =
-    let pairs = then_exact IsWord number number_at Of_length (λ n. itself) bytes_at number_one number_exact (λ n w. (zeros n, (zeros_long n, zeros_bytes n))) (λ n w short. bytes_exact n) in
-    let whole = made_exact (λ (p : ℕ × List ℕ). IsWord p.0 × Of_length p.0 p.1) (λ p. number p.0 ++ p.1) (then number_at bytes_at) IsBlob blob (λ p. p.1)
-    (λ p h. ((subst IsWord (sym h.1.0) h.0, h.1.1), ap (λ n. number n ++ p.1) h.1.0))
+    let pairs = then_exact FitsIn64Bits number number_at Of_length (λ n. itself) bytes_at number_one number_exact (λ n w. (zeros n, (zeros_long n, zeros_bytes n))) (λ n w short. bytes_exact n) in
+    let whole = made_exact (λ (p : ℕ × List ℕ). FitsIn64Bits p.0 × Of_length p.0 p.1) (λ p. number p.0 ++ p.1) (then number_at bytes_at) IsBlob blob (λ p. p.1)
+    (λ p h. ((subst FitsIn64Bits (sym h.1.0) h.0, h.1.1), ap (λ n. number n ++ p.1) h.1.0))
     (λ t h. ((length t, t), (h.0, (refl, h.1)), refl)) pairs in
     exact_same IsBlob blob _ blob_at (λ xs. second_of (number_at xs) bytes_at) whole
 

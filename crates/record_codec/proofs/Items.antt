@@ -3,7 +3,7 @@ use Rattle.std.proofs.Common.{◌≡◌, ℕ, zero, suc, ◌^◌, ◌<◌, List,
 use Rattle.std.specs.List.{flat_map, AllByRecursion}
 use Rattle.std.proofs.lemmas.List.Concat.{flat_map-cons}
 use Rattle.record_codec.specs.Spelling.{number, listed}
-use Rattle.record_codec.specs.Widths.{IsWord, HasWord, AreAll}
+use Rattle.record_codec.specs.Widths.{FitsIn64Bits, LengthFitsIn64Bits, AreAll}
 use Rattle.record_codec.specs.Reading.{Read, ◌>>=◌, then, items_at}
 use Rattle.record_codec.specs.Readers.{number_at, listed_at, any_at, same}
 use Rattle.record_codec.proofs.OneForm.{OneForm, number_one, listed_one}
@@ -89,15 +89,15 @@ module _ {S A : Type 0} (P : S → ℕ → A → Type 0) (spell : A → List ℕ
 
   -- a list is its count and its items
   abbrev pub Listed : S → List A → Type 0
-  Listed s items = HasWord items × Chain P next s (length items) items
+  Listed s items = LengthFitsIn64Bits items × Chain P next s (length items) items
 
-  pub listed_exact : Exact IsWord number number_at → (s : S) → ((n : ℕ) → IsWord n → Exact (Chain P next s n) (flat_map spell) (items_at item next s n)) → ((n : ℕ) → IsWord n → (items : List A) × Chain P next s n items)
+  pub listed_exact : Exact FitsIn64Bits number number_at → (s : S) → ((n : ℕ) → FitsIn64Bits n → Exact (Chain P next s n) (flat_map spell) (items_at item next s n)) → ((n : ℕ) → FitsIn64Bits n → (items : List A) × Chain P next s n items)
       → Exact (Listed s) (listed spell) (listed_at item next s)
   listed_exact counts s exact some =
-      let pairs = then_exact IsWord number number_at (Chain P next s) (λ n. flat_map spell) (items_at item next s) number_one counts some (λ n w short. exact n w) in
-      let whole = made_exact (λ (p : ℕ × List A). IsWord p.0 × Chain P next s p.0 p.1) (λ p. number p.0 ++ flat_map spell p.1) (then number_at (items_at item next s))
+      let pairs = then_exact FitsIn64Bits number number_at (Chain P next s) (λ n. flat_map spell) (items_at item next s) number_one counts some (λ n w short. exact n w) in
+      let whole = made_exact (λ (p : ℕ × List A). FitsIn64Bits p.0 × Chain P next s p.0 p.1) (λ p. number p.0 ++ flat_map spell p.1) (then number_at (items_at item next s))
       (Listed s) (listed spell) (λ p. p.1)
-      (λ p h. let l = chain_long s p.0 p.1 h.1 in ((subst IsWord (sym l) h.0, subst (λ k. Chain P next s k p.1) (sym l) h.1), ap (λ k. number k ++ flat_map spell p.1) l))
+      (λ p h. let l = chain_long s p.0 p.1 h.1 in ((subst FitsIn64Bits (sym l) h.0, subst (λ k. Chain P next s k p.1) (sym l) h.1), ap (λ k. number k ++ flat_map spell p.1) l))
       (λ items h. ((length items, items), h, refl)) pairs in
       exact_same (Listed s) (listed spell) _ (listed_at item next s) (λ xs. second_of (number_at xs) (items_at item next s)) whole
 
@@ -120,7 +120,7 @@ module _ {A : Type 0} (P : A → Type 0) (spell : A → List ℕ) (read : List �
   copies a p zero = ([], tt)
   copies a p (suc n) = let more = copies a p n in (a ∷ more.0, (p, more.1))
 
-  pub list_field : Exact IsWord number number_at → Field P spell read → Field (AreAll P) (listed spell) (listed_at (any_at read) same tt)
+  pub list_field : Exact FitsIn64Bits number number_at → Field P spell read → Field (AreAll P) (listed spell) (listed_at (any_at read) same tt)
   list_field counts f = record {
     one = listed_one P spell f.one;
     some = ([], (lit< tt, tt));

@@ -11,5 +11,6 @@ pub mod Room
 pub mod Least
 pub mod Rising
 pub mod Flags
-pub mod Whole
 pub mod Wide
+pub mod Whole
+pub mod Again

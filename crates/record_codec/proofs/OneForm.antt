@@ -7,7 +7,7 @@ use Rattle.std.proofs.lemmas.List.{take_at, drop_at}
 use Rattle.std.proofs.lemmas.List.Concat.{flat_map-cons}
 use Rattle.std.proofs.lemmas.Nat.{from_be_bytes-to_be_bytes_8}
 use Rattle.record_codec.specs.Spelling.{number, blob, listed, truth, optional}
-use Rattle.record_codec.specs.Widths.{IsWord, HasWord, AreAll}
+use Rattle.record_codec.specs.Widths.{FitsIn64Bits, LengthFitsIn64Bits, AreAll}
 
 -- what two spellings with something behind each of them are equal in
 abbrev pub OneForm : {A : Type 0} → (A → Type 0) → (A → List ℕ) → Type 0
@@ -21,15 +21,15 @@ pub front : {A : Type 0} (a b x y : List A) → length a ≡ length b → a ++ x
 front a b x y h e =
     (sym (take_at a x (length a) refl) ∙ ap (take (length a)) e ∙ take_at b y (length a) (sym h), sym (drop_at a x (length a) refl) ∙ ap (drop (length a)) e ∙ drop_at b y (length a) (sym h))
 
-pub number_one : OneForm IsWord number
+pub number_one : OneForm FitsIn64Bits number
 unfolding number
 number_one a b x y p q e =
     let f = front (number a) (number b) x y refl e in
     (sym (from_be_bytes-to_be_bytes_8 a p) ∙ ap (from_be_bytes w64) f.0 ∙ from_be_bytes-to_be_bytes_8 b q, f.1)
 
-pub blob_one : OneForm HasWord blob
+pub blob_one : OneForm LengthFitsIn64Bits blob
 blob_one a b x y p q e =
-    let n = first IsWord number number_one (length a) (length b) a b x y p q e in
+    let n = first FitsIn64Bits number number_one (length a) (length b) a b x y p q e in
     front a b x y n.0 n.1
 
 pub truth_one : (a b : Bool) (x y : List ℕ) → truth a ++ x ≡ truth b ++ y → (a ≡ b) × (x ≡ y)
@@ -58,5 +58,5 @@ items_one P spell one (a ∷ us) (b ∷ bs) x y h p q e =
 
 pub listed_one : {A : Type 0} (P : A → Type 0) (spell : A → List ℕ) → OneForm P spell → OneForm (AreAll P) (listed spell)
 listed_one P spell one us bs x y p q e =
-    let n = first IsWord number number_one (length us) (length bs) (flat_map spell us) (flat_map spell bs) x y p.0 q.0 e in
+    let n = first FitsIn64Bits number number_one (length us) (length bs) (flat_map spell us) (flat_map spell bs) x y p.0 q.0 e in
     items_one P spell one us bs x y n.0 p.1 q.1 n.1

@@ -14,7 +14,7 @@ use Rattle.std.proofs.lemmas.List.{append-nil, take_at, take-append-drop, length
 use Rattle.std.proofs.lemmas.Str.{IsUtf8-nil, is_utf8-from_IsUtf8, IsUtf8-from_is_utf8}
 use Rattle.mail_records.specs.Commits.{NumbersRise, TextsRise}
 use Rattle.record_codec.specs.Spelling.{number, blob, listed}
-use Rattle.record_codec.specs.Widths.{IsWord, HasWord, AreAll}
+use Rattle.record_codec.specs.Widths.{FitsIn64Bits, LengthFitsIn64Bits, AreAll}
 use Rattle.record_codec.specs.Awaiting.{start, least_length, left_in_text, at_first}
 use Rattle.record_codec.specs.Reading.{Read, then}
 use Rattle.record_codec.specs.Readers.{greatest, number_between, is_above, is_text_above, is_content, content_at, least_room, text_at, rising_number, number_after, next_number, rising_text, next_text, rising_numbers_at, rising_texts_at}
@@ -67,7 +67,7 @@ some_rising low (suc n) h =
     let more = some_rising (number_after low) n (room_next low n h) in
     (low ∷ more.0, ((omega arith, omega (arith, h)), more.1))
 
-next_word : (low left n : ℕ) → Next low left n → IsWord n
+next_word : (low left n : ℕ) → Next low left n → FitsIn64Bits n
 next_word low left n p = omega (arith, p.1)
 
 next_exact : (low left : ℕ) → Room_for low (suc left) → Exact (Next low left) number (rising_number low left)
@@ -107,7 +107,7 @@ above_head x (suc n) items h k =
     let up = after_any x (λ e. omega (arith, e, h)) in
     all_map (λ y. number_after x ≤ y) (λ y. nat_cmp x y ≡ Less) items (λ y l. less_cmp x y (omega (arith, l, up))) (after_all (number_after x) (suc n) items k)
 
-numbers_rise : (low n : ℕ) (items : List ℕ) → Chain Next next_number low n items → NumbersRise items × AllByRecursion IsWord items
+numbers_rise : (low n : ℕ) (items : List ℕ) → Chain Next next_number low n items → NumbersRise items × AllByRecursion FitsIn64Bits items
 unfolding IsStrictlySortedBy
 numbers_rise low zero [] h = (tt, tt)
 numbers_rise low zero (x ∷ items) h = absurd h
@@ -117,7 +117,7 @@ numbers_rise low (suc n) (x ∷ items) h =
     ((above_head x n items h.0.1 h.1, more.0), (next_word low n x h.0, more.1))
 
 -- so many numbers above this one leave it below the greatest
-room_above : (x : ℕ) (items : List ℕ) → AllByRecursion (λ y. nat_cmp x y ≡ Less) items → NumbersRise items → IsWord x → AllByRecursion IsWord items → x + length items ≤ greatest
+room_above : (x : ℕ) (items : List ℕ) → AllByRecursion (λ y. nat_cmp x y ≡ Less) items → NumbersRise items → FitsIn64Bits x → AllByRecursion FitsIn64Bits items → x + length items ≤ greatest
 unfolding IsStrictlySortedBy
 room_above x [] a s w h = omega (arith, w)
 room_above x (y ∷ items) a s w h =
@@ -125,7 +125,7 @@ room_above x (y ∷ items) a s w h =
     let lt = cmp_lt x y a.0 in
     omega (arith, more, lt)
 
-rise_numbers : (low : ℕ) (items : List ℕ) → AllByRecursion (λ y. low ≤ y) items → NumbersRise items → AllByRecursion IsWord items → Chain Next next_number low (length items) items
+rise_numbers : (low : ℕ) (items : List ℕ) → AllByRecursion (λ y. low ≤ y) items → NumbersRise items → AllByRecursion FitsIn64Bits items → Chain Next next_number low (length items) items
 unfolding IsStrictlySortedBy
 rise_numbers low [] l s h = tt
 rise_numbers low (x ∷ items) l s h = (
@@ -134,7 +134,7 @@ rise_numbers low (x ∷ items) l s h = (
 )
 
 abbrev pub RisingNumbers : List ℕ → Type 0
-RisingNumbers items = AreAll IsWord items × NumbersRise items
+RisingNumbers items = AreAll FitsIn64Bits items × NumbersRise items
 
 from_zero : (items : List ℕ) → AllByRecursion (λ y. 0 ≤ y) items
 from_zero [] = tt
@@ -142,14 +142,14 @@ from_zero (x ∷ items) = (omega arith, from_zero items)
 
 rising_chain : Exact (Listed Next number rising_number next_number 0) (listed number) rising_numbers_at
 rising_chain = listed_exact Next number rising_number next_number number_exact 0
-    (λ n w. items_exact Next number rising_number next_number Room_for (λ s m. one_weaker (Next s m) IsWord number (next_word s m) number_one) (λ s m k. next_exact s m k)
+    (λ n w. items_exact Next number rising_number next_number Room_for (λ s m. one_weaker (Next s m) FitsIn64Bits number (next_word s m) number_one) (λ s m k. next_exact s m k)
     (λ s m a k p short. room_after s m a p) (λ s m a p. some_rising (number_after a) m (room_after s m a p)) 0 n (omega (arith, w)))
     (λ n w. some_rising 0 n (omega (arith, w)))
 
 pub rising_numbers_field : Field RisingNumbers (listed number) rising_numbers_at
 unfolding IsStrictlySortedBy
 rising_numbers_field = record {
-  one = one_weaker RisingNumbers (AreAll IsWord) (listed number) (λ items h. h.0) (listed_one IsWord number number_one);
+  one = one_weaker RisingNumbers (AreAll FitsIn64Bits) (listed number) (λ items h. h.0) (listed_one FitsIn64Bits number number_one);
   some = ([], ((lit< tt, tt), tt));
   exact = same_values (Listed Next number rising_number next_number 0) RisingNumbers (listed number) rising_numbers_at
       (λ items h. let r = numbers_rise 0 (length items) items h.1 in ((h.0, r.1), r.0)) (λ items h. (h.0.0, rise_numbers 0 items (from_zero items) h.1 h.0.1)) rising_chain;
@@ -326,9 +326,9 @@ texts_after p (suc n) (t ∷ items) h =
     (first, all_map (λ u. slice_cmp nat_cmp t u ≡ Less) (λ u. slice_cmp nat_cmp p u ≡ Less) items (λ u k. nat_list_cmp_total.trans p t u first k) (texts_after t n items h.1))
 
 abbrev pub RisingTexts : List (List ℕ) → Type 0
-RisingTexts items = (AreAll HasWord items × AllByRecursion IsUtf8 items) × TextsRise items
+RisingTexts items = (AreAll LengthFitsIn64Bits items × AllByRecursion IsUtf8 items) × TextsRise items
 
-texts_rise : (s : Bool × List ℕ) (n : ℕ) (items : List (List ℕ)) → Texts s n items → AllByRecursion HasWord items × (AllByRecursion IsUtf8 items × TextsRise items)
+texts_rise : (s : Bool × List ℕ) (n : ℕ) (items : List (List ℕ)) → Texts s n items → AllByRecursion LengthFitsIn64Bits items × (AllByRecursion IsUtf8 items × TextsRise items)
 unfolding IsStrictlySortedBy
 texts_rise s zero [] h = (tt, (tt, tt))
 texts_rise s zero (t ∷ items) h = absurd h
@@ -337,12 +337,12 @@ texts_rise s (suc n) (t ∷ items) h =
     let more = texts_rise (true, t) n items h.1 in
     ((h.0.word, more.0), ((h.0.text, more.1.0), (texts_after t n items h.1, more.1.1)))
 
-rise_texts : (s : Bool × List ℕ) (items : List (List ℕ)) → (s.0 ≡ true → AllByRecursion (λ t. slice_cmp nat_cmp s.1 t ≡ Less) items) → AllByRecursion HasWord items → AllByRecursion IsUtf8 items → TextsRise items → Texts s (length items) items
+rise_texts : (s : Bool × List ℕ) (items : List (List ℕ)) → (s.0 ≡ true → AllByRecursion (λ t. slice_cmp nat_cmp s.1 t ≡ Less) items) → AllByRecursion LengthFitsIn64Bits items → AllByRecursion IsUtf8 items → TextsRise items → Texts s (length items) items
 unfolding IsStrictlySortedBy
 rise_texts s [] a w u r = tt
 rise_texts s (t ∷ items) a w u r = (record { text = u.0; word = w.0; above = λ e. (a e).0 }, rise_texts (true, t) items (λ _. r.0) w.1 u.1 r.1)
 
-some_first : (n : ℕ) → IsWord n → (items : List (List ℕ)) × Chain Next_text next_text (false, []) n items
+some_first : (n : ℕ) → FitsIn64Bits n → (items : List (List ℕ)) × Chain Next_text next_text (false, []) n items
 some_first zero w = ([], tt)
 some_first (suc n) w =
     let more = room [] 0 n IsUtf8-nil (omega arith) (omega (arith, w)) in
@@ -357,7 +357,7 @@ bound_drops s n b = record { short = b.short; text = b.text; count = let c = b.c
 
 texts_exact : Exact (Listed Next_text blob rising_text next_text (false, [])) (listed blob) rising_texts_at
 texts_exact = listed_exact Next_text blob rising_text next_text number_exact (false, [])
-    (λ n w. items_exact Next_text blob rising_text next_text Bound_for (λ s m. one_weaker (Next_text s m) HasWord blob (λ t h. h.is.word) blob_one) (λ s m k. text_exact s m (bound_drops s m k))
+    (λ n w. items_exact Next_text blob rising_text next_text Bound_for (λ s m. one_weaker (Next_text s m) LengthFitsIn64Bits blob (λ t h. h.is.word) blob_one) (λ s m k. text_exact s m (bound_drops s m k))
     (λ s m a k p short. bound_next s m a k p short) (λ s m a p. (p.more.0, texts_chain (true, a) m p.more.0 p.more.1)) (false, []) n
     (record { short = lit< tt; text = λ e. absurd (true≢false (sym e)); count = omega (arith, w) }))
     some_first
@@ -365,7 +365,7 @@ texts_exact = listed_exact Next_text blob rising_text next_text number_exact (fa
 pub rising_texts_field : Field RisingTexts (listed blob) rising_texts_at
 unfolding IsStrictlySortedBy
 rising_texts_field = record {
-  one = one_weaker RisingTexts (AreAll HasWord) (listed blob) (λ items h. h.0.0) (listed_one HasWord blob blob_one);
+  one = one_weaker RisingTexts (AreAll LengthFitsIn64Bits) (listed blob) (λ items h. h.0.0) (listed_one LengthFitsIn64Bits blob blob_one);
   some = ([], (((lit< tt, tt), tt), tt));
   exact = same_values (Listed Next_text blob rising_text next_text (false, [])) RisingTexts (listed blob) rising_texts_at
       (λ items h. let r = texts_rise (false, []) (length items) items (chain_texts (false, []) (length items) items h.1) in (((h.0, r.0), r.1.0), r.1.1))
@@ -374,11 +374,11 @@ rising_texts_field = record {
 
 -- a text alone
 abbrev pub IsText : List ℕ → Type 0
-IsText t = HasWord t × IsUtf8 t
+IsText t = LengthFitsIn64Bits t × IsUtf8 t
 
 pub text_field : Field IsText blob text_at
 text_field = record {
-  one = one_weaker IsText HasWord blob (λ t h. h.0) blob_one;
+  one = one_weaker IsText LengthFitsIn64Bits blob (λ t h. h.0) blob_one;
   some = ([], (lit< tt, IsUtf8-nil));
   exact = same_values (Next_text (false, []) 0) IsText blob text_at (λ t h. (h.is.word, h.is.text))
       (λ t h. record { is = record { text = h.1; word = h.0; above = λ e. absurd (true≢false (sym e)) }; more = ([], tt) })

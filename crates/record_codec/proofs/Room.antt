@@ -3,14 +3,14 @@ use Rattle.std.proofs.Common.{◌≡◌, ℕ, zero, suc, ◌+◌, ◌*◌, ◌^�
 use Rattle.std.specs.Str.{IsUtf8, IsAscii}
 use Rattle.std.proofs.lemmas.Bool.{cases_lt}
 use Rattle.std.proofs.lemmas.Str.{IsUtf8-append, IsUtf8-from_ascii}
-use Rattle.record_codec.specs.Widths.{HasWord}
+use Rattle.record_codec.specs.Widths.{LengthFitsIn64Bits}
 use Rattle.record_codec.proofs.Between.{zeros, zeros_long}
 use Rattle.record_codec.proofs.Utf.{Less_than, head_less, tail_less}
 
 -- a text, and above the bound where there is one
 pub record IsAbove (s : Bool × List ℕ) (t : List ℕ) : Type 0 where
   pub text : IsUtf8 t
-  pub word : HasWord t
+  pub word : LengthFitsIn64Bits t
   pub above : s.0 ≡ true → Less_than s.1 t
 
 -- texts that rise from a bound on

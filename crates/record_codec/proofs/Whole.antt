@@ -15,7 +15,7 @@ use Rattle.mail_records.specs.declared.edits.Edit.TheVariants.{PutMailbox, DropM
 use Rattle.mail_records.specs.declared.edits.Commit.{Commit}
 use Rattle.mail_records.specs.Commits.{TextsRise, IsFormedEmail, IsFormedEdit}
 use Rattle.record_codec.specs.Spelling.{number, blob, listed, truth, optional, date, summary, mailbox, email, thread, edit, spelling}
-use Rattle.record_codec.specs.Widths.{IsWord, HasWord, AreAll, IsWideSummary, IsWideMailbox, IsWideEmail, IsWideThread, IsWideEdit}
+use Rattle.record_codec.specs.Widths.{FitsIn64Bits, LengthFitsIn64Bits, AreAll, IsWideSummary, IsWideMailbox, IsWideEmail, IsWideThread, IsWideEdit}
 use Rattle.record_codec.specs.Places.{AreBytes, HasTextsInSummary, HasTextsInMailbox, HasTextsInEdit, HasSpelling, IsSpelled, IsPlace}
 use Rattle.record_codec.specs.Reading.{Read, then, both, made}
 use Rattle.record_codec.specs.Readers.{number_at, optional_at, tag_at, date_at, blob_at, text_at, numbers_at, blobs_at, summary_from, summary_at, mailbox_from, mailbox_at, email_from, email_at, thread_from, thread_at, put_mailbox_at, put_email_at, put_thread_at, drop_mailbox_at, drop_email_at, drop_thread_at, edit_body, edit_at, edits_at, commit_from, commit_at}
@@ -23,13 +23,14 @@ use Rattle.record_codec.proofs.Exact.{IsInput, Spelled, Field, then_one, then_ex
 use Rattle.record_codec.proofs.Items.{exact_same, second_of, list_field}
 use Rattle.record_codec.proofs.Between.{number_exact}
 use Rattle.record_codec.proofs.Rising.{IsText, rising_numbers_field, rising_texts_field, text_field}
+use Rattle.record_codec.proofs.Wide.{all_bytes}
 use Rattle.record_codec.proofs.Flags.{number_field, IsBlob, blob_field, IsTruth, truth_field, optional_field, date_field, IsTag, tag, tag_field}
 
 abbrev Has : {A : Type 0} → (A → Type 0) → Option A → Type 0
 Has P o = ForSome o P
 
-number_option : Field (Has IsWord) (optional number) (optional_at number_at)
-number_option = optional_field IsWord number number_at number_field
+number_option : Field (Has FitsIn64Bits) (optional number) (optional_at number_at)
+number_option = optional_field FitsIn64Bits number number_at number_field
 
 text_option : Field (Has IsText) (optional blob) (optional_at text_at)
 text_option = optional_field IsText blob text_at text_field
@@ -37,8 +38,8 @@ text_option = optional_field IsText blob text_at text_field
 date_option : Field (Has IsMoment) (optional date) (optional_at date_at)
 date_option = optional_field IsMoment date date_at date_field
 
-numbers_field : Field (AreAll IsWord) (listed number) numbers_at
-numbers_field = list_field IsWord number number_at number_exact number_field
+numbers_field : Field (AreAll FitsIn64Bits) (listed number) numbers_at
+numbers_field = list_field FitsIn64Bits number number_at number_exact number_field
 
 blobs_field : Field (AreAll IsBlob) (listed blob) blobs_at
 blobs_field = list_field IsBlob blob blob_at number_exact blob_field
@@ -82,13 +83,13 @@ pub record MailboxFits (m : Mailbox) : Type 0 where
   pub wide : IsWideMailbox m
   pub texts : HasTextsInMailbox m
 
-has_word : (o : Option (List ℕ)) → ForSome o IsText → ForSome o HasWord
-has_word o h x e = (h x e).0
+has_length : (o : Option (List ℕ)) → ForSome o IsText → ForSome o LengthFitsIn64Bits
+has_length o h x e = (h x e).0
 
 has_text : (o : Option (List ℕ)) → ForSome o IsText → ForSome o IsUtf8
 has_text o h x e = (h x e).1
 
-has_both : (o : Option (List ℕ)) → ForSome o HasWord → ForSome o IsUtf8 → ForSome o IsText
+has_both : (o : Option (List ℕ)) → ForSome o LengthFitsIn64Bits → ForSome o IsUtf8 → ForSome o IsText
 has_both o h k x e = (h x e, k x e)
 
 mailbox_field : Field MailboxFits mailbox mailbox_at
@@ -99,7 +100,7 @@ mailbox_field = make MailboxFits mailbox mailbox_from
           number = h.0;
           name = h.1.0.0;
           parent = h.1.1.0;
-          role = has_word p.1.1.1.0 h.1.1.1.0;
+          role = has_length p.1.1.1.0 h.1.1.1.0;
           sort_order = h.1.1.1.1.0;
           total_emails = h.1.1.1.1.1.1.0;
           unread_emails = h.1.1.1.1.1.1.1.0;
@@ -170,11 +171,11 @@ thread_field = make IsWideThread thread thread_from (λ p h. (h, refl)) (λ t h.
 -- ---- edits
 abbrev pub EditFits : Edit → Type 0
 EditFits (PutMailbox item was counts) = MailboxFits item
-EditFits (DropMailbox n) = IsWord n
+EditFits (DropMailbox n) = FitsIn64Bits n
 EditFits (PutEmail item was) = EmailFits item
-EditFits (DropEmail n t) = IsWord n × IsWord t
+EditFits (DropEmail n t) = FitsIn64Bits n × FitsIn64Bits t
 EditFits (PutThread item was) = IsWideThread item
-EditFits (DropThread n) = IsWord n
+EditFits (DropThread n) = FitsIn64Bits n
 
 abbrev tag_of : Edit → ℕ
 tag_of (PutMailbox item was counts) = 1
@@ -209,7 +210,7 @@ put_mailbox_field = make (Tagged 1) body (λ p. PutMailbox p.0 p.1.0 p.1.1) (λ 
 drop_mailbox_field : Field (Tagged 2) body drop_mailbox_at
 drop_mailbox_field = make (Tagged 2) body (λ n. DropMailbox n) (λ n h. ((refl, h), refl)) from number_field
   where
-    from : (e : Edit) → Tagged 2 e → (n : ℕ) × IsWord n × (DropMailbox n ≡ e)
+    from : (e : Edit) → Tagged 2 e → (n : ℕ) × FitsIn64Bits n × (DropMailbox n ≡ e)
     from (PutMailbox item was counts) h = absurd (omega (arith, h.0))
     from (DropMailbox n) h = (n, h.1, refl)
     from (PutEmail item was) h = absurd (omega (arith, h.0))
@@ -231,7 +232,7 @@ put_email_field = make (Tagged 3) body (λ p. PutEmail p.0 p.1) (λ p h. ((refl,
 drop_email_field : Field (Tagged 4) body drop_email_at
 drop_email_field = make (Tagged 4) body (λ p. DropEmail p.0 p.1) (λ p h. ((refl, h), refl)) from (pair number_field number_field)
   where
-    from : (e : Edit) → Tagged 4 e → (p : ℕ × ℕ) × (IsWord p.0 × IsWord p.1) × (DropEmail p.0 p.1 ≡ e)
+    from : (e : Edit) → Tagged 4 e → (p : ℕ × ℕ) × (FitsIn64Bits p.0 × FitsIn64Bits p.1) × (DropEmail p.0 p.1 ≡ e)
     from (PutMailbox item was counts) h = absurd (omega (arith, h.0))
     from (DropMailbox n) h = absurd (omega (arith, h.0))
     from (PutEmail item was) h = absurd (omega (arith, h.0))
@@ -253,7 +254,7 @@ put_thread_field = make (Tagged 5) body (λ p. PutThread p.0 p.1) (λ p h. ((ref
 drop_thread_field : Field (Tagged 6) body drop_thread_at
 drop_thread_field = make (Tagged 6) body (λ n. DropThread n) (λ n h. ((refl, h), refl)) from number_field
   where
-    from : (e : Edit) → Tagged 6 e → (n : ℕ) × IsWord n × (DropThread n ≡ e)
+    from : (e : Edit) → Tagged 6 e → (n : ℕ) × FitsIn64Bits n × (DropThread n ≡ e)
     from (PutMailbox item was counts) h = absurd (omega (arith, h.0))
     from (DropMailbox n) h = absurd (omega (arith, h.0))
     from (PutEmail item was) h = absurd (omega (arith, h.0))
@@ -317,8 +318,8 @@ edits_field = list_field EditFits edit edit_at number_exact edit_field
 
 -- ---- commits
 pub record CommitFits (c : Commit) : Type 0 where
-  pub pass : IsWord c.stamp.pass
-  pub serial : IsWord c.stamp.serial
+  pub pass : FitsIn64Bits c.stamp.pass
+  pub serial : FitsIn64Bits c.stamp.serial
   pub blobs : AreAll IsBlob c.blobs
   pub edits : AreAll EditFits c.edits
 
@@ -375,7 +376,7 @@ has_spelling c h = record {
   wide = record {
     pass = h.pass;
     serial = h.serial;
-    blobs = (h.blobs.0, all_map IsBlob HasWord c.blobs (λ b k. k.0) h.blobs.1);
+    blobs = (h.blobs.0, all_map IsBlob LengthFitsIn64Bits c.blobs (λ b k. k.0) h.blobs.1);
     edits = (h.edits.0, all_map EditFits IsWideEdit c.edits edit_wide h.edits.1);
   };
   formed = all_map EditFits IsFormedEdit c.edits edit_formed h.edits.1;
@@ -387,7 +388,7 @@ commit_fits : (c : Commit) → HasSpelling c → CommitFits c
 commit_fits c h = record {
   pass = h.wide.pass;
   serial = h.wide.serial;
-  blobs = (h.wide.blobs.0, both_all HasWord AreBytes c.blobs h.wide.blobs.1 h.blobs);
+  blobs = (h.wide.blobs.0, both_all LengthFitsIn64Bits AreBytes c.blobs h.wide.blobs.1 h.blobs);
   edits = (
     h.wide.edits.0,
     all_map (λ e. IsWideEdit e × (IsFormedEdit e × HasTextsInEdit e)) EditFits c.edits edit_fits
@@ -471,8 +472,4 @@ over_place xs c rest h e n =
 
 -- the bytes of a slice
 pub input_of : (xs : List ℕ) → ((i : ℕ) → get_or xs i 0 < 256) → length xs < 2 ^ 63 → IsInput xs
-input_of xs h k = record { bytes = by xs h; short = k }
-  where
-    by : (xs : List ℕ) → ((i : ℕ) → get_or xs i 0 < 256) → AreBytes xs
-    by [] h = tt
-    by (x ∷ xs) h = (h 0, by xs (λ i. h (suc i)))
+input_of xs h k = record { bytes = all_bytes xs h; short = k }

@@ -1,7 +1,8 @@
 -- What holds of each item of a list in memory, by a loop over the items.
 use Rattle.std.proofs.Common.{◌≡◌, ℕ, zero, suc, ◌+◌, ◌^◌, ◌<◌, ◌≤◌, List, [], ◌∷◌, length, get_or, take, sym, subst, add-one, arith}
 use Rattle.std.specs.List.{AllByRecursion}
-use Rattle.record_codec.specs.Widths.{IsWord}
+use Rattle.record_codec.specs.Widths.{FitsIn64Bits}
+use Rattle.record_codec.specs.Places.{AreBytes}
 
 one_more : {A : Type 0} (P : A → Type 0) (xs : List A) (i : ℕ) (x : A) → i < length xs → x ≡ get_or xs i x → P x → AllByRecursion P (take i xs) → AllByRecursion P (take (suc i) xs)
 one_more P [] i x lt is p h = absurd (omega (arith, lt))
@@ -16,6 +17,10 @@ all_done P [] i le h = tt
 all_done P (y ∷ ys) zero le h = absurd (omega (arith, le))
 all_done P (y ∷ ys) (suc i) le h = (h.0, all_done P ys i (omega (arith, le)) h.1)
 
-pub all_words : (xs : List ℕ) → ((i : ℕ) → get_or xs i 0 < 2 ^ 64) → AllByRecursion IsWord xs
-all_words [] h = tt
-all_words (x ∷ xs) h = (h 0, all_words xs (λ i. h (suc i)))
+pub all_fit : (xs : List ℕ) → ((i : ℕ) → get_or xs i 0 < 2 ^ 64) → AllByRecursion FitsIn64Bits xs
+all_fit [] h = tt
+all_fit (x ∷ xs) h = (h 0, all_fit xs (λ i. h (suc i)))
+
+pub all_bytes : (xs : List ℕ) → ((i : ℕ) → get_or xs i 0 < 256) → AreBytes xs
+all_bytes [] h = tt
+all_bytes (x ∷ xs) h = (h 0, all_bytes xs (λ i. h (suc i)))

@@ -5,6 +5,7 @@ use Rattle.std.specs.Option.{ForSome}
 use Rattle.std.specs.Str.{IsUtf8}
 use Rattle.mail_records.specs.declared.records.Summary.{Summary}
 use Rattle.mail_records.specs.declared.records.Mailbox.{Mailbox}
+use Rattle.mail_records.specs.declared.records.Email.{Email}
 use Rattle.mail_records.specs.declared.edits.Edit.{Edit}
 use Rattle.mail_records.specs.declared.edits.Edit.TheVariants.{PutMailbox, PutEmail}
 use Rattle.mail_records.specs.declared.edits.Commit.{Commit}
@@ -25,9 +26,12 @@ HasTextsInSummary s = AllByRecursion IsUtf8 s.links × IsUtf8 s.subject × IsUtf
 abbrev pub HasTextsInMailbox : Mailbox → Type 0
 HasTextsInMailbox m = IsUtf8 m.name × ForSome m.role IsUtf8
 
+abbrev pub HasTextsInEmail : Email → Type 0
+HasTextsInEmail e = AllByRecursion IsUtf8 e.keywords × HasTextsInSummary e.summary
+
 abbrev pub HasTextsInEdit : Edit → Type 0
 HasTextsInEdit (PutMailbox item was counts) = HasTextsInMailbox item
-HasTextsInEdit (PutEmail item was) = AllByRecursion IsUtf8 item.keywords × HasTextsInSummary item.summary
+HasTextsInEdit (PutEmail item was) = HasTextsInEmail item
 HasTextsInEdit _ = ⊤
 
 -- A commit that has a spelling: its numbers and lengths are of 64 bits; the mailboxes, keywords and links of each email

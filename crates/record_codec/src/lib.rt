@@ -7,6 +7,7 @@ mod faults;
 mod fields;
 mod laws;
 mod lists;
+mod memory;
 #[cfg(test)]
 mod places;
 mod reading;
@@ -15,12 +16,11 @@ mod stored;
 #[cfg(test)]
 mod tests;
 mod texts;
-mod widths;
 mod words;
 mod writing;
 
 pub use faults::CodecFault;
-pub use laws::one_spelling;
+pub use laws::{one_spelling, read_back, spelled_once};
+pub use memory::has_spelling;
 pub use reading::decode;
-pub use widths::is_wide;
 pub use writing::encode;

@@ -1,8 +1,8 @@
 // Bytes that are read, and bytes that are refused, with the place of the first byte at which no commit goes on.
-// `bench/codec_places` writes both tables: it decides by the format alone, of each beginning, whether a commit goes on so.
+// `bench/codec_places` finds the same places without a decoder of ours, and says whether a row here differs.
 
 /// Spellings of commits. `#5` is the number 5, and other words are hexadecimal digits.
-pub const READ: [&str; 5] = [
+pub const READ: [&str; 6] = [
     // a dropped thread
     "01 #1 #1 #0 #1 06 #5",
     // every kind of edit
@@ -13,10 +13,12 @@ pub const READ: [&str; 5] = [
     "01 #1 #1 #0 #1 03 #1 #2 #3 #3 #1 #2 #18446744073709551615 #0 #9 #63713520000 #0 #1 73 #0 #0 00 00 00",
     // texts that rise
     "01 #1 #1 #0 #1 03 #1 #2 #3 #1 #1 #3 #1 61 #1 62 #2 6261 #9 #63713520000 #0 #1 73 #0 #0 00 00 00",
+    // no edit
+    "01 #0 #0 #0 #0",
 ];
 
 /// Bytes that are no commit's spelling, and the place.
-pub const REFUSED: [(&str, u64); 39] = [
+pub const REFUSED: [(&str, u64); 59] = [
     // a byte more
     ("01 #1 #1 #0 #1 06 #5 00", 42),
     // tag 7
@@ -187,5 +189,84 @@ pub const REFUSED: [(&str, u64); 39] = [
     (
         "01 #1 #1 #0 #1 01 #1 #5 496e626f78 00 01 #1 ff #0 01 #4 #3 #2 #1 00 00",
         65,
+    ),
+    // a format byte of 0
+    ("00 #1 #1 #0 #1 06 #5", 0),
+    // a blob whose length is one more
+    ("01 #1 #1 #1 #3 6162 #0", 43),
+    // a blob whose length is one less
+    ("01 #1 #1 #1 #1 6162 #0", 42),
+    // a count of edits that is one more
+    ("01 #1 #1 #0 #2 06 #5", 42),
+    // a count of edits that is one less
+    ("01 #1 #1 #0 #0 06 #5", 33),
+    // a count of numbers that is one more
+    ("01 #1 #1 #0 #1 05 #9 #3 #3 #1 00", 67),
+    // a name whose length is one more
+    (
+        "01 #1 #1 #0 #1 01 #1 #6 496e626f78 00 00 #0 01 #4 #3 #2 #1 00 00",
+        100,
+    ),
+    // a name whose length is one less
+    (
+        "01 #1 #1 #0 #1 01 #1 #4 496e626f78 00 00 #0 01 #4 #3 #2 #1 00 00",
+        54,
+    ),
+    // a Date past the year 9999
+    (
+        "01 #1 #1 #0 #1 03 #1 #2 #3 #1 #1 #0 #9 #63713520000 #0 #1 73 #0 #0 01 #315537897600 00 00",
+        139,
+    ),
+    // a Date far past
+    (
+        "01 #1 #1 #0 #1 03 #1 #2 #3 #1 #1 #0 #9 #63713520000 #0 #1 73 #0 #0 01 #317827579904 00 00",
+        135,
+    ),
+    // an option of 2 for a role
+    (
+        "01 #1 #1 #0 #1 01 #1 #5 496e626f78 00 02 #1 61 #0 01 #4 #3 #2 #1 00 00",
+        56,
+    ),
+    // a flag of 2 for a mailbox that was there
+    (
+        "01 #1 #1 #0 #1 01 #1 #5 496e626f78 00 00 #0 01 #4 #3 #2 #1 02 00",
+        98,
+    ),
+    // an option of 2 for a Date
+    (
+        "01 #1 #1 #0 #1 03 #1 #2 #3 #1 #1 #0 #9 #63713520000 #0 #1 73 #0 #0 02 #63713520000 00 00",
+        131,
+    ),
+    // a flag of 2 for an attachment
+    (
+        "01 #1 #1 #0 #1 03 #1 #2 #3 #1 #1 #0 #9 #63713520000 #0 #1 73 #0 #0 00 02 00",
+        132,
+    ),
+    // a flag of 2 for an email that was there
+    (
+        "01 #1 #1 #0 #1 03 #1 #2 #3 #1 #1 #0 #9 #63713520000 #0 #1 73 #0 #0 00 00 02",
+        133,
+    ),
+    // a flag of 255 for a thread that was there
+    ("01 #1 #1 #0 #1 05 #9 #1 #3 ff", 58),
+    // a greater lead byte that the length cuts off
+    (
+        "01 #1 #1 #0 #1 03 #1 #2 #3 #1 #1 #2 #1 61 #1 c3 #9 #63713520000 #0 #1 73 #0 #0 00 00 00",
+        99,
+    ),
+    // a greater lead byte that the length cuts off, behind equal bytes
+    (
+        "01 #1 #1 #0 #1 03 #1 #2 #3 #1 #1 #2 #3 61dfbe #3 61e0a0 #9 #63713520000 #0 #1 73 #0 #0 00 00 00",
+        102,
+    ),
+    // no greater byte but one that the length cuts off
+    (
+        "01 #1 #1 #0 #1 03 #1 #2 #3 #1 #1 #2 #2 617f #2 61c3 #9 #63713520000 #0 #1 73 #0 #0 00 00 00",
+        100,
+    ),
+    // no greater character but one that the length cuts off
+    (
+        "01 #1 #1 #0 #1 03 #1 #2 #3 #1 #1 #2 #4 61efbfbf #4 61f09080 #9 #63713520000 #0 #1 73 #0 #0 00 00 00",
+        102,
     ),
 ];

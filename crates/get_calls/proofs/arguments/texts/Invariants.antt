@@ -1,6 +1,6 @@
 use Rattle.std.proofs.Common.{◌≡◌, map, ◌++◌, option_map, drop}
 use Rattle.jm_json.specs.Json.{tree_of}
-use Rattle.get_calls.specs.Arguments.{texts_from}
+use Rattle.jm_json.specs.Find.{texts_from}
 use Rattle.get_calls.proofs.arguments.texts.Given as goal
 
 abbrev pub invariant-loop-item : goal.invariant-loop-item

@@ -1,5 +1,5 @@
 use Rattle.std.proofs.Common.{sym, ◌∙◌}
-use Rattle.get_calls.proofs.Named.{named_by_id, named_by_no_id, named_by_other_kind}
+use Rattle.mail_counts.proofs.Named.{named_by_id, named_by_no_id, named_by_other_kind}
 use Rattle.get_calls.proofs.objects.mailbox_named.Goals as goal
 
 pub returns-in-Mailbox : goal.returns-in-Mailbox

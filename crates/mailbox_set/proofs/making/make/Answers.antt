@@ -1,4 +1,4 @@
-use Rattle.std.proofs.Common.{◌+◌, ◌<◌, ◌^◌, ◌&&◌, ◌||◌, false, [], ◌∷◌, ◌++◌, Some, None, refl, sym, ap, ◌∙◌, subst, arith, bytes_eq}
+use Rattle.std.proofs.Common.{◌+◌, ◌&&◌, ◌||◌, false, [], ◌∷◌, ◌++◌, Some, None, refl, sym, ap, ◌∙◌, subst, bytes_eq}
 use Rattle.jm_json.specs.Json.{tree_of}
 use Rattle.jm_json.specs.Order.{put as put_member}
 use Rattle.mail_records.specs.declared.edits.Edit.TheVariants.{PutMailbox}
@@ -9,7 +9,8 @@ use Rattle.mailbox_set.specs.Creates.{Create, Course, after_made, created_tree, 
 use Rattle.mailbox_set.specs.Drafts.{create_of}
 use Rattle.mailbox_set.specs.Follows.{Follows}
 use Rattle.mailbox_set.specs.Holds.{holds}
-use Rattle.mailbox_set.specs.Known.{IsNumber}
+use Rattle.mailbox_set.specs.Known.{Means}
+use Rattle.jm_json.specs.declared.invocation.Created.{Created}
 use Rattle.mailbox_set.specs.Wants.{asked_of}
 use Rattle.mailbox_set.specs.declared.planner.Planner.{Planner}
 use Rattle.mailbox_set.proofs.Following.{Adds, Follows-made}
@@ -24,21 +25,19 @@ returns-clause-follows c =
     let a : Asked = asked_of c.args.asked.now in
     let m : Mailbox = mailbox_of p.next a in
     let w = c.wanted-wanted.ensures in
-    let first = f.numbered.mailboxes.next_from_one in
-    let next = f.next in
-    let room : p.next + 1 < 2 ^ 53 = c.requires in
-    let number : IsNumber p.next = record { from_one = omega arith; below = omega arith } in
+    let means : Means (made_under x.creation m).id c.mailbox_number.result = subst (λ s. Means s c.mailbox_number.result) (c.as_bytes-2.ensures.value ∙ ap (λ (y : Created). y.id) c.in_ok-made.ensures) c.mailbox_number.ensures in
     let adds : Adds p q x m = record {
       content = refl;
       number = refl;
       next = refl;
+      beyond = refl;
       names = λ g t.
           c.in_ok-add.ensures g t
           ∙ (ap (λ k. same_parent k g && bytes_eq c.wanted-wanted.result.name.now t || holds p.names.keys.keys g t) w.parent
           ∙ ap (λ k. same_parent m.parent g && bytes_eq k t || holds p.names.keys.keys g t) w.name);
       roles = λ t. c.in_ok-add_role.ensures t ∙ ap (λ r. same_role r (Some t) || holds p.roles.keys.keys None t) w.role;
-      known = λ made knows. c.in_ok-learn.ensures made (made_under x.creation m) knows (sym c.as_bytes.ensures.value) (number, refl);
-      fresh = c.in_ok-push.ensures.items ∙ ap (λ v. p.fresh.items ++ v ∷ []) c.in_ok-made_under.ensures;
+      known = λ made knows. c.in_ok-learn.ensures made (made_under x.creation m) knows (sym c.as_bytes.ensures.value) means;
+      fresh = c.in_ok-push.ensures.items ∙ ap (λ v. p.fresh.items ++ v ∷ []) c.in_ok-made.ensures;
       edits = c.in_ok-push-2.ensures.items ∙ ap (λ v. p.edits.items ++ PutMailbox v false false ∷ []) c.in_ok-item.ensures;
       created =
           c.in_ok-put.ensures.ok

@@ -1,6 +1,6 @@
 use Rattle.std.proofs.Common.{◌≡◌, map, ◌++◌, option_map, length}
 use Rattle.jm_json.specs.Json.{tree_of}
-use Rattle.method_batch.specs.Request.{texts_from}
+use Rattle.jm_json.specs.Find.{texts_from}
 use Rattle.method_batch.proofs.using.read_items.Given as goal
 
 abbrev pub invariant-loop-item : goal.invariant-loop-item

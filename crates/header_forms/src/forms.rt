@@ -1,0 +1,139 @@
+// A field's value in a form, as a JSON tree.
+ghost use Rattle.std.specs.Prelude.{◌≡◌, map, IfOk};
+ghost use Rattle.jm_json.specs.Json.{tree_of};
+ghost use Rattle.header_forms.specs.Forms;
+ghost use Rattle.header_forms.specs.Forms.{form_tree};
+ghost use Rattle.jm_json.specs.Tree.{text as text'};
+
+use crate::address::{Address, Addresses, Group, Groups};
+use crate::angles::angle_texts_of;
+use crate::dates::date_of;
+use crate::form::Form;
+use crate::groups::{addresses_of, groups_of};
+use crate::texts::{on_one_line, raw_of, text_of_value};
+use jm_base::{NoMemory, Text, Texts};
+use jm_json::{Items, Json, Members};
+use std::alloc::Global;
+use std::collections::VecDeque;
+
+fn text_or_null(text: Option<Text>) -> Json
+    ensures { tree_of result ≡ Forms.text_or_null text }
+{
+    match text {
+        None => Json::Null,
+        Some(text) => Json::Text(text),
+    }
+}
+
+/// The object of an address.
+fn address_tree(alloc: Global, address: Address) -> Result<Json, NoMemory>
+    ensures { IfOk result (λ t. tree_of t ≡ Forms.address_tree address) }
+{
+    let Address { email, name } = address;
+    let mut members = Members::with_room(alloc, 2)?;
+    members.set(alloc, "email", Json::Text(email))?;
+    members.set(alloc, "name", text_or_null(name))?;
+    Ok(Json::Object(members))
+}
+
+fn address_items(alloc: Global, addresses: Addresses) -> Result<Items, NoMemory>
+    ensures { IfOk result (λ ts. ts ≡ map Forms.address_tree addresses) }
+{
+    let mut items = Items::with_room(alloc, addresses.len())?;
+    let mut rest = VecDeque::from_vec(addresses.into_vec());
+    while let Some(address) = rest.pop_front() {
+        items.push(address_tree(alloc, address)?)?;
+    }
+    Ok(items)
+}
+
+/// The object of a group.
+fn group_tree(alloc: Global, group: Group) -> Result<Json, NoMemory>
+    ensures { IfOk result (λ t. tree_of t ≡ Forms.group_tree group) }
+{
+    let Group { name, addresses } = group;
+    let addresses = address_items(alloc, addresses)?;
+    let mut members = Members::with_room(alloc, 2)?;
+    members.set(alloc, "addresses", Json::List(addresses))?;
+    members.set(alloc, "name", text_or_null(name))?;
+    Ok(Json::Object(members))
+}
+
+fn group_items(alloc: Global, groups: Groups) -> Result<Items, NoMemory>
+    ensures { IfOk result (λ ts. ts ≡ map Forms.group_tree groups) }
+{
+    let mut items = Items::with_room(alloc, groups.len())?;
+    let mut rest = VecDeque::from_vec(groups.into_vec());
+    while let Some(group) = rest.pop_front() {
+        items.push(group_tree(alloc, group)?)?;
+    }
+    Ok(items)
+}
+
+fn text_items(alloc: Global, texts: Texts) -> Result<Items, NoMemory>
+    ensures { IfOk result (λ ts. ts ≡ map text' texts) }
+{
+    let mut items = Items::with_room(alloc, texts.len())?;
+    let mut rest = VecDeque::from_vec(texts.into_vec());
+    while let Some(text) = rest.pop_front() {
+        items.push(Json::Text(text))?;
+    }
+    Ok(items)
+}
+
+/// The list of some texts; null where there is none.
+fn list_or_null(alloc: Global, texts: Texts) -> Result<Json, NoMemory>
+    ensures { IfOk result (λ t. tree_of t ≡ Forms.list_or_null texts) }
+{
+    if texts.is_empty() {
+        return Ok(Json::Null);
+    }
+    Ok(Json::List(text_items(alloc, texts)?))
+}
+
+/// The value of a header field in a form, as JSON (RFC 8621, section 4.1.2). The value is what stands behind the field's colon,
+/// up to its last line end. Each value has each form: addresses that can't be read are left out, and a date that can't is
+/// null.
+pub fn form_of(alloc: Global, value: &[u8], form: Form) -> Result<Json, NoMemory>
+    ensures { IfOk result (λ j. tree_of j ≡ form_tree form value.now) }
+{
+    match form {
+        Form::Raw => Ok(Json::Text(raw_of(alloc, value)?)),
+        Form::Text => Ok(Json::Text(text_of_value(alloc, value)?)),
+        Form::Addresses => address_list(alloc, value),
+        Form::GroupedAddresses => group_list(alloc, value),
+        Form::MessageIds => angle_list(alloc, value),
+        Form::Date => date_or_null(alloc, value),
+        Form::Urls => angle_list(alloc, value),
+    }
+}
+
+fn address_list(alloc: Global, value: &[u8]) -> Result<Json, NoMemory>
+    ensures { IfOk result (λ j. tree_of j ≡ form_tree Form.Addresses value.now) }
+{
+    let line = on_one_line(alloc, value)?;
+    let addresses = addresses_of(alloc, line.as_str())?;
+    Ok(Json::List(address_items(alloc, addresses)?))
+}
+
+fn group_list(alloc: Global, value: &[u8]) -> Result<Json, NoMemory>
+    ensures { IfOk result (λ j. tree_of j ≡ form_tree Form.GroupedAddresses value.now) }
+{
+    let line = on_one_line(alloc, value)?;
+    let groups = groups_of(alloc, line.as_str())?;
+    Ok(Json::List(group_items(alloc, groups)?))
+}
+
+fn angle_list(alloc: Global, value: &[u8]) -> Result<Json, NoMemory>
+    ensures { IfOk result (λ j. tree_of j ≡ form_tree Form.MessageIds value.now) }
+{
+    let line = on_one_line(alloc, value)?;
+    list_or_null(alloc, angle_texts_of(alloc, line.as_str())?)
+}
+
+fn date_or_null(alloc: Global, value: &[u8]) -> Result<Json, NoMemory>
+    ensures { IfOk result (λ j. tree_of j ≡ form_tree Form.Date value.now) }
+{
+    let line = on_one_line(alloc, value)?;
+    Ok(text_or_null(date_of(alloc, line.as_bytes())?))
+}

@@ -1,0 +1,164 @@
+// The groups of a list of addresses, piece by piece.
+ghost use Rattle.std.specs.Prelude.{◌≡◌, [], ◌∷◌, ◌++◌, IfOk, OnOk};
+ghost use Rattle.std.specs.List.{flat_map};
+ghost use Rattle.header_forms.specs.Addresses.{groups_by, groups_in, addresses_in, shown_by};
+ghost use Rattle.header_forms.specs.Groups.{Slices, last, slice};
+ghost use Rattle.header_forms.specs.Running.{shown, groups_from};
+
+use crate::address::{Address, Addresses, Group, Groups};
+use crate::items::{push_address, read_phrase};
+use crate::marking::read_marks;
+use crate::marks::{Mark, Part, Sign};
+use crate::pieces::{next_piece, open_behind};
+use jm_base::{NoMemory, Sequence, Text};
+use std::alloc::Global;
+use std::collections::VecDeque;
+
+/// The groups that are read, and the name and the addresses so far of the group at work.
+#[derive(Drop)]
+struct Work {
+    groups: Groups,
+    name: Option<Text>,
+    addresses: Addresses,
+}
+
+/// Whether a group is shown: it has a name, or an address.
+fn is_shown(name: &Option<Text>, addresses: &Addresses) -> bool
+    ensures { result ≡ shown_by name.now addresses.now }
+{
+    name.is_some() || !addresses.is_empty()
+}
+
+/// Adds a group, if it is shown.
+fn push_group(groups: &mut Groups, name: Option<Text>, addresses: Addresses) -> Result<(), NoMemory>
+    ensures { OnOk result (groups.new ≡ groups.old ++ shown name addresses) }
+{
+    if !is_shown(&name, &addresses) {
+        return Ok(());
+    }
+    groups.push(Group { name, addresses })
+}
+
+/// Goes on with an item that ends at a comma.
+fn after_item(alloc: Global, work: Work, item: &[Mark]) -> Result<Work, NoMemory>
+    ensures { IfOk result (λ w. (later : Slices) → w.groups ++ groups_from w.name w.addresses later ≡ work.groups ++ groups_from work.name work.addresses (slice item.now Sign.Comma later)) }
+{
+    let Work {
+        groups,
+        name,
+        mut addresses,
+    } = work;
+    push_address(alloc, &mut addresses, item)?;
+    Ok(Work {
+        groups,
+        name,
+        addresses,
+    })
+}
+
+/// Goes on with the name of a group, which ends at a colon.
+fn after_name(alloc: Global, work: Work, item: &[Mark]) -> Result<Work, NoMemory>
+    ensures { IfOk result (λ w. (later : Slices) → w.groups ++ groups_from w.name w.addresses later ≡ work.groups ++ groups_from work.name work.addresses (slice item.now Sign.Colon later)) }
+{
+    let Work {
+        mut groups,
+        name,
+        addresses,
+    } = work;
+    push_group(&mut groups, name, addresses)?;
+    let name = read_phrase(alloc, Part::Phrase, item)?;
+    Ok(Work {
+        groups,
+        name: Some(name),
+        addresses: Sequence::new(alloc),
+    })
+}
+
+/// Goes on with the last item of a group, which ends at a semicolon.
+fn after_group(alloc: Global, work: Work, item: &[Mark]) -> Result<Work, NoMemory>
+    ensures { IfOk result (λ w. (later : Slices) → w.groups ++ groups_from w.name w.addresses later ≡ work.groups ++ groups_from work.name work.addresses (slice item.now Sign.Semicolon later)) }
+{
+    let Work {
+        mut groups,
+        name,
+        mut addresses,
+    } = work;
+    push_address(alloc, &mut addresses, item)?;
+    push_group(&mut groups, name, addresses)?;
+    Ok(Work {
+        groups,
+        name: None,
+        addresses: Sequence::new(alloc),
+    })
+}
+
+/// Goes on with a piece that ends with this sign.
+fn after_piece(alloc: Global, work: Work, item: &[Mark], sign: Sign) -> Result<Work, NoMemory>
+    ensures { IfOk result (λ w. (later : Slices) → w.groups ++ groups_from w.name w.addresses later ≡ work.groups ++ groups_from work.name work.addresses (slice item.now sign later)) }
+{
+    match sign {
+        Sign::Comma => after_item(alloc, work, item),
+        Sign::Colon => after_name(alloc, work, item),
+        Sign::Semicolon => after_group(alloc, work, item),
+    }
+}
+
+/// The groups, with the last piece.
+fn at_end(alloc: Global, work: Work, item: &[Mark]) -> Result<Groups, NoMemory>
+    ensures { IfOk result (λ gs. gs ≡ work.groups ++ groups_from work.name work.addresses (last item.now)) }
+{
+    let Work {
+        mut groups,
+        name,
+        mut addresses,
+    } = work;
+    push_address(alloc, &mut addresses, item)?;
+    push_group(&mut groups, name, addresses)?;
+    Ok(groups)
+}
+
+fn read_groups(alloc: Global, marks: &[Mark]) -> Result<Groups, NoMemory>
+    ensures { IfOk result (λ gs. gs ≡ groups_by marks.now) }
+{
+    let mut work = Work {
+        groups: Sequence::new(alloc),
+        name: None,
+        addresses: Sequence::new(alloc),
+    };
+    let mut in_group = false;
+    let mut rest = marks;
+    while let Some(piece) = next_piece(rest, in_group) {
+        work = after_piece(alloc, work, piece.item, piece.sign)?;
+        in_group = open_behind(in_group, piece.sign);
+        rest = piece.rest;
+    }
+    at_end(alloc, work, rest)
+}
+
+/// The groups of a value on one line (RFC 8621, section 4.1.2.4). Addresses outside groups that stand together are a group
+/// without a name.
+pub fn groups_of(alloc: Global, text: &str) -> Result<Groups, NoMemory>
+    ensures { IfOk result (λ gs. gs ≡ groups_in text.now) }
+{
+    let marks = read_marks(alloc, text)?;
+    read_groups(alloc, marks.as_slice())
+}
+
+/// The addresses of groups, one after the other.
+fn join(alloc: Global, groups: Groups) -> Result<Addresses, NoMemory>
+    ensures { IfOk result (λ all. all ≡ flat_map (λ g. g.addresses) groups) }
+{
+    let mut all = Sequence::new(alloc);
+    let mut rest = VecDeque::from_vec(groups.into_vec());
+    while let Some(group) = rest.pop_front() {
+        all.append(group.addresses)?;
+    }
+    Ok(all)
+}
+
+/// The addresses of a value on one line, those in groups too (RFC 8621, section 4.1.2.3).
+pub fn addresses_of(alloc: Global, text: &str) -> Result<Addresses, NoMemory>
+    ensures { IfOk result (λ all. all ≡ addresses_in text.now) }
+{
+    join(alloc, groups_of(alloc, text)?)
+}

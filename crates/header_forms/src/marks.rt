@@ -1,0 +1,71 @@
+// The characters of a list of addresses, each with where it stands.
+
+/// Where a character stands.
+#[derive(Clone, Copy)]
+pub enum Place {
+    /// Outside the other three.
+    Bare,
+    /// Between quote marks.
+    Quoted,
+    /// In a comment, with its parentheses.
+    Comment,
+    /// In an angle bracket, with the brackets.
+    Bracket,
+}
+
+/// A character of a list of addresses.
+#[derive(Clone, Copy)]
+pub struct Mark {
+    pub character: char,
+    pub place: Place,
+    /// False of a character that only opens, closes or quotes.
+    pub said: bool,
+}
+
+/// What is open before a character. A flag says whether a backslash quotes the next character.
+#[derive(Clone, Copy)]
+pub enum State {
+    /// Nothing.
+    Outside,
+    /// Quote marks.
+    InQuotes(bool),
+    /// This many comments.
+    InComment(usize),
+    /// This many comments, and a backslash quotes the next character.
+    EscapedInComment(usize),
+    /// An angle bracket.
+    InBracket,
+    /// Quote marks in an angle bracket.
+    InBracketQuotes(bool),
+}
+
+/// A character's mark, and what is open behind it.
+#[derive(Clone, Copy)]
+pub struct Step {
+    pub mark: Mark,
+    pub next: State,
+}
+
+/// A sign that cuts a list.
+#[derive(Clone, Copy)]
+pub enum Sign {
+    /// Between two items.
+    Comma,
+    /// Behind the name of a group.
+    Colon,
+    /// At the end of a group.
+    Semicolon,
+}
+
+/// Some of the characters of an item.
+#[derive(Clone, Copy)]
+pub enum Part {
+    /// All.
+    Whole,
+    /// Those outside comments.
+    Plain,
+    /// What is said outside comments.
+    Phrase,
+    /// What is said in comments.
+    Remark,
+}
