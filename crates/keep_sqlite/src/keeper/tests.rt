@@ -11,8 +11,8 @@ use std::{fs, io};
 const FORMAT_1: &str =
     "CREATE TABLE about (item INTEGER PRIMARY KEY, value INTEGER NOT NULL); CREATE TABLE commits (place INTEGER PRIMARY KEY, bytes BLOB NOT NULL); INSERT INTO about VALUES (1, 1);";
 
-// each after the tables of format 1
-const OTHER_FORMS: [&str; 10] = [
+// each after the tables of format 1; the last is a transaction that is not ended
+const OTHER_FORMS: [&str; 11] = [
     "UPDATE about SET value = 2",
     "UPDATE about SET item = 2",
     "INSERT INTO about VALUES (2, 1)",
@@ -23,6 +23,7 @@ const OTHER_FORMS: [&str; 10] = [
     "INSERT INTO commits VALUES (0, x'61')",
     "INSERT INTO commits VALUES (1, x'61'), (3, x'62')",
     "INSERT INTO commits VALUES (1, 'a')",
+    "BEGIN",
 ];
 
 fn run<S: Alter + Drop>(mut connection: Connection<S>, text: &str) -> Result<Connection<S>, Error> {
@@ -79,62 +80,113 @@ fn holds<K: Keeper>(alloc: Global, keeper: &mut K, rows: &[&[u8]]) -> bool {
     }
 }
 
-fn appends<K: Keeper>(alloc: Global, keeper: &mut K, rows: &[&[u8]]) -> bool {
-    rows.iter().all(|row| keeper.append(alloc, row).is_ok())
+// a call and what is to come of it, or a folder that is made between calls
+#[derive(Clone, Copy, Debug)]
+enum Step {
+    Append(&'static [u8]),
+    RefusedAppend(&'static [u8]),
+    Replace(&'static [&'static [u8]]),
+    RefusedReplace(&'static [&'static [u8]]),
+    RefusedBase(&'static [&'static [u8]]),
+    Load(&'static [&'static [u8]]),
+    RefusedLoad,
+    Folder(&'static str),
 }
 
-fn refuses_row<K: Keeper>(alloc: Global, keeper: &mut K, row: &[u8]) -> bool {
-    keeper.append(alloc, row) == Err(EdgeFault::Failed)
+use Step::{
+    Append, Folder, Load, RefusedAppend, RefusedBase, RefusedLoad, RefusedReplace, Replace,
+};
+
+const REFUSED: [Step; 3] = [RefusedLoad, RefusedAppend(b"a"), RefusedReplace(&[b"a"])];
+
+fn replaced<K: Keeper>(
+    alloc: Global,
+    keeper: &mut K,
+    rows: &[&[u8]],
+    base: Option<Bytes>,
+) -> Result<(), EdgeFault> {
+    let mut kept = whole(alloc, rows)?;
+    kept.base = base;
+    keeper.replace(alloc, &kept)
 }
 
-fn refuses_whole<K: Keeper>(alloc: Global, keeper: &mut K, whole: &Kept) -> bool {
-    keeper.replace(alloc, whole) == Err(EdgeFault::Failed)
-}
-
-fn refuses_load<K: Keeper>(alloc: Global, keeper: &mut K) -> bool {
-    matches!(keeper.load(alloc), Err(EdgeFault::Failed))
-}
-
-// whether these rows are put in the place of those that are there
-fn replaces<K: Keeper>(alloc: Global, keeper: &mut K, rows: &[&[u8]]) -> bool {
-    match whole(alloc, rows) {
-        Ok(whole) => keeper.replace(alloc, &whole).is_ok(),
-        Err(_) => false,
+fn comes_of<K: Keeper>(rt: &HostRuntime, keeper: &mut K, step: Step) -> bool {
+    let alloc = rt.alloc();
+    match step {
+        Append(row) => keeper.append(alloc, row).is_ok(),
+        RefusedAppend(row) => keeper.append(alloc, row) == Err(EdgeFault::Failed),
+        Replace(rows) => replaced(alloc, keeper, rows, None).is_ok(),
+        RefusedReplace(rows) => replaced(alloc, keeper, rows, None) == Err(EdgeFault::Failed),
+        RefusedBase(rows) => {
+            replaced(alloc, keeper, rows, Some(Bytes::new(alloc))) == Err(EdgeFault::Failed)
+        }
+        Load(rows) => holds(alloc, keeper, rows),
+        RefusedLoad => matches!(keeper.load(alloc), Err(EdgeFault::Failed)),
+        Folder(name) => fs::create_dir(rt, name).is_ok(),
     }
 }
 
-fn counts<S: OpenAt>(keeper: &SqliteKeeper<S>) -> [u64; 3] {
-    [
-        keeper.load_faults,
-        keeper.append_faults,
-        keeper.replace_faults,
-    ]
+fn all_come<K: Keeper>(rt: &HostRuntime, keeper: &mut K, steps: &[Step]) -> bool {
+    for step in steps {
+        if !comes_of(rt, keeper, *step) {
+            return false;
+        }
+    }
+    true
 }
 
-// whether each call is refused and counted once
-fn refuses<S: OpenAt + Send>(alloc: Global, mut keeper: SqliteKeeper<S>) -> bool {
-    refuses_load(alloc, &mut keeper)
-        && refuses_row(alloc, &mut keeper, b"a")
-        && refuses_whole(alloc, &mut keeper, &Kept::new(alloc))
-        && counts(&keeper) == [1, 1, 1]
+// whether each step comes as it says, and so many calls of `load`, `append` and `replace` were refused; it is closed then
+fn goes<S: OpenAt + Send>(
+    rt: &HostRuntime,
+    mut keeper: SqliteKeeper<S>,
+    steps: &[Step],
+    faults: [u64; 3],
+) -> bool {
+    all_come(rt, &mut keeper, steps)
+        && keeper.load_faults == faults[0]
+        && keeper.append_faults == faults[1]
+        && keeper.replace_faults == faults[2]
 }
 
-// whether it takes these rows, and no call of it was refused; it is closed then
-fn takes<S: OpenAt + Send>(alloc: Global, mut keeper: SqliteKeeper<S>, rows: &[&[u8]]) -> bool {
-    appends(alloc, &mut keeper, rows) && counts(&keeper) == [0, 0, 0]
+fn goes_at(
+    rt: &HostRuntime,
+    path: &str,
+    steps: &[Step],
+    faults: [u64; 3],
+) -> Result<bool, NoMemory> {
+    let keeper = at(rt, path)?;
+    Ok(goes(rt, keeper, steps, faults))
 }
 
-// whether it holds these rows, and no call of it was refused; it is closed then
-fn gives<S: OpenAt + Send>(alloc: Global, mut keeper: SqliteKeeper<S>, rows: &[&[u8]]) -> bool {
-    holds(alloc, &mut keeper, rows) && counts(&keeper) == [0, 0, 0]
+// of a file in which `more` was run
+fn goes_adopted(
+    rt: &HostRuntime,
+    path: &str,
+    more: &str,
+    steps: &[Step],
+    faults: [u64; 3],
+) -> Result<bool, Error> {
+    let keeper = adopted(rt, path, more)?;
+    Ok(goes(rt, keeper, steps, faults))
+}
+
+// in memory, after the tables of format 1 were made and `more` was run
+fn goes_in_memory(
+    rt: &HostRuntime,
+    more: &str,
+    steps: &[Step],
+    faults: [u64; 3],
+) -> Result<bool, Error> {
+    let keeper = memory(rt.alloc(), more)?;
+    Ok(goes(rt, keeper, steps, faults))
 }
 
 #[test]
 fn two_rows_are_loaded_after_the_file_was_closed(rt: HostRuntime) -> Result<(), Fail> {
     folder(&rt, "keep_sqlite_two")?;
     let path = "keep_sqlite_two/a.sqlite";
-    assert!(rt; takes(rt.alloc(), at(&rt, path)?, &[b"first", b""]));
-    assert!(rt; gives(rt.alloc(), at(&rt, path)?, &[b"first", b""]));
+    assert!(rt; goes_at(&rt, path, &[Append(b"first"), Append(b"")], [0; 3])?);
+    assert!(rt; goes_at(&rt, path, &[Load(&[b"first", b""])], [0; 3])?);
     Ok(())
 }
 
@@ -142,8 +194,16 @@ fn two_rows_are_loaded_after_the_file_was_closed(rt: HostRuntime) -> Result<(), 
 fn two_rows_are_loaded_by_adopt(rt: HostRuntime) -> Result<(), Fail> {
     folder(&rt, "keep_sqlite_adopt")?;
     let path = "keep_sqlite_adopt/a.sqlite";
-    assert!(rt; takes(rt.alloc(), adopted(&rt, path, "")?, &[b"first", b"second"]));
-    assert!(rt; gives(rt.alloc(), adopted(&rt, path, "")?, &[b"first", b"second"]));
+    assert!(rt;
+        goes_adopted(
+            &rt,
+            path,
+            "",
+            &[Append(b"first"), Append(b"second")],
+            [0; 3]
+        )?
+    );
+    assert!(rt; goes_adopted(&rt, path, "", &[Load(&[b"first", b"second"])], [0; 3])?);
     Ok(())
 }
 
@@ -151,7 +211,7 @@ fn two_rows_are_loaded_by_adopt(rt: HostRuntime) -> Result<(), Fail> {
 fn other_forms_are_refused_and_counted(rt: HostRuntime) -> Result<(), Fail> {
     for more in OTHER_FORMS {
         assert!(rt;
-            refuses(rt.alloc(), memory(rt.alloc(), more)?),
+            goes_in_memory(&rt, more, &REFUSED, [1; 3])?,
             "after {more}"
         );
     }
@@ -162,37 +222,23 @@ fn other_forms_are_refused_and_counted(rt: HostRuntime) -> Result<(), Fail> {
 fn what_is_no_database_is_refused_and_left_alone(rt: HostRuntime) -> Result<(), Fail> {
     folder(&rt, "keep_sqlite_none")?;
     fs::write(&rt, "keep_sqlite_none/a.txt", b"no database")?;
-    assert!(rt; refuses(rt.alloc(), at(&rt, "keep_sqlite_none/a.txt")?));
-    assert_eq!(rt;
-        fs::read(&rt, "keep_sqlite_none/a.txt")?.as_slice(),
-        b"no database".as_slice()
-    );
+    assert!(rt; goes_at(&rt, "keep_sqlite_none/a.txt", &REFUSED, [1; 3])?);
+    assert!(rt; fs::read(&rt, "keep_sqlite_none/a.txt")?.as_slice() == b"no database".as_slice());
     Ok(())
-}
-
-// whether it refuses a row before the folder is made, and takes one after it
-fn waits_for_folder<S: OpenAt + Send>(
-    rt: &HostRuntime,
-    mut keeper: SqliteKeeper<S>,
-    name: &str,
-) -> bool {
-    refuses_row(rt.alloc(), &mut keeper, b"a")
-        && fs::create_dir(rt, name).is_ok()
-        && appends(rt.alloc(), &mut keeper, &[b"b"])
-        && counts(&keeper) == [0, 1, 0]
 }
 
 #[test]
 fn a_path_in_no_folder_is_refused_until_there_is_one(rt: HostRuntime) -> Result<(), Fail> {
     let _ = fs::remove_dir_all(&rt, "keep_sqlite_later");
-    let keeper = at(&rt, "keep_sqlite_later/a.sqlite")?;
-    assert!(rt; waits_for_folder(&rt, keeper, "keep_sqlite_later"));
+    let steps = [
+        RefusedLoad,
+        RefusedAppend(b"a"),
+        Folder("keep_sqlite_later"),
+        Append(b"b"),
+        Load(&[b"b"]),
+    ];
+    assert!(rt; goes_at(&rt, "keep_sqlite_later/a.sqlite", &steps, [1, 1, 0])?);
     Ok(())
-}
-
-// whether it takes a row and then another in its place; it is closed then
-fn takes_and_replaces<S: OpenAt + Send>(alloc: Global, mut keeper: SqliteKeeper<S>) -> bool {
-    appends(alloc, &mut keeper, &[b"a"]) && replaces(alloc, &mut keeper, &[b"b"])
 }
 
 fn note<S: Alter + Drop>(mut connection: Connection<S>) -> Result<i64, Error> {
@@ -204,61 +250,34 @@ fn another_table_is_left_alone(rt: HostRuntime) -> Result<(), Fail> {
     folder(&rt, "keep_sqlite_other")?;
     let path = "keep_sqlite_other/a.sqlite";
     let made = "CREATE TABLE note (n INTEGER); INSERT INTO note VALUES (7)";
-    assert!(rt; takes_and_replaces(rt.alloc(), adopted(&rt, path, made)?));
-    assert_eq!(rt; note(Connection::open(&rt, path)?)?, 7);
+    assert!(rt; goes_adopted(&rt, path, made, &[Append(b"a"), Replace(&[b"b"])], [0; 3])?);
+    assert!(rt; note(Connection::open(&rt, path)?)? == 7);
     Ok(())
-}
-
-// a whole with this row behind a base
-fn based(alloc: Global, row: &[u8]) -> Result<Kept, NoMemory> {
-    let mut kept = whole(alloc, &[row])?;
-    kept.base = Some(Bytes::new(alloc));
-    Ok(kept)
 }
 
 #[test]
 fn a_base_is_refused_and_counted(rt: HostRuntime) -> Result<(), Fail> {
-    let based = based(rt.alloc(), b"c")?;
-    assert!(rt; keeps_no_base(rt.alloc(), memory(rt.alloc(), "")?, &based));
+    let steps = [
+        Replace(&[b"a", b"b"]),
+        RefusedBase(&[b"c"]),
+        Append(b"d"),
+        Load(&[b"a", b"b", b"d"]),
+    ];
+    assert!(rt; goes_in_memory(&rt, "", &steps, [0, 0, 1])?);
     Ok(())
-}
-
-fn keeps_no_base<S: OpenAt + Send>(
-    alloc: Global,
-    mut keeper: SqliteKeeper<S>,
-    based: &Kept,
-) -> bool {
-    replaces(alloc, &mut keeper, &[b"a", b"b"])
-        && refuses_whole(alloc, &mut keeper, based)
-        && counts(&keeper) == [0, 0, 1]
-        && appends(alloc, &mut keeper, &[b"d"])
-        && holds(alloc, &mut keeper, &[b"a", b"b", b"d"])
 }
 
 // an index that takes no row twice refuses in the middle of a call
 #[test]
 fn a_refused_call_changes_nothing(rt: HostRuntime) -> Result<(), Fail> {
     let more = "INSERT INTO commits VALUES (1, x'61'); CREATE UNIQUE INDEX once ON commits (bytes)";
-    let twice = whole(rt.alloc(), &[b"b", b"c", b"b"])?;
-    assert!(rt; keeps_rows_once(rt.alloc(), memory(rt.alloc(), more)?, &twice));
-    Ok(())
-}
-
-fn keeps_rows_once<S: OpenAt + Send>(
-    alloc: Global,
-    mut keeper: SqliteKeeper<S>,
-    twice: &Kept,
-) -> bool {
-    refuses_row(alloc, &mut keeper, b"a")
-        && refuses_whole(alloc, &mut keeper, twice)
-        && holds(alloc, &mut keeper, &[b"a"])
-        && appends(alloc, &mut keeper, &[b"b"])
-        && holds(alloc, &mut keeper, &[b"a", b"b"])
-        && counts(&keeper) == [0, 1, 1]
-}
-
-#[test]
-fn a_transaction_of_another_is_not_joined(rt: HostRuntime) -> Result<(), Fail> {
-    assert!(rt; refuses(rt.alloc(), memory(rt.alloc(), "BEGIN")?));
+    let steps = [
+        RefusedAppend(b"a"),
+        RefusedReplace(&[b"b", b"c", b"b"]),
+        Load(&[b"a"]),
+        Append(b"b"),
+        Load(&[b"a", b"b"]),
+    ];
+    assert!(rt; goes_in_memory(&rt, more, &steps, [0, 1, 1])?);
     Ok(())
 }
