@@ -5,11 +5,13 @@
 #![tactic(auto)]
 
 mod append;
+mod keep;
 mod lock;
 mod task;
 mod timing;
 
 use crate::append::measure_append;
+use crate::keep::measure_keep;
 use crate::lock::measure_lock;
 use crate::task::{Task, USAGE};
 use std::process::ExitCode;
@@ -28,6 +30,7 @@ fn main(rt: HostRuntime) -> ExitCode {
     match Task::of_words(words.as_slice()) {
         Some(Task::Lock { rounds }) => status_of(measure_lock(&rt, rt.alloc(), rounds)),
         Some(Task::Append { file }) => status_of(measure_append(&rt, file)),
+        Some(Task::Keep { file }) => status_of(measure_keep(&rt, file)),
         None => {
             let _ = eprintln!(rt; "{}", USAGE);
             ExitCode::from(2)

@@ -1,7 +1,7 @@
 // The words of a command line.
 
 /// What is said where the words name nothing to measure.
-pub(crate) const USAGE: &str = "usage: measure lock N | measure append FILE";
+pub(crate) const USAGE: &str = "usage: measure lock N | measure append FILE | measure keep FILE";
 
 /// What the program may be told to measure.
 #[derive(Clone, Copy, Debug, PartialEq, Eq)]
@@ -10,6 +10,8 @@ pub(crate) enum Task<'a> {
     Lock { rounds: u64 },
     /// Appends to a keeper of this file, which it makes where there is none.
     Append { file: &'a str },
+    /// Encoding and decoding of the commits of this file.
+    Keep { file: &'a str },
 }
 
 impl<'a> Task<'a> {
@@ -30,6 +32,9 @@ impl<'a> Task<'a> {
         }
         if name == "append" {
             return Some(Task::Append { file: value });
+        }
+        if name == "keep" {
+            return Some(Task::Keep { file: value });
         }
         None
     }

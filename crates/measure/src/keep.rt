@@ -1,0 +1,177 @@
+// Encoding and decoding of commits beside a plain copy of their bytes.
+ghost use Rattle.std.specs.Prelude.{IfOk, All};
+ghost use Rattle.mail_records.specs.Commits.{IsFormed};
+
+use crate::timing::{RUNS, median, nanos_since, no_memory};
+use jm_base::{Bytes, NoMemory};
+use mail_records::Commit;
+use record_codec::{decode, encode};
+use std::alloc::Global;
+use std::rt::Files;
+use std::time::{Clock, Instant};
+use std::{fs, io};
+
+// What one run took, in nanoseconds.
+#[derive(Clone, Copy, Debug)]
+struct Times {
+    copy: u64,
+    decode: u64,
+    encode: u64,
+}
+
+fn invalid() -> io::Error {
+    io::Error::from(io::ErrorKind::InvalidData)
+}
+
+// The first row of the bytes, and the bytes behind it. A row is its length, as a number of 8 bytes with the big end first, and its bytes.
+fn first_row(bytes: &[u8]) -> Option<(&[u8], &[u8])> {
+    if bytes.len() < 8 {
+        return None;
+    }
+    let (front, rest) = bytes.split_at(8);
+    let length = u64::from_be_bytes([
+        front[0], front[1], front[2], front[3], front[4], front[5], front[6], front[7],
+    ]);
+    if (rest.len() as u64) < length {
+        return None;
+    }
+    Some(rest.split_at(length as usize))
+}
+
+// The rows that the bytes are.
+fn rows_of(alloc: Global, bytes: &[u8]) -> io::Result<Vec<&[u8]>> {
+    let mut rows = Vec::new(alloc);
+    let mut rest = bytes;
+    for _ in 0..bytes.len() {
+        let Some((row, behind)) = first_row(rest) else {
+            break;
+        };
+        rows.push(row)?;
+        rest = behind;
+    }
+    if rest.is_empty() {
+        Ok(rows)
+    } else {
+        Err(invalid())
+    }
+}
+
+// The rows, each in memory of its own.
+fn copied(alloc: Global, rows: &[&[u8]]) -> Result<Vec<Bytes>, NoMemory> {
+    let mut copies = Vec::new(alloc);
+    for row in rows {
+        copies.push(Bytes::from_slice(alloc, row)?)?;
+    }
+    Ok(copies)
+}
+
+fn commit_of(alloc: Global, row: &[u8]) -> io::Result<Commit>
+    ensures { IfOk result (λ c. IsFormed c) }
+{
+    match decode(alloc, row) {
+        Ok(commit) => Ok(commit),
+        Err(_) => Err(invalid()),
+    }
+}
+
+// The commits that the rows are.
+fn decoded(alloc: Global, rows: &[&[u8]]) -> io::Result<Vec<Commit>>
+    ensures { IfOk result (λ v. All (λ c. IsFormed c) v.items) }
+{
+    let mut commits = Vec::new(alloc);
+    for row in rows {
+        commits.push(commit_of(alloc, row)?)?;
+    }
+    Ok(commits)
+}
+
+// The rows that the commits are.
+fn encoded(alloc: Global, commits: &[Commit]) -> Result<Vec<Bytes>, NoMemory>
+    requires { All (λ c. IsFormed c) commits.now }
+{
+    let mut rows = Vec::new(alloc);
+    for commit in commits {
+        rows.push(encode(alloc, commit)?)?;
+    }
+    Ok(rows)
+}
+
+// Whether the rows are the same.
+fn are_same(written: &[Bytes], rows: &[&[u8]]) -> bool {
+    written.len() == rows.len()
+        && written
+            .iter()
+            .zip(rows.iter())
+            .all(|(one, other)| one.as_slice() == *other)
+}
+
+fn edits_in(commits: &[Commit]) -> u64 {
+    let mut edits = 0u64;
+    for commit in commits {
+        edits = edits.saturating_add(commit.edits.len() as u64);
+    }
+    edits
+}
+
+// One run: the rows are copied, then decoded, then encoded again. It gives the times and the edits.
+fn one_run<R: Clock>(rt: &R, alloc: Global, rows: &[&[u8]]) -> io::Result<(Times, u64)> {
+    let start = Instant::now(rt)?;
+    let copies = copied(alloc, rows).map_err(|_| no_memory())?;
+    let copy = nanos_since(rt, start)?;
+    let start = Instant::now(rt)?;
+    let commits = decoded(alloc, rows)?;
+    let decode = nanos_since(rt, start)?;
+    let start = Instant::now(rt)?;
+    let written = encoded(alloc, &commits).map_err(|_| no_memory())?;
+    let encode = nanos_since(rt, start)?;
+    if !are_same(&written, rows) || !are_same(&copies, rows) {
+        return Err(invalid());
+    }
+    let times = Times {
+        copy,
+        decode,
+        encode,
+    };
+    Ok((times, edits_in(&commits)))
+}
+
+// The medians of the runs, and the edits.
+fn runs<R: Clock>(rt: &R, alloc: Global, rows: &[&[u8]]) -> io::Result<(Times, u64)> {
+    let mut copy = [0; RUNS];
+    let mut decode = [0; RUNS];
+    let mut encode = [0; RUNS];
+    let mut edits = 0;
+    for run in 0..RUNS {
+        let (times, counted) = one_run(rt, alloc, rows)?;
+        copy[run] = times.copy;
+        decode[run] = times.decode;
+        encode[run] = times.encode;
+        edits = counted;
+    }
+    let times = Times {
+        copy: median(copy),
+        decode: median(decode),
+        encode: median(encode),
+    };
+    Ok((times, edits))
+}
+
+/// Measures the commits of a file: its rows are copied, decoded and encoded again. Each row is its length, as a number of 8 bytes with
+/// the big end first, and the bytes of a commit. The counts go to standard output, the times to the error output.
+pub(crate) fn measure_keep<R: Clock + Print + Eprint + Files + AllocGlobal>(
+    rt: &R,
+    file: &str,
+) -> io::Result<()> {
+    let bytes = fs::read(rt, file)?;
+    let rows = rows_of(rt.alloc(), &bytes)?;
+    let (times, edits) = runs(rt, rt.alloc(), &rows)?;
+    println!(rt;
+        "keep: {} commits, {edits} edits, {} bytes",
+        rows.len(),
+        bytes.len()
+    )?;
+    eprintln!(rt;
+        "keep: copy {} ns, decode {} ns, encode {} ns",
+        times.copy, times.decode, times.encode
+    )
+}
