@@ -1,0 +1,11 @@
+//! Which leaves of a message are its text, its HTML and its attachments (RFC 8621, section 4.1.4).
+#![tactic(auto)]
+
+mod laws;
+mod place;
+#[cfg(test)]
+mod tests;
+mod walk;
+
+pub use laws::lists_of_examples;
+pub use walk::{BodyLists, lists};

@@ -1,0 +1,109 @@
+// Where an item stands, and what that says of it.
+ghost use Rattle.std.specs.Prelude.{◌≡◌};
+ghost use Rattle.mime_type.specs.Joined.{node_of};
+ghost use Rattle.body_lists.specs.Lists.{is_plain as plain_node, is_html as html_node, is_media as media_node, is_attached as attached_by, is_inline, top as top_place, inside as place_inside, open_behind};
+ghost use Rattle.body_lists.specs.Shown.{open_of, place_of};
+
+use mime_type::Part;
+
+/// The list that items stand in.
+#[derive(Clone, Copy)]
+pub struct Place {
+    /// Whether it is an alternative's.
+    pub alternative: bool,
+    /// Whether it is a related multipart's.
+    pub related: bool,
+    /// Whether it is in an alternative, its own or one further out.
+    pub within: bool,
+}
+
+/// Whether text and HTML still take items.
+#[derive(Clone, Copy)]
+pub struct Open {
+    pub text: bool,
+    pub html: bool,
+}
+
+pub fn is_plain(part: &Part) -> bool
+    ensures { result ≡ plain_node (node_of part.now) }
+{
+    part.media.as_bytes() == b"text/plain".as_slice()
+}
+
+pub fn is_html(part: &Part) -> bool
+    ensures { result ≡ html_node (node_of part.now) }
+{
+    part.media.as_bytes() == b"text/html".as_slice()
+}
+
+/// An image, a sound or a film.
+pub fn is_media(part: &Part) -> bool
+    ensures { result ≡ media_node (node_of part.now) }
+{
+    let media = part.media.as_bytes();
+    media.starts_with(b"image/") || media.starts_with(b"audio/") || media.starts_with(b"video/")
+}
+
+fn is_attached(part: &Part) -> bool
+    ensures { result ≡ attached_by part.now.disposition }
+{
+    match &part.disposition {
+        Some(disposition) => disposition.as_bytes() == b"attachment".as_slice(),
+        None => false,
+    }
+}
+
+impl Place {
+    /// The list of the message alone, as in a mixed multipart.
+    pub fn top() -> Place
+        ensures { place_of result ≡ top_place }
+    {
+        Place {
+            alternative: false,
+            related: false,
+            within: false,
+        }
+    }
+
+    /// The list of a multipart that stands in this one.
+    pub fn inside(self, part: &Part) -> Place
+        ensures { place_of result ≡ place_inside (place_of self) (node_of part.now) }
+    {
+        let media = part.media.as_bytes();
+        let alternative = media == b"multipart/alternative".as_slice();
+        let related = media == b"multipart/related".as_slice();
+        Place {
+            alternative,
+            related,
+            within: self.within || alternative,
+        }
+    }
+
+    /// Whether a part may be shown here, as the first of the list or not.
+    pub fn shows(self, first: bool, part: &Part) -> bool
+        ensures { result ≡ is_inline (place_of self) first (node_of part.now) }
+    {
+        if part.boundary.is_some() || is_attached(part) {
+            return false;
+        }
+        if !(is_plain(part) || is_html(part) || is_media(part)) {
+            return false;
+        }
+        first || (!self.related && (is_media(part) || part.name.is_none()))
+    }
+}
+
+impl Open {
+    /// What takes items behind a part.
+    pub fn behind(self, place: Place, first: bool, part: &Part) -> Open
+        ensures { open_of result ≡ open_behind (place_of place) first (open_of self) (node_of part.now) }
+    {
+        if place.shows(first, part) && place.within && !place.alternative {
+            return Open {
+                text: self.text && !is_html(part),
+                html: self.html && !is_plain(part),
+            };
+        }
+        self
+    }
+}
