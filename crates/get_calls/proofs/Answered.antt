@@ -4,9 +4,9 @@ use Rattle.std.specs.Prelude.{nat_lt, if◌then◌else◌}
 use Rattle.std.proofs.lemmas.Bool.Decides.{nat_tests}
 use Rattle.jm_json.specs.Tree.{Tree, text, object, fields_of}
 use Rattle.mail_records.specs.declared.records.Mailbox.{Mailbox}
-use Rattle.get_calls.specs.Arguments.{account_in, ids_in, names_in, is_selection, are_properties, bad_argument}
-use Rattle.get_calls.specs.Mailboxes.{asked_mailboxes, unknown_ids, mailbox_properties, shown_mailbox}
-use Rattle.get_calls.specs.Get.{got, asked_count, get_asked, get_by, get_unless, mailboxes_reply, reply_tree}
+use Rattle.mail_view.specs.Selections.{account_in, ids_in, names_in, is_selection, are_properties, bad_argument}
+use Rattle.mail_view.specs.Mailboxes.{asked_mailboxes, unknown_ids, mailbox_properties, shown_mailbox}
+use Rattle.mail_view.specs.Gets.{got, asked_count, get_asked, get_by, get_unless, mailboxes_reply, reply_tree}
 use Rattle.get_calls.specs.Parts.{left_out, mailbox_without}
 use Rattle.get_calls.proofs.LeftOut.{shown_members}
 

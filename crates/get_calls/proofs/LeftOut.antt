@@ -14,8 +14,8 @@ use Rattle.jm_json.specs.Order.{KeysRise}
 use Rattle.jm_json.specs.Patch.{take_away}
 use Rattle.mail_records.specs.declared.records.Mailbox.{Mailbox}
 use Rattle.mail_counts.specs.Views.{mailbox_members}
-use Rattle.get_calls.specs.Arguments.{is_among}
-use Rattle.get_calls.specs.Mailboxes.{is_shown, mailbox_properties}
+use Rattle.mail_view.specs.Selections.{is_among}
+use Rattle.mail_view.specs.Mailboxes.{is_shown, mailbox_properties}
 use Rattle.get_calls.specs.Parts.{left_out, take_all_away, without}
 
 abbrev Pairs : Type 0

@@ -6,11 +6,11 @@ use Rattle.std.proofs.lemmas.List.{append-nil, take_more, map-append}
 use Rattle.std.proofs.lemmas.List.Elements.{filter-append, filter_map-append}
 use Rattle.std.proofs.lemmas.Bool.Decides.{same_from_decides, Decides-like}
 use Rattle.std.proofs.lemmas.Slice.Eq.{bytes_eq-Decides}
-use Rattle.get_calls.specs.Arguments.{is_among}
+use Rattle.mail_view.specs.Selections.{is_among}
 use Rattle.jm_json.specs.Tree.{Tree, text}
 use Rattle.mail_records.specs.declared.records.Mailbox.{Mailbox}
 use Rattle.mail_counts.specs.Views.{mailbox_named}
-use Rattle.get_calls.specs.Mailboxes.{first_mentions, mailboxes_named, naming_none}
+use Rattle.mail_view.specs.Mailboxes.{first_mentions, mailboxes_named, naming_none}
 
 abbrev Texts : Type 0
 Texts = List (List ℕ)

@@ -1,6 +1,6 @@
 -- Which answer a fault stands for.
 use Rattle.std.specs.Prelude.{◌≡◌, ℕ, List, ⊤}
-use Rattle.get_calls.specs.Get.{Got, invalid, too_large}
+use Rattle.mail_view.specs.Gets.{Got, invalid, too_large}
 use Rattle.get_calls.specs.declared.fault.GetFault.{GetFault}
 use Rattle.get_calls.specs.declared.fault.GetFault.TheVariants.{Invalid, TooLarge, NoMemory}
 

@@ -4,8 +4,8 @@ use Rattle.jm_json.specs.Tree.{Tree, object, fields_of}
 use Rattle.jm_json.specs.Patch.{take_away}
 use Rattle.mail_records.specs.declared.records.Mailbox.{Mailbox}
 use Rattle.mail_counts.specs.Views.{mailbox_members}
-use Rattle.get_calls.specs.Arguments.{is_among}
-use Rattle.get_calls.specs.Mailboxes.{mailbox_properties, is_shown}
+use Rattle.mail_view.specs.Selections.{is_among}
+use Rattle.mail_view.specs.Mailboxes.{mailbox_properties, is_shown}
 
 -- those of these properties that aren't shown where these names are asked for
 abbrev pub hidden_of : Option (List (List ℕ)) → List (List ℕ) → List (List ℕ)

@@ -2,7 +2,7 @@
 ghost use Rattle.std.specs.Prelude.{◌≡◌, Some, IfOk, IfErr, option_map, map};
 ghost use Rattle.jm_json.specs.Json.{tree_of};
 ghost use Rattle.get_calls.specs.Explained.{Explains};
-ghost use Rattle.get_calls.specs.Get.{asked_count, get_by, get_in, get_mailboxes, got, reply_tree};
+ghost use Rattle.mail_view.specs.Gets.{asked_count, get_by, get_in, get_mailboxes, got, reply_tree};
 
 use crate::GetFault;
 use crate::arguments::{account, selection};

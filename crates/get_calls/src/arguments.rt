@@ -2,7 +2,7 @@
 ghost use Rattle.std.specs.Prelude.{◌≡◌, Some, None, false, true, IfOk, IfErr, codes, map, option_map};
 ghost use Rattle.jm_json.specs.Find.{texts_from};
 ghost use Rattle.jm_json.specs.Json.{tree_of};
-ghost use Rattle.get_calls.specs.Arguments.{account_in, given, is_selection, texts_in};
+ghost use Rattle.mail_view.specs.Selections.{account_in, given, is_selection, texts_in};
 ghost use Rattle.get_calls.specs.Explained.{Blames};
 
 use crate::GetFault;

@@ -3,7 +3,7 @@ ghost use Rattle.std.specs.Prelude.{◌≡◌, ◌∷◌, ◌++◌, [], None, So
 ghost use Rattle.jm_json.specs.Json.{tree_of};
 ghost use Rattle.jm_json.specs.Tree.{text};
 ghost use Rattle.mail_counts.specs.Views.{mailbox_named};
-ghost use Rattle.get_calls.specs.Mailboxes.{asked_mailboxes, first_mentions, mailboxes_named, naming_none, unknown_ids};
+ghost use Rattle.mail_view.specs.Mailboxes.{asked_mailboxes, first_mentions, mailboxes_named, naming_none, unknown_ids};
 ghost use Rattle.get_calls.specs.Parts.{mailbox_without};
 
 use crate::properties::without;

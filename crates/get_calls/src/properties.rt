@@ -1,9 +1,9 @@
 // The properties of a mailbox, and which of them are left out (RFC 8621, section 2).
 ghost use Rattle.std.specs.Prelude.{◌≡◌, ◌∷◌, ◌++◌, [], Some, false, true, IfOk, IfErr, OnOk, codes, map};
 ghost use Rattle.std.specs.List.{list_all};
-ghost use Rattle.get_calls.specs.Arguments.{are_properties, is_among, names_in};
+ghost use Rattle.mail_view.specs.Selections.{are_properties, is_among, names_in};
 ghost use Rattle.get_calls.specs.Explained.{Blames};
-ghost use Rattle.get_calls.specs.Mailboxes.{is_shown, mailbox_properties};
+ghost use Rattle.mail_view.specs.Mailboxes.{is_shown, mailbox_properties};
 ghost use Rattle.get_calls.specs.Parts.{hidden_of, left_out, take_all_away};
 
 use crate::GetFault;

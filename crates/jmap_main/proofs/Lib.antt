@@ -4,7 +4,6 @@ pub mod Held
 pub mod Feeds
 pub mod Runs
 pub mod Ends
-pub mod LeafFacts
 pub mod Messages
 pub mod Replied
 pub mod Written

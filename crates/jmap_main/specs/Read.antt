@@ -1,33 +1,18 @@
--- What `read` writes for the message that it reads: a line with the leaves of its tree of parts.
-use Rattle.std.specs.Prelude.{ℕ, List, [], ◌∷◌, ◌++◌, length, decimal, codes, pos, Option, None, Some}
-use Rattle.std.specs.List.{slice_range}
-use Rattle.jm_json.specs.Tree.{Tree, number, text, list, object, trees_of, fields_of}
-use Rattle.mime_codec.specs.Decoded.{decoded}
-use Rattle.mime_type.specs.Node.{Node}
-use Rattle.mime_type.specs.Forest.{Forest, none, part}
-use Rattle.mime_tree.specs.Kept.{parts_of}
+-- What `read` writes for the message that it reads: the line of what a client is shown of it.
+use Rattle.std.specs.Prelude.{ℕ, List, true, None, codes}
+use Rattle.jm_json.specs.Tree.{Tree, null}
+use Rattle.mail_view.specs.Arguments.{Reading, invalid, asked, read_arguments, wanted_in}
+use Rattle.mail_view.specs.View.{view_tree}
 use Rattle.jmap_main.specs.Batch.{line_text}
 
--- a leaf with its number: its partId, the size of its decoded bytes, and its type
-abbrev pub leaf_tree : List ℕ → Node → ℕ → Tree
-leaf_tree bytes x n =
-    object (fields_of (
-    (codes "partId", text (decimal n))
-    ∷ (codes "size", number (pos (length (decoded x.coding (slice_range bytes x.body x.end)))))
-    ∷ (codes "type", text x.media) ∷ []))
+-- a message is shown as the blob b1, and as no email
+abbrev pub shown_by : List ℕ → Reading → Tree
+shown_by bytes (invalid name) = null
+shown_by bytes (asked wanted) = view_tree bytes (codes "b1") None wanted
 
--- a part alone: a leaf has a number, and a multipart has none
-abbrev pub leaf_by : List ℕ → Node → Option ℕ → List Tree
-leaf_by bytes x None = []
-leaf_by bytes x (Some n) = leaf_tree bytes x n ∷ []
-
--- the leaves in their order, a part before those within it
-abbrev pub leaves : List ℕ → Forest → List Tree
-leaves bytes none = []
-leaves bytes (part x inner later) = leaf_by bytes x x.number ++ (leaves bytes inner ++ leaves bytes later)
-
+-- what a parsed message is shown with, its structure, and the texts of the parts that are shown as plain text
 abbrev pub read_tree : List ℕ → Tree
-read_tree bytes = object (fields_of ((codes "parts", list (trees_of (leaves bytes (parts_of bytes)))) ∷ []))
+read_tree bytes = shown_by bytes (wanted_in read_arguments true)
 
 -- what is written for a message
 unfoldable pub read_out : List ℕ → List ℕ

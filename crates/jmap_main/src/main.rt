@@ -3,11 +3,11 @@
 
 mod batch;
 mod ending;
-mod leaves;
 mod line;
 mod read;
 mod run;
 mod served;
+mod shown;
 mod steps;
 #[cfg(test)]
 mod tests;

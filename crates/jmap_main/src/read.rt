@@ -1,4 +1,4 @@
-// The command `read`: the leaves of a message as one line.
+// The command `read`: what a message is shown as, on one line.
 ghost use Rattle.std.specs.Prelude.{◌≡◌, ◌≤◌, ◌<◌, ◌^◌, ℕ, List, [], ◌++◌, length, take, IfOk, IfErr, OnOk, OnErr};
 ghost use Rattle.std.specs.Io.KnownBytes.{Consumes, IsAtEnd};
 ghost use Rattle.jmap_main.specs.Read.{read_out};
@@ -6,7 +6,7 @@ ghost use Rattle.jmap_main.specs.Run.{HasBegun};
 ghost use Rattle.jmap_main.specs.Ended.{Explains, Unread, Written};
 
 use crate::ending::Ending;
-use crate::leaves::message_line;
+use crate::shown::message_line;
 use crate::words::Command;
 use jm_base::Bytes;
 use jm_edge::{Sink, Source, put_all};
@@ -18,7 +18,7 @@ const MOST_MESSAGE: u64 = 50000000;
 // The bytes that are read at once.
 const ROOM: usize = 65536;
 
-/// Reads a message to its end, and writes the line of its leaves.
+/// Reads a message to its end, and writes the line of what it is shown as.
 pub(crate) fn read_message<S: Source, O: Sink>(alloc: Global, source: &mut S, out: &mut O) -> Ending
     ensures cause { Explains Command.Read result (record {
       left = S.left source.old;
@@ -40,7 +40,6 @@ pub(crate) fn read_message<S: Source, O: Sink>(alloc: Global, source: &mut S, ou
 
 // The line of a message is written, or a front of it.
 fn write_message<O: Sink>(alloc: Global, message: &[u8], out: &mut O) -> Ending
-    requires { length message.now ≤ MOST_MESSAGE }
     ensures { Written result (O.held out.old) (O.held out.new) (O.faults out.old) (O.faults out.new) (read_out message.now) }
 {
     match message_line(alloc, message) {

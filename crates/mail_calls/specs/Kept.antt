@@ -12,7 +12,7 @@ use Rattle.mail_records.specs.declared.edits.Edit.{Edit}
 use Rattle.mail_records.specs.declared.edits.Edit.TheVariants.{PutMailbox, DropMailbox, PutEmail, DropEmail, PutThread, DropThread}
 use Rattle.mail_records.specs.declared.records.Mailbox.{Mailbox}
 use Rattle.mail_counts.specs.Tidy.{IsTidy}
-use Rattle.get_calls.specs.Get.{Got, invalid, too_large, got, get_in}
+use Rattle.mail_view.specs.Gets.{Got, invalid, too_large, got, get_in}
 use Rattle.mailbox_set.specs.Plans.{Ground, Outcome, set_outcome}
 use Rattle.mailbox_set.specs.Plans as sets
 use Rattle.mailbox_set.specs.Promises.{PutsNew}

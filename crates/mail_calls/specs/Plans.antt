@@ -7,7 +7,7 @@ use Rattle.jm_json.specs.Tree.{Tree}
 use Rattle.jm_json.specs.declared.invocation.Created.{Created}
 use Rattle.mail_records.specs.Histories.{History, content_of, end_of}
 use Rattle.mail_records.specs.States.{state_of}
-use Rattle.get_calls.specs.Get.{Got, invalid, too_large, got, get_in}
+use Rattle.mail_view.specs.Gets.{Got, invalid, too_large, got, get_in}
 use Rattle.mailbox_set.specs.Plans.{Ground, Outcome, set_outcome}
 use Rattle.mailbox_set.specs.Plans as sets
 use Rattle.account_book.specs.declared.asks.Ask.{Ask}

@@ -2,7 +2,7 @@
 ghost use Rattle.std.specs.Prelude.{◌≡◌, ◌∷◌, [], IfOk};
 ghost use Rattle.jm_json.specs.Invoked.{call_of};
 ghost use Rattle.jm_json.specs.Json.{tree_of};
-ghost use Rattle.get_calls.specs.Get.{get_in};
+ghost use Rattle.mail_view.specs.Gets.{get_in};
 ghost use Rattle.mailbox_set.specs.Plans.{set_outcome};
 ghost use Rattle.mail_calls.specs.Plans.{answered, get_plan, ground_in, method_plan, refused, response_to, set_plan, silent};
 ghost use Rattle.account_book.specs.Accounts.{IsBounded};

@@ -9,11 +9,13 @@ mod keep;
 mod lock;
 mod task;
 mod timing;
+mod view;
 
 use crate::append::measure_append;
 use crate::keep::measure_keep;
 use crate::lock::measure_lock;
 use crate::task::{Task, USAGE};
+use crate::view::measure_view;
 use std::process::ExitCode;
 use std::{env, io};
 
@@ -31,6 +33,7 @@ fn main(rt: HostRuntime) -> ExitCode {
         Some(Task::Lock { rounds }) => status_of(measure_lock(&rt, rt.alloc(), rounds)),
         Some(Task::Append { file }) => status_of(measure_append(&rt, file)),
         Some(Task::Keep { file }) => status_of(measure_keep(&rt, file)),
+        Some(Task::View { folder }) => status_of(measure_view(&rt, folder)),
         None => {
             let _ = eprintln!(rt; "{}", USAGE);
             ExitCode::from(2)

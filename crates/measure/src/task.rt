@@ -1,7 +1,8 @@
 // The words of a command line.
 
 /// What is said where the words name nothing to measure.
-pub(crate) const USAGE: &str = "usage: measure lock N | measure append FILE | measure keep FILE";
+pub(crate) const USAGE: &str =
+    "usage: measure lock N | measure append FILE | measure keep FILE | measure view FOLDER";
 
 /// What the program may be told to measure.
 #[derive(Clone, Copy, Debug, PartialEq, Eq)]
@@ -12,6 +13,8 @@ pub(crate) enum Task<'a> {
     Append { file: &'a str },
     /// Encoding and decoding of the commits of this file.
     Keep { file: &'a str },
+    /// What a client is shown of each message of this folder.
+    View { folder: &'a str },
 }
 
 impl<'a> Task<'a> {
@@ -35,6 +38,9 @@ impl<'a> Task<'a> {
         }
         if name == "keep" {
             return Some(Task::Keep { file: value });
+        }
+        if name == "view" {
+            return Some(Task::View { folder: value });
         }
         None
     }

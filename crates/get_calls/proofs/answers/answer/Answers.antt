@@ -1,5 +1,5 @@
 use Rattle.std.proofs.Common.{◌≤◌, ◌∙◌, subst, sym, ap, map, option_map}
-use Rattle.get_calls.specs.Get.{got}
+use Rattle.mail_view.specs.Gets.{got}
 use Rattle.get_calls.proofs.Answered.{answered}
 use Rattle.get_calls.proofs.answers.answer.Goals as goal
 

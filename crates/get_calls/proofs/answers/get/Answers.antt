@@ -4,7 +4,7 @@ use Rattle.jm_json.specs.Json.{tree_of}
 use Rattle.mail_records.specs.States.{state_of}
 use Rattle.state_log.proofs.Agreement.{state_of-log}
 use Rattle.get_calls.specs.Explained.{Explains}
-use Rattle.get_calls.specs.Get.{get_in, get_mailboxes, got}
+use Rattle.mail_view.specs.Gets.{get_in, get_mailboxes, got}
 use Rattle.get_calls.proofs.answers.get.Goals as goal
 
 pub returns : goal.returns

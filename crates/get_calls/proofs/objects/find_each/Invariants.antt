@@ -2,8 +2,8 @@ use Rattle.std.proofs.Common.{◌≡◌, ℕ, List, map, take}
 use Rattle.std.specs.Str.{bytes_eq}
 use Rattle.std.specs.HashSet as bag
 use Rattle.jm_json.specs.Tree.{text}
-use Rattle.get_calls.specs.Arguments.{is_among}
-use Rattle.get_calls.specs.Mailboxes.{first_mentions, mailboxes_named, naming_none}
+use Rattle.mail_view.specs.Selections.{is_among}
+use Rattle.mail_view.specs.Mailboxes.{first_mentions, mailboxes_named, naming_none}
 use Rattle.get_calls.specs.Parts.{mailbox_without}
 use Rattle.get_calls.proofs.objects.find_each.Given as goal
 

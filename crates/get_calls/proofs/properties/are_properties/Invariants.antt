@@ -1,7 +1,7 @@
 use Rattle.std.proofs.Common.{◌≡◌, map, drop}
 use Rattle.std.specs.List.{list_all}
-use Rattle.get_calls.specs.Arguments.{is_among}
-use Rattle.get_calls.specs.Mailboxes.{mailbox_properties}
+use Rattle.mail_view.specs.Selections.{is_among}
+use Rattle.mail_view.specs.Mailboxes.{mailbox_properties}
 use Rattle.get_calls.proofs.properties.are_properties.Given as goal
 
 abbrev pub invariant-loop-name : goal.invariant-loop-name

@@ -1,5 +1,5 @@
 use Rattle.std.proofs.Common.{◌≡◌, map, drop}
-use Rattle.get_calls.specs.Arguments.{is_among}
+use Rattle.mail_view.specs.Selections.{is_among}
 use Rattle.get_calls.proofs.properties.is_shown.Given as goal
 
 abbrev pub invariant-loop-name : goal.invariant-loop-name

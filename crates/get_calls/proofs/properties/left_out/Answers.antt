@@ -1,5 +1,5 @@
 use Rattle.std.proofs.Common.{◌≡◌, ◌∙◌, sym, ap, map, option_map, Some}
-use Rattle.get_calls.specs.Arguments.{names_in}
+use Rattle.mail_view.specs.Selections.{names_in}
 use Rattle.get_calls.specs.Parts.{left_out}
 use Rattle.get_calls.proofs.properties.left_out.Goals as goal
 

@@ -1,0 +1,35 @@
+// What `read` shows of a message, as a line of JSON.
+ghost use Rattle.std.specs.Prelude.{◌≡◌, IfOk};
+ghost use Rattle.jm_json.specs.Json.{tree_of as json_of};
+ghost use Rattle.jmap_main.specs.Batch.{line_text};
+ghost use Rattle.jmap_main.specs.Read.{read_tree, read_out};
+
+use jm_base::{Bytes, NoMemory};
+use jm_json::{Json, write_after};
+use mail_view::{view, wanted_for_read};
+use std::alloc::Global;
+
+/// The line of a message: what a client is shown of it where it asks for no properties, its structure, and the texts that are
+/// shown as plain text.
+pub(crate) fn message_line(alloc: Global, message: &[u8]) -> Result<Bytes, NoMemory>
+    ensures { IfOk result (λ b. b ≡ read_out message.now) }
+{
+    let tree = message_tree(alloc, message)?;
+    json_line(alloc, &tree)
+}
+
+fn json_line(alloc: Global, tree: &Json) -> Result<Bytes, NoMemory>
+    ensures { IfOk result (λ b. b ≡ line_text (json_of tree.now)) }
+{
+    let mut line = Bytes::new(alloc);
+    write_after(alloc, &mut line, tree)?;
+    line.append(b"\n")?;
+    Ok(line)
+}
+
+fn message_tree(alloc: Global, message: &[u8]) -> Result<Json, NoMemory>
+    ensures { IfOk result (λ t. json_of t ≡ read_tree message.now) }
+{
+    let wanted = wanted_for_read(alloc)?;
+    view(alloc, message, b"b1", None, &wanted)
+}

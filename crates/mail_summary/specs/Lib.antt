@@ -1,0 +1,9 @@
+pub mod Shown
+pub mod Leaves
+pub mod Texts
+pub mod Subjects
+pub mod Links
+pub mod Received
+pub mod States
+pub mod Summaries
+pub mod Values

@@ -1,0 +1,116 @@
+// The text of a part's body, and a body value.
+ghost use Rattle.std.specs.Prelude.{◌≡◌, length, IfOk, string_bytes};
+ghost use Rattle.mime_codec.specs.Decoded.{decoded};
+ghost use Rattle.mime_type.specs.Joined.{node_of};
+ghost use Rattle.mime_tree.specs.Places.{IsPlaced};
+ghost use Rattle.mime_words.specs.Charsets.{charset_named, text_of, has_problem};
+ghost use Rattle.mail_summary.specs.Leaves.{body_bytes};
+ghost use Rattle.mail_summary.specs.Texts;
+ghost use Rattle.mail_summary.specs.Texts.{body_text, body_value};
+ghost use Rattle.mail_summary.specs.Values.{value_of};
+
+use crate::texts_lines::with_line_feeds_of;
+use jm_base::{NoMemory, Text};
+use mime_codec::{Coding, decode};
+use mime_type::Part;
+use mime_words::{Decoded, decode_charset};
+use std::alloc::Global;
+
+/// The text of a leaf's body (RFC 8621, section 4.1.4: EmailBodyValue).
+#[derive(Debug, Drop)]
+pub struct BodyValue {
+    /// The text in Unicode, with LF for each CRLF.
+    pub text: Text,
+    /// Whether its bytes weren't what their charset allows, or the charset or the transfer encoding isn't known.
+    pub problem: bool,
+    /// Whether the text goes on behind the bytes that were asked for.
+    pub truncated: bool,
+}
+
+/// Whether a transfer encoding isn't known.
+fn is_unknown(coding: Coding) -> bool
+    ensures { result ≡ Texts.is_unknown coding }
+{
+    match coding {
+        Coding::Unknown => true,
+        Coding::Plain | Coding::Quoted | Coding::Base64 => false,
+    }
+}
+
+/// The charset of a part, or us-ascii, where it says none.
+fn charset_name(part: &Part) -> &[u8]
+    ensures { result.now ≡ Texts.charset_name (node_of part.now) }
+{
+    match &part.charset {
+        Some(name) => name.as_bytes(),
+        None => b"us-ascii",
+    }
+}
+
+/// The text that a body of this coding and charset stands for.
+fn read_text(
+    alloc: Global,
+    coding: Coding,
+    charset: &[u8],
+    body: &[u8],
+) -> Result<Decoded, NoMemory>
+    ensures text { IfOk result (λ d. d.text ≡ text_of (charset_named charset.now) (decoded coding body.now)) }
+    ensures problem { IfOk result (λ d. d.problem ≡ has_problem (charset_named charset.now) (decoded coding body.now)) }
+{
+    match coding {
+        Coding::Plain | Coding::Unknown => decode_charset(alloc, charset, body),
+        Coding::Quoted | Coding::Base64 => {
+            let bytes = decode(alloc, coding, body)?;
+            decode_charset(alloc, charset, bytes.as_slice())
+        }
+    }
+}
+
+/// The text of a part's body, and whether its charset or its bytes are a problem.
+pub(crate) fn read_body_text(alloc: Global, bytes: &[u8], part: &Part) -> Result<Decoded, NoMemory>
+    requires { IsPlaced (length bytes.now) (node_of part.now) }
+    ensures text { IfOk result (λ d. d.text ≡ body_text bytes.now (node_of part.now)) }
+    ensures problem { IfOk result (λ d. d.problem ≡ has_problem (charset_named (Texts.charset_name (node_of part.now))) (body_bytes bytes.now (node_of part.now))) }
+{
+    let body = &bytes[part.body as usize..part.end as usize];
+    read_text(alloc, part.coding, charset_name(part), body)
+}
+
+/// Whether a text has more bytes than this; 0 stands for all.
+fn is_cut(most: u64, text: &str) -> bool
+    ensures { result ≡ Texts.is_cut most text.now }
+{
+    most != 0 && most < text.len() as u64
+}
+
+/// Cuts a text to at most so many bytes, before a character that doesn't fit; 0 stands for all.
+fn cut(most: u64, text: &mut String)
+    ensures { string_bytes text.new ≡ Texts.cut_to most (string_bytes text.old) }
+{
+    if is_cut(most, text.as_str()) {
+        let end = text.as_str().floor_char_boundary(most as usize);
+        text.truncate(end);
+    }
+}
+
+/// The text of a leaf, cut to at most `most` bytes, where that isn't 0 (RFC 8621, section 4.2: bodyValues and
+/// maxBodyValueBytes).
+pub fn body_value_of(
+    alloc: Global,
+    bytes: &[u8],
+    part: &Part,
+    most: u64,
+) -> Result<BodyValue, NoMemory>
+    requires { IsPlaced (length bytes.now) (node_of part.now) }
+    ensures { IfOk result (λ v. value_of v ≡ body_value bytes.now most (node_of part.now)) }
+{
+    let Decoded { text, problem } = read_body_text(alloc, bytes, part)?;
+    let mut text = with_line_feeds_of(alloc, text.as_str())?;
+    let truncated = is_cut(most, text.as_str());
+    cut(most, &mut text);
+    Ok(BodyValue {
+        text: Text::from_string(text),
+        problem: is_unknown(part.coding) || problem,
+        truncated,
+    })
+}

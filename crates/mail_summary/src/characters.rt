@@ -1,0 +1,109 @@
+// Texts as lists of characters.
+ghost use Rattle.std.specs.Prelude.{◌≡◌, ◌++◌, ◌∷◌, List, ℕ, take, map, IfOk, string_bytes};
+ghost use Rattle.std.specs.Char.{to_ascii_lowercase};
+ghost use Rattle.std.specs.Str.{chars, encode_utf8_all};
+ghost use Rattle.mail_summary.specs.Texts;
+ghost use Rattle.mail_summary.specs.Texts.{behind, brief, spaced};
+
+use jm_base::{NoMemory, Text};
+use std::alloc::Global;
+
+/// How many characters of a text are kept.
+const MOST: usize = 256;
+
+pub fn characters(alloc: Global, text: &str) -> Result<Vec<char>, NoMemory>
+    ensures { IfOk result (λ cs. cs.items ≡ chars text.now) }
+{
+    Ok(text.chars().collect(alloc)?)
+}
+
+pub fn lower(alloc: Global, text: &[char]) -> Result<Vec<char>, NoMemory>
+    ensures { IfOk result (λ cs. cs.items ≡ map to_ascii_lowercase text.now) }
+{
+    let mut out = Vec::with_capacity(alloc, text.len())?;
+    for c in text {
+        out.push(c.to_ascii_lowercase())?;
+    }
+    Ok(out)
+}
+
+fn front(text: &[char]) -> &[char]
+    ensures { result.now ≡ take 256 text.now }
+{
+    if text.len() > MOST {
+        &text[..MOST]
+    } else {
+        text
+    }
+}
+
+fn encode(alloc: Global, text: &[char]) -> Result<String, NoMemory>
+    ensures { IfOk result (λ s. string_bytes s ≡ encode_utf8_all text.now) }
+{
+    let mut out = String::new(alloc);
+    for c in text {
+        out.push(*c)?;
+    }
+    Ok(out)
+}
+
+/// A text of the first 256 characters.
+pub fn brief_of(alloc: Global, text: &[char]) -> Result<Text, NoMemory>
+    ensures { IfOk result (λ t. t ≡ brief text.now) }
+{
+    Ok(Text::from_string(encode(alloc, front(text))?))
+}
+
+/// The first 256 characters of a text.
+pub fn brief_text(alloc: Global, text: &str) -> Result<Text, NoMemory>
+    ensures { IfOk result (λ t. t ≡ brief (chars text.now)) }
+{
+    let all = characters(alloc, text)?;
+    brief_of(alloc, all.as_slice())
+}
+
+/// Adds a character, behind a space where there is a gap before it; tells whether there is one behind it.
+fn push_spaced(out: &mut Vec<char>, gap: bool, c: char) -> Result<bool, NoMemory>
+    ensures { (later : List ℕ) → IfOk result (λ g. out.new.items ++ behind g (spaced later) ≡ out.old.items ++ behind gap (spaced (c ∷ later))) }
+{
+    if c.is_ascii_whitespace() {
+        return Ok(true);
+    }
+    if !gap {
+        out.push(c)?;
+        return Ok(false);
+    }
+    out.push(' ')?;
+    out.push(c)?;
+    Ok(false)
+}
+
+/// One space for each run of white space, and none at the end.
+pub fn space_out(alloc: Global, text: &[char]) -> Result<Vec<char>, NoMemory>
+    ensures { IfOk result (λ cs. cs.items ≡ spaced text.now) }
+{
+    let mut out = Vec::new(alloc);
+    let mut gap = false;
+    for c in text {
+        gap = push_spaced(&mut out, gap, *c)?;
+    }
+    Ok(out)
+}
+
+/// Without a space at the beginning.
+fn after_space(text: &[char]) -> &[char]
+    ensures { result.now ≡ Texts.without_space text.now }
+{
+    match text.split_first() {
+        Some((c, after)) => { if *c == ' ' { after } else { text } }
+        None => text,
+    }
+}
+
+/// A text of at most 256 characters, with one space for each run of white space and none at either end.
+pub fn brief_spaced(alloc: Global, text: &[char]) -> Result<Text, NoMemory>
+    ensures { IfOk result (λ t. t ≡ brief (Texts.one_spaced text.now)) }
+{
+    let out = space_out(alloc, text)?;
+    brief_of(alloc, after_space(out.as_slice()))
+}

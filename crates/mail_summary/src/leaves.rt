@@ -1,0 +1,124 @@
+// The leaves of a message by their numbers.
+ghost use Rattle.std.specs.Prelude.{◌≡◌, ◌≤◌, length, find, option_map, IfOk};
+ghost use Rattle.std.specs.List.{list_any};
+ghost use Rattle.mime_type.specs.Forest.{none};
+ghost use Rattle.mime_type.specs.Joined.{node_of, tree_of, joined};
+ghost use Rattle.mime_tree.specs.Kept.{walked};
+ghost use Rattle.mime_tree.specs.Places.{IsPlaced};
+ghost use Rattle.mail_summary.specs.Leaves;
+ghost use Rattle.mail_summary.specs.Leaves.{body_bytes, first_text, leaf_numbered, part_bytes_of, has_attachment_in, shows_attachment};
+ghost use Rattle.mail_summary.specs.Shown.{node_in};
+
+use body_lists::lists;
+use jm_base::{Bytes, NoMemory};
+use mime_codec::decode;
+use mime_tree::parts;
+use mime_type::Part;
+use std::alloc::Global;
+
+fn has_number(part: &Part, number: u64) -> bool
+    ensures { result ≡ Leaves.has_number number (node_of part.now) }
+{
+    match part.number {
+        Some(n) => n == number,
+        None => false,
+    }
+}
+
+/// The leaf with this number, of a part and those within it.
+#[cycle(leaf)]
+pub fn leaf(part: &Part, number: u64) -> Option<&Part>
+    ensures { option_map node_in result ≡ leaf_numbered number (tree_of part.now none) }
+{
+    if has_number(part, number) {
+        return Some(part);
+    }
+    leaf_within(part.parts.as_slice(), number)
+}
+
+#[cycle(leaf)]
+fn leaf_within(parts: &[Part], number: u64) -> Option<&Part>
+    ensures { option_map node_in result ≡ leaf_numbered number (joined parts.now none) }
+{
+    for part in parts {
+        if let Some(found) = leaf(part, number) {
+            return Some(found);
+        }
+    }
+    None
+}
+
+/// The bytes that a part's body stands for.
+pub fn read_body(alloc: Global, bytes: &[u8], part: &Part) -> Result<Bytes, NoMemory>
+    requires { IsPlaced (length bytes.now) (node_of part.now) }
+    ensures { IfOk result (λ b. b ≡ body_bytes bytes.now (node_of part.now)) }
+{
+    decode(
+        alloc,
+        part.coding,
+        &bytes[part.body as usize..part.end as usize],
+    )
+}
+
+/// The bytes that the leaf with this number stands for (RFC 8621, section 4.1.4: blobId); none where no leaf has it.
+pub fn part_bytes(alloc: Global, bytes: &[u8], number: u64) -> Result<Option<Bytes>, NoMemory>
+    ensures { IfOk result (λ b. b ≡ part_bytes_of bytes.now number) }
+{
+    let root = parts(alloc, bytes)?;
+    match leaf(&root, number) {
+        Some(found) => Ok(Some(read_body(alloc, bytes, found)?)),
+        None => Ok(None),
+    }
+}
+
+fn is_inline(part: &Part) -> bool
+    ensures { result ≡ Leaves.is_inline part.now.disposition }
+{
+    match &part.disposition {
+        Some(disposition) => disposition.as_bytes() == b"inline".as_slice(),
+        None => false,
+    }
+}
+
+fn is_among(numbers: &[u64], number: Option<u64>) -> bool
+    ensures { result ≡ Leaves.is_among numbers.now number }
+{
+    match number {
+        Some(n) => numbers.contains(&n),
+        None => false,
+    }
+}
+
+/// Whether a part is one of these attachments and isn't inline.
+fn shows(attachments: &[u64], part: &Part) -> bool
+    ensures { result ≡ shows_attachment attachments.now (node_of part.now) }
+{
+    !is_inline(part) && is_among(attachments, part.number)
+}
+
+#[cycle(attached)]
+fn any_shows(attachments: &[u64], part: &Part) -> bool
+    ensures { result ≡ list_any (shows_attachment attachments.now) (walked (tree_of part.now none)) }
+{
+    shows(attachments, part) || any_shows_within(attachments, part.parts.as_slice())
+}
+
+#[cycle(attached)]
+fn any_shows_within(attachments: &[u64], parts: &[Part]) -> bool
+    ensures { result ≡ list_any (shows_attachment attachments.now) (walked (joined parts.now none)) }
+{
+    for part in parts {
+        if any_shows(attachments, part) {
+            return true;
+        }
+    }
+    false
+}
+
+/// Whether a message has an attachment that isn't inline (RFC 8621, section 4.1.4: hasAttachment).
+pub fn has_attachment(alloc: Global, root: &Part) -> Result<bool, NoMemory>
+    ensures { IfOk result (λ b. b ≡ has_attachment_in (tree_of root.now none)) }
+{
+    let found = lists(alloc, root)?;
+    Ok(any_shows(found.attachments.as_slice(), root))
+}

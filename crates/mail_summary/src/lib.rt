@@ -1,0 +1,24 @@
+//! What a message says without its view: its summary, the moment when it was received, the bytes of its leaves, and the
+//! texts of its bodies (RFC 8621, sections 4.1 and 4.2).
+#![tactic(auto)]
+
+mod body_value;
+mod characters;
+mod laws;
+mod leaves;
+mod links;
+mod preview;
+mod received;
+mod subjects;
+mod summary;
+mod texts_lines;
+mod texts_tags;
+#[cfg(test)]
+mod texts_tests;
+
+pub use body_value::{BodyValue, body_value_of};
+pub use laws::examples_of_texts;
+pub use leaves::{has_attachment, leaf, part_bytes, read_body};
+pub use preview::{first_text_of, preview_of};
+pub use received::received_of;
+pub use summary::summary_of;

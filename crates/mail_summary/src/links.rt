@@ -1,0 +1,84 @@
+// The identifiers by which a message is linked to others.
+ghost use Rattle.std.specs.Prelude.{◌≡◌, ◌≤◌, ◌++◌, ◌∷◌, [], take, drop, length, filter, MatchOption, IfOk, OnOk, All};
+ghost use Rattle.mail_records.specs.Commits.{TextsRise};
+ghost use Rattle.mime_lines.specs.Fields.{fields_of};
+ghost use Rattle.mime_lines.specs.Named.{IsWithin, last_value_of};
+ghost use Rattle.mail_summary.specs.Links;
+ghost use Rattle.mail_summary.specs.Links.{gathered, if_value, is_short, links, put_if_few};
+
+use header_forms::{angle_texts_of, on_one_line};
+use jm_base::{NoMemory, Text, Texts};
+use mime_lines::{FieldSpans, last_value};
+use std::alloc::Global;
+use std::cmp::Ordering;
+use std::collections::VecDeque;
+
+/// How many identifiers are kept.
+const LIMIT: usize = 100;
+
+/// How many bytes one has at most that links.
+const LONGEST: usize = 256;
+
+/// The place of a text among texts in byte order; none where it is there already.
+fn place_of(kept: &[Text], id: &Text) -> Option<usize>
+    ensures { MatchOption result (Links.put id.now kept.now ≡ kept.now) (λ i. (i ≤ length kept.now) × (Links.put id.now kept.now ≡ take i kept.now ++ id.now ∷ drop i kept.now)) }
+{
+    for (i, other) in kept.iter().enumerate() {
+        match id.as_bytes().cmp(other.as_bytes()) {
+            Ordering::Less => return Some(i),
+            Ordering::Equal => return None,
+            Ordering::Greater => {}
+        }
+    }
+    Some(kept.len())
+}
+
+/// Puts an identifier where it belongs, if it is short and fewer than the limit are there.
+fn put(kept: &mut Vec<Text>, id: Text) -> Result<(), NoMemory>
+    ensures { OnOk result (kept.new.items ≡ gathered kept.old.items (filter is_short (id ∷ []))) }
+{
+    if id.as_str().len() > LONGEST || kept.len() >= LIMIT {
+        return Ok(());
+    }
+    match place_of(kept.as_slice(), &id) {
+        Some(place) => Ok(kept.insert(place, id)?),
+        None => Ok(()),
+    }
+}
+
+fn put_all(kept: Vec<Text>, ids: Texts) -> Result<Vec<Text>, NoMemory>
+    ensures { IfOk result (λ all. all.items ≡ gathered kept.items (filter is_short ids)) }
+{
+    let mut kept = kept;
+    let mut rest = VecDeque::from_vec(ids.into_vec());
+    while let Some(id) = rest.pop_front() {
+        put(&mut kept, id)?;
+    }
+    Ok(kept)
+}
+
+/// The identifiers of the last field that has this name.
+fn ids_of(alloc: Global, bytes: &[u8], fields: &FieldSpans, name: &[u8]) -> Result<Texts, NoMemory>
+    requires { All (IsWithin bytes.now) fields.now }
+    ensures { IfOk result (λ ids. ids ≡ if_value (last_value_of bytes.now name.now fields.now)) }
+{
+    let Some(value) = last_value(bytes, fields, name) else {
+        return Ok(Texts::new(alloc));
+    };
+    let line = on_one_line(alloc, value)?;
+    angle_texts_of(alloc, line.as_str())
+}
+
+/// The identifiers that link a message whose header has these fields.
+pub(crate) fn links_of(alloc: Global, bytes: &[u8], fields: &FieldSpans) -> Result<Texts, NoMemory>
+    requires within { All (IsWithin bytes.now) fields.now }
+    requires fields { fields.now ≡ fields_of bytes.now }
+    ensures value { IfOk result (λ ids. ids ≡ links bytes.now) }
+{
+    let own = ids_of(alloc, bytes, fields, b"Message-ID")?;
+    let kept = put_all(Vec::new(alloc), own)?;
+    let parent = ids_of(alloc, bytes, fields, b"In-Reply-To")?;
+    let kept = put_all(kept, parent)?;
+    let others = ids_of(alloc, bytes, fields, b"References")?;
+    Ok(Texts::from_vec(put_all(kept, others)?))
+}

@@ -1,0 +1,44 @@
+-- The parts of a tree one after another.
+use Rattle.std.proofs.Common.{◌≡◌, ℕ, zero, suc, ◌<◌, ◌≤◌, List, [], ◌∷◌, ◌++◌, length, get_or, map, Option, Some, None, Bool, true, false, cond, refl, sym, ap, ◌∙◌, append_assoc, append-nil, arith}
+use Rattle.std.specs.Prelude.{find, IfSome}
+use denote.Ref.{Bor}
+use Rattle.mime_type.specs.Node.{Node}
+use Rattle.mime_type.specs.Forest.{Forest, none, part, forest_size}
+use Rattle.mime_type.specs.Joined.{tree_of, joined, node_of}
+use Rattle.mime_type.specs.declared.part.Part.{Part}
+use Rattle.mime_tree.specs.Kept.{walked}
+use Rattle.mime_tree.specs.Places.{AllPlaced, IsPlaced}
+use Rattle.mail_view.specs.Split.{ArePlaced, nodes_of}
+
+-- a part before others
+pub walked-tree_of : (p : Part) (later : Forest) → walked (tree_of p later) ≡ walked (tree_of p none) ++ walked later
+walked-tree_of p later =
+    ap (λ (xs : List Node). node_of p ∷ (xs ++ walked later)) (sym (append-nil (walked p.parts)))
+
+pub part_size : (ps : List Part) (i : ℕ) (d : Part) → i < length ps → forest_size (tree_of (get_or ps i d) none) ≤ forest_size (joined ps none)
+part_size [] i d h = absurd (omega arith)
+part_size (p ∷ ps) zero d h = omega arith
+part_size (p ∷ ps) (suc i) d h = omega (arith, part_size ps i d (omega arith))
+
+pub placed_part : (n : ℕ) (ps : List Part) (i : ℕ) (d : Part) → i < length ps → AllPlaced n (joined ps none) → AllPlaced n (tree_of (get_or ps i d) none)
+placed_part n [] i d h all = absurd (omega arith)
+placed_part n (p ∷ ps) zero d h all = (all.0, all.1, tt)
+placed_part n (p ∷ ps) (suc i) d h all = placed_part n ps i d (omega arith) all.2
+
+placed_both : (n : ℕ) (xs ys : List Node) → ArePlaced n xs → ArePlaced n ys → ArePlaced n (xs ++ ys)
+placed_both n [] ys h k = k
+placed_both n (x ∷ xs) ys h k = (h.0, placed_both n xs ys h.1 k)
+
+-- the places of the parts in walk order
+pub walked_placed : (n : ℕ) (f : Forest) → AllPlaced n f → ArePlaced n (walked f)
+walked_placed n none h = tt
+walked_placed n (part x inner later) h = (h.0, placed_both n (walked inner) (walked later) (walked_placed n inner h.1) (walked_placed n later h.2))
+
+pub found_placed : (n : ℕ) (test : Node → Bool) (xs : List Node) → ArePlaced n xs → IfSome (find test xs) (IsPlaced n)
+found_placed n test [] h = tt
+found_placed n test (x ∷ xs) h = elim (test x) as (λ v. IfSome (cond v (Some x) (find test xs)) (IsPlaced n)) [ true ↦ h.0 | false ↦ found_placed n test xs h.1 ]
+
+pub placed_at : (n : ℕ) (ps : List (Bor Part)) (i : ℕ) (d : Bor Part) → i < length ps → ArePlaced n (nodes_of ps) → IsPlaced n (node_of (get_or ps i d).now)
+placed_at n [] i d h all = absurd (omega arith)
+placed_at n (p ∷ ps) zero d h all = all.0
+placed_at n (p ∷ ps) (suc i) d h all = placed_at n ps i d (omega arith) all.1

@@ -1,0 +1,13 @@
+pub mod Names
+pub mod Split
+pub mod Arguments
+pub mod Explained
+pub mod Objects
+pub mod Headers
+pub mod Parts
+pub mod Values
+pub mod View
+pub mod Read
+pub mod Selections
+pub mod Mailboxes
+pub mod Gets

@@ -1,0 +1,165 @@
+// Body parts as they are shown (RFC 8621, section 4.1.4).
+ghost use Rattle.std.specs.Prelude.{◌≡◌, All, IfOk, length, map, option_map};
+ghost use Rattle.jm_json.specs.Json.{tree_of};
+ghost use Rattle.jm_json.specs.Tree.{text};
+ghost use Rattle.mime_lines.specs.Fields.{fields_of};
+ghost use Rattle.mime_lines.specs.Named.{IsWithin};
+ghost use Rattle.mime_tree.specs.Places.{IsPlaced};
+ghost use Rattle.mime_type.specs.Joined.{node_of};
+ghost use Rattle.mime_words.specs.Words.{decoded_words};
+ghost use Rattle.header_forms.specs.Forms;
+ghost use Rattle.mail_view.specs.Objects;
+ghost use Rattle.mail_view.specs.Parts;
+ghost use Rattle.mail_view.specs.Parts.{leaf_tree, part_bytes, part_tree, size_tree};
+
+use crate::headers::{header, headers};
+use crate::property::{AskedPart, PartProperty};
+use jm_base::{NoMemory, Text, Texts};
+use jm_json::{Items, Json, Members};
+use mime_codec::decoded_size;
+use mime_lines::{FieldSpans, fields};
+use mime_type::Part;
+use mime_words::decode_words;
+use std::alloc::Global;
+
+/// How the parts of a message are shown: its bytes, the identifier of the blob that holds them, and the properties that are
+/// asked for.
+#[derive(Clone, Copy)]
+pub(crate) struct Showing<'a> {
+    pub bytes: &'a [u8],
+    pub blob: &'a str,
+    pub asked: &'a [AskedPart],
+}
+
+/// A text, or null.
+pub(crate) fn text_or_null(text: &Option<Text>) -> Result<Json, NoMemory>
+    ensures { IfOk result (λ t. tree_of t ≡ Forms.text_or_null text.now) }
+{
+    match text {
+        Some(text) => Ok(Json::Text(text.copy()?)),
+        None => Ok(Json::Null),
+    }
+}
+
+/// A list of texts.
+pub(crate) fn text_items(alloc: Global, texts: &[Text]) -> Result<Items, NoMemory>
+    ensures { IfOk result (λ ts. ts ≡ map text texts.now) }
+{
+    let mut items = Items::with_room(alloc, texts.len())?;
+    for text in texts {
+        items.push(Json::Text(text.copy()?))?;
+    }
+    Ok(items)
+}
+
+fn texts_or_null(alloc: Global, texts: &Option<Texts>) -> Result<Json, NoMemory>
+    ensures { IfOk result (λ t. tree_of t ≡ Objects.texts_or_null texts.now) }
+{
+    match texts {
+        Some(texts) => Ok(Json::List(text_items(alloc, texts.as_slice())?)),
+        None => Ok(Json::Null),
+    }
+}
+
+fn decimal_or_null(alloc: Global, number: Option<u64>) -> Result<Json, NoMemory>
+    ensures { IfOk result (λ t. tree_of t ≡ Objects.decimal_or_null number) }
+{
+    match number {
+        Some(number) => {
+            let decimal = format!(in alloc; "{number}")?;
+            Ok(Json::Text(Text::from_string(decimal)))
+        }
+        None => Ok(Json::Null),
+    }
+}
+
+// The identifier of a leaf's bytes.
+fn leaf_blob(alloc: Global, blob: &str, number: Option<u64>) -> Result<Json, NoMemory>
+    ensures { IfOk result (λ t. tree_of t ≡ Parts.leaf_blob blob.now number) }
+{
+    match number {
+        Some(number) => {
+            let id = format!(in alloc; "{blob}-{number}")?;
+            Ok(Json::Text(Text::from_string(id)))
+        }
+        None => Ok(Json::Null),
+    }
+}
+
+// The name of a file, with its encoded words decoded.
+fn decoded_name(alloc: Global, name: &Option<Text>) -> Result<Json, NoMemory>
+    ensures { IfOk result (λ t. tree_of t ≡ Forms.text_or_null (option_map decoded_words name.now)) }
+{
+    match name {
+        Some(name) => Ok(Json::Text(decode_words(alloc, name.as_bytes())?)),
+        None => Ok(Json::Null),
+    }
+}
+
+// How many bytes the body of a part stands for.
+fn size(bytes: &[u8], part: &Part) -> Json
+    requires { IsPlaced (length bytes.now) (node_of part.now) }
+    ensures { tree_of result ≡ size_tree bytes.now (node_of part.now) }
+{
+    let body = &bytes[part.body as usize..part.end as usize];
+    Json::Int(decoded_size(part.coding, body) as i64)
+}
+
+// A property of a part; `own` are its bytes, whose fields were found.
+fn part_property(
+    alloc: Global,
+    showing: &Showing<'_>,
+    part: &Part,
+    own: &[u8],
+    fields: &FieldSpans,
+    property: &PartProperty,
+) -> Result<Json, NoMemory>
+    requires placed { IsPlaced (length showing.now.bytes.now) (node_of part.now) }
+    requires own { own.now ≡ part_bytes showing.now.bytes.now (node_of part.now) }
+    requires found { fields.now ≡ fields_of own.now }
+    requires within { All (IsWithin own.now) fields.now }
+    ensures { IfOk result (λ t. tree_of t ≡ part_tree showing.now.bytes.now showing.now.blob.now (node_of part.now) property.now) }
+{
+    match property {
+        PartProperty::PartId => decimal_or_null(alloc, part.number),
+        PartProperty::BlobId => leaf_blob(alloc, showing.blob, part.number),
+        PartProperty::Size => Ok(size(showing.bytes, part)),
+        PartProperty::Header(asked) => header(alloc, own, fields, asked),
+        PartProperty::Headers => headers(alloc, own, fields),
+        PartProperty::Name => decoded_name(alloc, &part.name),
+        PartProperty::MediaType => Ok(Json::Text(part.media.copy()?)),
+        PartProperty::Charset => text_or_null(&part.charset),
+        PartProperty::Disposition => text_or_null(&part.disposition),
+        PartProperty::Cid => text_or_null(&part.cid),
+        PartProperty::Language => texts_or_null(alloc, &part.language),
+        PartProperty::Location => text_or_null(&part.location),
+        PartProperty::SubParts => Ok(Json::Null),
+    }
+}
+
+/// The properties of a part that are asked for.
+pub(crate) fn part_members(
+    alloc: Global,
+    showing: &Showing<'_>,
+    part: &Part,
+) -> Result<Members, NoMemory>
+    requires { IsPlaced (length showing.now.bytes.now) (node_of part.now) }
+    ensures { IfOk result (λ ms. ms ≡ Parts.part_members showing.now.bytes.now showing.now.blob.now showing.now.asked.now (node_of part.now)) }
+{
+    let own = &showing.bytes[part.start as usize..part.end as usize];
+    let head = fields(alloc, own)?;
+    let mut members = Members::with_room(alloc, showing.asked.len())?;
+    for asked in showing.asked {
+        let value = part_property(alloc, showing, part, own, &head.fields, &asked.property)?;
+        members.put(asked.name.copy()?, value)?;
+    }
+    Ok(members)
+}
+
+/// A leaf in a list of parts.
+pub(crate) fn leaf(alloc: Global, showing: &Showing<'_>, part: &Part) -> Result<Json, NoMemory>
+    requires { IsPlaced (length showing.now.bytes.now) (node_of part.now) }
+    ensures { IfOk result (λ t. tree_of t ≡ leaf_tree showing.now.bytes.now showing.now.blob.now showing.now.asked.now (node_of part.now)) }
+{
+    Ok(Json::Object(part_members(alloc, showing, part)?))
+}

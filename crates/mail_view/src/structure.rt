@@ -1,0 +1,53 @@
+// The parts of a message as a tree (RFC 8621, section 4.1.4: bodyStructure).
+ghost use Rattle.std.specs.Prelude.{◌≡◌, ◌∷◌, [], IfOk, length};
+ghost use Rattle.jm_json.specs.Json.{tree_of as json_of};
+ghost use Rattle.mime_tree.specs.Places.{AllPlaced};
+ghost use Rattle.mime_type.specs.Forest.{none};
+ghost use Rattle.mime_type.specs.Joined.{joined, node_of, tree_of};
+ghost use Rattle.mail_view.specs.Parts;
+
+use crate::part::{Showing, part_members};
+use jm_base::NoMemory;
+use jm_json::{Items, Json, Members};
+use mime_type::Part;
+use std::alloc::Global;
+
+// The members of a part, of a multipart with the parts within it.
+fn with_parts(
+    alloc: Global,
+    part: &Part,
+    inner: Items,
+    members: Members,
+) -> Result<Members, NoMemory>
+    ensures { IfOk result (λ ms. ms ≡ Parts.with_parts (node_of part.now) inner members) }
+{
+    let mut members = members;
+    if part.boundary.is_none() {
+        return Ok(members);
+    }
+    members.set(alloc, "subParts", Json::List(inner))?;
+    Ok(members)
+}
+
+/// A part with those within it. Multiparts nest at most 32 deep.
+#[cycle(structure)]
+pub(crate) fn structure(alloc: Global, showing: &Showing<'_>, part: &Part) -> Result<Json, NoMemory>
+    requires { AllPlaced (length showing.now.bytes.now) (tree_of part.now none) }
+    ensures { IfOk result (λ t. Parts.structures showing.now.bytes.now showing.now.blob.now showing.now.asked.now (tree_of part.now none) ≡ json_of t ∷ []) }
+{
+    let inner = structures(alloc, showing, part.parts.as_slice())?;
+    let members = part_members(alloc, showing, part)?;
+    Ok(Json::Object(with_parts(alloc, part, inner, members)?))
+}
+
+#[cycle(structure)]
+fn structures(alloc: Global, showing: &Showing<'_>, parts: &[Part]) -> Result<Items, NoMemory>
+    requires { AllPlaced (length showing.now.bytes.now) (joined parts.now none) }
+    ensures { IfOk result (λ ts. ts ≡ Parts.structures showing.now.bytes.now showing.now.blob.now showing.now.asked.now (joined parts.now none)) }
+{
+    let mut items = Items::with_room(alloc, parts.len())?;
+    for part in parts {
+        items.push(structure(alloc, showing, part)?)?;
+    }
+    Ok(items)
+}
