@@ -126,3 +126,22 @@ def make(folder, count=1000, seed=1):
         (folder / f"{number:06}.eml").write_bytes(made)
         held += len(made)
     return held
+
+
+def long_message(kind, count):
+    """One message that grows with the count, in one of the ways of LONG."""
+    if kind == "addresses":
+        return ("To: " + ",\r\n ".join(f"Name {n} <user{n}@mail.example>" for n in range(count * 25)) + "\r\n\r\nhi\r\n").encode()
+    if kind == "parts":
+        return multipart("mixed", "b", [part("text/plain", f"text {n}") for n in range(count // 4)]).encode()
+    if kind == "nested":
+        body = part("text/plain", "text\r\n" * count * 40)
+        for depth in range(30):
+            body = multipart("mixed", f"b{depth}", [body])
+        return body.encode()
+    if kind == "html":
+        return part("text/html; charset=utf-8", "<p>some < text\r\n" * count * 60).encode()
+    return part("text/plain; charset=utf-8", "=C3=A9t=C3=A9 and some more text =\r\n" * count * 60, "quoted-printable").encode()
+
+
+LONG = ("addresses", "parts", "nested", "html", "quoted")
