@@ -301,5 +301,9 @@ fn many_addresses(rt: HostRuntime) -> Result<(), Fail> {
     line.push_str(" G: B <b@y>;")?;
     let addresses = addresses_of(rt.alloc(), line.as_str())?;
     assert!(rt; is_list(&addresses, 100_001, "b@y"));
+    let tree = form_of(rt.alloc(), line.as_bytes(), Form::Addresses)?;
+    let shown = write(rt.alloc(), &tree)?;
+    // Two brackets, and objects of 27 and 26 bytes with a comma behind each but the last.
+    assert!(rt; shown.len() == 2 + 100_000 * 28 + 26);
     Ok(())
 }
