@@ -38,7 +38,7 @@ in_part Plain m = not (is_comment m.place)
 in_part Phrase m = m.said && not (is_comment m.place)
 in_part Remark m = m.said && is_comment m.place
 
--- the text of a part of an item
+-- the text of a part of an item: `Phrase` is what a display-name says, `Remark` what a comment says
 abbrev pub spelled : Part → List Mark → List ℕ
 spelled part ms = encode_utf8_all (map (λ m. m.character) (filter (in_part part) ms))
 
@@ -51,7 +51,7 @@ closes_bracket m = is_bracket m.place && (not m.said && m.character == 62)
 abbrev pub has_bracket : List Mark → Bool
 has_bracket ms = nat_lt (position_or_len opens_bracket ms) (length ms)
 
--- what stands in the first bracket of an item, to the item's end where it isn't closed
+-- what stands in the first bracket of an item (angle-addr), to the item's end where it isn't closed
 abbrev pub within_bracket : List Mark → List Mark
 within_bracket ms = before_first closes_bracket (after_first opens_bracket ms)
 
@@ -71,8 +71,8 @@ abbrev pub or_else : Option (List ℕ) → Option (List ℕ) → Option (List �
 or_else None other = other
 or_else (Some text) other = Some text
 
--- the name before a bracket: what is said there outside comments, without the signs of quoting. An item without a bracket
--- has none there.
+-- the name before a bracket (display-name): what is said there outside comments, without the signs of quoting. An item without
+-- a bracket has none there.
 abbrev pub name_before : List Mark → Option (List ℕ)
 name_before ms = if has_bracket ms then if_some (phrase_of Phrase (before_first opens_bracket ms)) else None
 

@@ -100,7 +100,7 @@ abbrev pub value_from : ℕ → List ℕ → ℕ
 value_from n [] = n
 value_from n (b ∷ bs) = value_from (n * 10 + (b - 48)) bs
 
--- the number that this many digits or so are
+-- the number that digits are, from `least` to `most` of them
 abbrev pub number_in : ℕ → ℕ → List ℕ → Option ℕ
 number_in least most word =
     if list_all is_ascii_digit word && (nat_le least (length word) && nat_le (length word) most) then Some (value_from 0 word) else None
@@ -216,9 +216,9 @@ moment_seconds m =
     -ℤ offset_seconds m.offset
 
 -- the moments of the years 0001 to 9999 (RFC 8620, section 1.4)
-abbrev pub if_kept : ℤ → Option UtcDate
-if_kept seconds = if int_le (negsuc 62135596799) seconds && int_le seconds (pos 253402300799) then Some (record { seconds = seconds }) else None
+abbrev pub if_in_range : ℤ → Option UtcDate
+if_in_range seconds = if int_le (negsuc 62135596799) seconds && int_le seconds (pos 253402300799) then Some (record { seconds = seconds }) else None
 
 -- the moment that a value on one line says, if it says one of these
 abbrev pub utc_of : List ℕ → Option UtcDate
-utc_of text = moment_in text >>= (λ m. if_kept (moment_seconds m))
+utc_of text = moment_in text >>= (λ m. if_in_range (moment_seconds m))

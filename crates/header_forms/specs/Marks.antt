@@ -1,6 +1,7 @@
 -- The characters of a list of addresses, each with where it stands (RFC 5322, sections 3.2 and 3.4). A `Mark` is such a
--- character. It is said unless it only opens, closes or quotes: a quote mark, the parentheses round a comment, an angle
--- bracket, and the backslash before a character between quote marks or in a comment.
+-- character; it stands in a quoted-string (`Quoted`), in a comment (`Comment`), in an angle-addr (`Bracket`) or outside these
+-- (`Bare`). It is said unless it only opens, closes or quotes: a quote mark, the parentheses round a comment, an angle bracket,
+-- and the backslash before a character between quote marks or in a comment.
 use Rattle.std.specs.Prelude.{ℕ, ◌+◌, ◌-◌, Bool, true, false, ◌==◌, nat_le, List, [], ◌∷◌, if◌then◌else◌}
 use Rattle.std.specs.Str.{chars}
 use Rattle.header_forms.specs.declared.marks.Place.{Place}

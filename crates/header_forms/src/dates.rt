@@ -60,8 +60,8 @@ fn seconds_of(moment: &Moment) -> i64
 }
 
 /// The moment, if it is of the years 0001 to 9999.
-fn if_kept(seconds: i64) -> Option<UtcDate>
-    ensures value { result ≡ Dates.if_kept seconds }
+fn if_in_range(seconds: i64) -> Option<UtcDate>
+    ensures value { result ≡ Dates.if_in_range seconds }
     ensures kept { IfSome result IsMoment }
 {
     if -62135596800 <= seconds && seconds <= 253402300799 {
@@ -78,5 +78,5 @@ pub fn moment_of(text: &[u8]) -> Option<UtcDate>
     ensures kept { IfSome result IsMoment }
 {
     let moment = read_moment(text)?;
-    if_kept(seconds_of(&moment))
+    if_in_range(seconds_of(&moment))
 }

@@ -153,7 +153,7 @@ fn if_some(text: Text) -> Option<Text>
     Some(text)
 }
 
-/// The name before the bracket of an item.
+/// The name before the bracket of an item (display-name).
 fn name_before(alloc: Global, item: &[Mark]) -> Result<Option<Text>, NoMemory>
     ensures { IfOk result (λ n. n ≡ Addresses.name_before item.now) }
 {

@@ -5,11 +5,11 @@
 pub enum Place {
     /// Outside the other three.
     Bare,
-    /// Between quote marks.
+    /// Between quote marks, with these (quoted-string; RFC 5322, section 3.2.4).
     Quoted,
-    /// In a comment, with its parentheses.
+    /// In a comment, with its parentheses (RFC 5322, section 3.2.2).
     Comment,
-    /// In an angle bracket, with the brackets.
+    /// In an angle bracket, with the brackets (angle-addr; RFC 5322, section 3.4).
     Bracket,
 }
 
@@ -64,8 +64,8 @@ pub enum Part {
     Whole,
     /// Those outside comments.
     Plain,
-    /// What is said outside comments.
+    /// What is said outside comments: of what stands before a bracket or a group's colon this is the display-name.
     Phrase,
-    /// What is said in comments.
+    /// What is said in comments (comment; RFC 5322, section 3.2.2).
     Remark,
 }

@@ -1,4 +1,5 @@
--- Encoded words in a text (RFC 2047): =?charset?coding?text?=
+-- Encoded words in a text: an encoded-word is =?charset?encoding?encoded-text?= (RFC 2047, section 2). Its encoding is called
+-- coding here.
 use Rattle.std.specs.Prelude.{ℕ, zero, suc, ◌-◌, Bool, true, false, ◌&&◌, ◌||◌, not, ◌==◌, nat_lt, nat_le, List, [], ◌∷◌, ◌++◌, length, map, filter, Option, Some, None, if◌then◌else◌}
 use Rattle.std.specs.List.{list_all, list_any, position_or_len, before_first, after_first}
 use Rattle.std.specs.Char.{is_ascii_whitespace, is_ascii_control}
@@ -26,7 +27,7 @@ abbrev pub at_question : List ℕ → Option (List ℕ × List ℕ)
 at_question text =
     if nat_lt (position_or_len is_question text) (length text) then Some (before_first is_question text, after_first is_question text) else None
 
--- the pieces of a word, and the text behind it
+-- the pieces of an encoded-word (its charset, its encoding and its encoded-text), and the text behind it
 pub record Shape : Type 0 where
   pub charset : List ℕ
   pub coding : List ℕ
@@ -48,7 +49,7 @@ shape_at text = do
 abbrev pub spaced : ℕ → ℕ
 spaced b = if b == 95 then 32 else b
 
--- the bytes that a text stands for in the coding of this letter
+-- the bytes that an encoded-text stands for in the coding of this letter
 abbrev pub bytes_by : ℕ → List ℕ → Option (List ℕ)
 bytes_by letter encoded =
     if letter == 66 || letter == 98 then Some (base64 encoded)
@@ -71,7 +72,8 @@ meaning s = do
   bytes ← coded_bytes s.coding s.encoded
   Some (without_controls (text_in charset bytes))
 
--- a word has at most 75 characters, and no white space (RFC 2047, section 2)
+-- a word has at most 75 bytes from its first sign to its last, and no white space (RFC 2047, section 2, counts characters, which
+-- are of ASCII there and so bytes)
 abbrev pub is_good : List ℕ → Shape → Bool
 is_good text s = nat_le (length text - length s.rest) 75 && not (list_any is_ascii_whitespace s.encoded)
 
@@ -107,7 +109,8 @@ cut_after [] left = plain []
 cut_after (b ∷ bs) (suc left) = cut_after bs left
 cut_after (b ∷ bs) zero = cut_at b bs (word_at (b ∷ bs)) (cut_after bs)
 
--- words are looked for from the front, and none begins within another
+-- words are looked for from the front, and none begins within a decoded one. Behind the first byte of one that stays the next
+-- may begin, also with that one's last sign.
 abbrev pub cut : List ℕ → Cut
 cut text = cut_after text zero
 

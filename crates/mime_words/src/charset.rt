@@ -98,8 +98,9 @@ fn is_broken(charset: Charset, bytes: &[u8]) -> bool
     }
 }
 
-/// The text that bytes make in the charset of this name, in either case: `utf-8`, `us-ascii` or `iso-8859-1`. In any
-/// other what is ASCII is read.
+/// The text that bytes make in the charset of this name, in either case: `utf-8`, `us-ascii` or `iso-8859-1`. Sequences that
+/// are no UTF-8, and in us-ascii each byte above 127, become U+FFFD and are a problem (RFC 8621, section 4.1.4). Any other
+/// charset is read as us-ascii and is a problem by itself. It fails where there is no memory, and else never.
 pub fn decode_charset(alloc: Global, charset: &[u8], bytes: &[u8]) -> Result<Decoded, NoMemory>
     ensures text { IfOk result (λ d. d.text ≡ text_of (Rattle.mime_words.specs.Charsets.charset_named charset.now) bytes.now) }
     ensures problem { IfOk result (λ d. d.problem ≡ has_problem (Rattle.mime_words.specs.Charsets.charset_named charset.now) bytes.now) }

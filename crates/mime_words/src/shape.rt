@@ -1,13 +1,15 @@
-// The pieces of an encoded word: =?charset?coding?text?= (RFC 2047, section 2).
+// The pieces of an encoded-word: =?charset?encoding?encoded-text?= (RFC 2047, section 2).
 ghost use Rattle.std.specs.Prelude.{◌≡◌, ◌<◌, ◌≤◌, ◌∷◌, length, option_map, IfSome};
 ghost use Rattle.mime_words.specs.Words.{after_sign, at_question, shape_at};
 ghost use Rattle.mime_words.specs.Views.{halves, shape_of};
 
-/// The pieces of a word, and the text behind it.
+/// The pieces of an encoded-word, and the text behind it.
 #[derive(Clone, Copy)]
 pub struct Shape<'a> {
     pub charset: &'a str,
+    /// The encoding.
     pub coding: &'a str,
+    /// The encoded-text.
     pub encoded: &'a str,
     pub rest: &'a str,
 }

@@ -1,4 +1,4 @@
-// Tables. What texts mean is by RFC 2047, section 8, and by Python's `email`, where nothing else is said.
+// Tables. What texts mean is by RFC 2047, sections 2, 4, 6.2 and 8, and by docs/rules/messages-words.md.
 use crate::{decode_charset, decode_words};
 use jm_base::NoMemory;
 use std::alloc::Global;
@@ -14,16 +14,21 @@ fn all_say(alloc: Global, table: &[(&[u8], &str)]) -> Result<bool, NoMemory> {
     Ok(true)
 }
 
-/// RFC 2047, section 8: the table at its end, and names and a subject of its header.
+/// RFC 2047, section 8: the table at its end, and the words of its headers. Those of iso-8859-2 and iso-8859-8 stay as they are
+/// written, since these charsets aren't read.
 #[test]
 fn examples_of_the_standard(rt: HostRuntime) -> Result<(), Fail> {
-    let table: [(&[u8], &str); 10] = [
+    let table: [(&[u8], &str); 14] = [
         (b"(=?ISO-8859-1?Q?a?=)", "(a)"),
         (b"(=?ISO-8859-1?Q?a?= b)", "(a b)"),
         (b"(=?ISO-8859-1?Q?a?= =?ISO-8859-1?Q?b?=)", "(ab)"),
         (b"(=?ISO-8859-1?Q?a?=  =?ISO-8859-1?Q?b?=)", "(ab)"),
         (b"(=?ISO-8859-1?Q?a?=\r\n\t =?ISO-8859-1?Q?b?=)", "(ab)"),
         (b"(=?ISO-8859-1?Q?a_b?=)", "(a b)"),
+        (
+            b"(=?ISO-8859-1?Q?a?= =?ISO-8859-2?Q?_b?=)",
+            "(a =?ISO-8859-2?Q?_b?=)",
+        ),
         (
             b"=?US-ASCII?Q?Keith_Moore?= <moore@cs.utk.edu>",
             "Keith Moore <moore@cs.utk.edu>",
@@ -34,8 +39,17 @@ fn examples_of_the_standard(rt: HostRuntime) -> Result<(), Fail> {
         ),
         (b"=?ISO-8859-1?Q?Andr=E9?= Pirard", "Andr\u{E9} Pirard"),
         (
-            b"=?ISO-8859-1?B?SWYgeW91IGNhbiByZWFkIHRoaXMgeW8=?=",
-            "If you can read this yo",
+            b"=?ISO-8859-1?B?SWYgeW91IGNhbiByZWFkIHRoaXMgeW8=?=\r\n =?ISO-8859-2?B?dSB1bmRlcnN0YW5kIHRoZSBleGFtcGxlLg==?=",
+            "If you can read this yo\r\n =?ISO-8859-2?B?dSB1bmRlcnN0YW5kIHRoZSBleGFtcGxlLg==?=",
+        ),
+        (b"=?ISO-8859-1?Q?Olle_J=E4rnefors?=", "Olle J\u{E4}rnefors"),
+        (
+            b"=?ISO-8859-1?Q?Patrik_F=E4ltstr=F6m?=",
+            "Patrik F\u{E4}ltstr\u{F6}m",
+        ),
+        (
+            b"(=?iso-8859-8?b?7eXs+SDv4SDs6Oj08A==?=)",
+            "(=?iso-8859-8?b?7eXs+SDv4SDs6Oj08A==?=)",
         ),
     ];
     assert!(rt; all_say(rt.alloc(), &table)?);
@@ -66,7 +80,7 @@ fn white_space_round_words(rt: HostRuntime) -> Result<(), Fail> {
 
 #[test]
 fn words_that_stay(rt: HostRuntime) -> Result<(), Fail> {
-    let table: [(&[u8], &str); 9] = [
+    let table: [(&[u8], &str); 10] = [
         (b"=?utf-8?X?a?=", "=?utf-8?X?a?="),
         (b"=?utf-8?QQ?a?=", "=?utf-8?QQ?a?="),
         (b"=?utf-8?Q?a", "=?utf-8?Q?a"),
@@ -75,16 +89,18 @@ fn words_that_stay(rt: HostRuntime) -> Result<(), Fail> {
         (b"=?utf-8*en?Q?a?=", "=?utf-8*en?Q?a?="),
         (b"=??Q?a?=", "=??Q?a?="),
         (b"=?=?=?=?", "=?=?=?=?"),
+        // The last sign of a word that stays may begin the next word.
+        (b"=?iso-8859-2?Q?a?=?utf-8?Q?b?=", "=?iso-8859-2?Q?a?b"),
         (b"", ""),
     ];
     assert!(rt; all_say(rt.alloc(), &table)?);
     Ok(())
 }
 
-/// A word of 75 characters, and one of 76.
+/// A word of 75 bytes, one of 76, and one of 47 characters in 82 bytes.
 #[test]
 fn longest_word(rt: HostRuntime) -> Result<(), Fail> {
-    let table: [(&[u8], &str); 2] = [
+    let table: [(&[u8], &str); 3] = [
         (
             b"=?utf-8?Q?123456789-123456789-123456789-123456789-123456789-123456789-123?=",
             "123456789-123456789-123456789-123456789-123456789-123456789-123",
@@ -93,6 +109,10 @@ fn longest_word(rt: HostRuntime) -> Result<(), Fail> {
             b"=?utf-8?Q?123456789-123456789-123456789-123456789-123456789-123456789-1234?=",
             "=?utf-8?Q?123456789-123456789-123456789-123456789-123456789-123456789-1234?=",
         ),
+        (
+            b"=?utf-8?Q?\xC3\xA9\xC3\xA9\xC3\xA9\xC3\xA9\xC3\xA9\xC3\xA9\xC3\xA9\xC3\xA9\xC3\xA9\xC3\xA9\xC3\xA9\xC3\xA9\xC3\xA9\xC3\xA9\xC3\xA9\xC3\xA9\xC3\xA9\xC3\xA9\xC3\xA9\xC3\xA9\xC3\xA9\xC3\xA9\xC3\xA9\xC3\xA9\xC3\xA9\xC3\xA9\xC3\xA9\xC3\xA9\xC3\xA9\xC3\xA9\xC3\xA9\xC3\xA9\xC3\xA9\xC3\xA9\xC3\xA9?=",
+            "=?utf-8?Q?ééééééééééééééééééééééééééééééééééé?=",
+        ),
     ];
     assert!(rt; all_say(rt.alloc(), &table)?);
     Ok(())
@@ -100,11 +120,12 @@ fn longest_word(rt: HostRuntime) -> Result<(), Fail> {
 
 #[test]
 fn texts_of_words(rt: HostRuntime) -> Result<(), Fail> {
-    let table: [(&[u8], &str); 7] = [
+    let table: [(&[u8], &str); 8] = [
         // A bad escape stays, base64 ends at its equals sign, and no text says nothing.
         (b"=?utf-8?Q?=ZZ=5F=4?=", "=ZZ_=4"),
         (b"=?utf-8?B?Yw==Yw==?=", "c"),
         (b"a=?utf-8?Q??=b=?utf-8?B?=?=c", "abc"),
+        (b"=?utf-8?b?w6k=?=", "\u{E9}"),
         // Control characters of ASCII are dropped.
         (b"=?utf-8?Q?a=0D=0A=00=7F=C2=80b?=", "a\u{80}b"),
         // Bytes that their charset doesn't have; characters above ~ in a word are their UTF-8 bytes.

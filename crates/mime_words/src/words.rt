@@ -14,7 +14,7 @@ use jm_base::{Bytes, NoMemory, Text};
 use mime_codec::{Coding, decode, unescape};
 use std::alloc::Global;
 
-/// The greatest length of a word, from its first `=` to its last.
+/// The greatest length of an encoded-word in bytes, from its first `=` to its last (RFC 2047, section 2).
 const LONGEST: usize = 75;
 
 /// What a word stands for, and the text behind it.
@@ -31,7 +31,7 @@ fn spaced(byte: u8) -> u8
     if byte == b'_' { b' ' } else { byte }
 }
 
-/// The bytes that a text in the Q coding stands for.
+/// The bytes that an encoded-text in the Q coding stands for (RFC 2047, section 4.2).
 fn decode_q(alloc: Global, encoded: &[u8]) -> Result<Bytes, NoMemory>
     ensures { IfOk result (λ b. b ≡ unescaped (map Words.spaced encoded.now)) }
 {
@@ -42,7 +42,7 @@ fn decode_q(alloc: Global, encoded: &[u8]) -> Result<Bytes, NoMemory>
     unescape(alloc, text.as_slice())
 }
 
-/// The bytes that a text stands for in the coding of this letter.
+/// The bytes that an encoded-text stands for in the coding of this letter.
 fn decode_by(alloc: Global, letter: u8, encoded: &[u8]) -> Result<Option<Bytes>, NoMemory>
     ensures { IfOk result (λ b. b ≡ bytes_by letter encoded.now) }
 {
@@ -53,7 +53,7 @@ fn decode_by(alloc: Global, letter: u8, encoded: &[u8]) -> Result<Option<Bytes>,
     }
 }
 
-/// The bytes that a text stands for in a coding, which is one letter.
+/// The bytes that an encoded-text stands for in a coding, which is one letter.
 fn decode_coded(alloc: Global, coding: &[u8], encoded: &[u8]) -> Result<Option<Bytes>, NoMemory>
     ensures { IfOk result (λ b. b ≡ coded_bytes coding.now encoded.now) }
 {
@@ -186,8 +186,13 @@ fn text_words(alloc: Global, text: &str) -> Result<Text, NoMemory>
     Ok(Text::from_string(out))
 }
 
-/// The text of some bytes with their encoded words decoded (RFC 2047), wherever they stand. Bytes that are no UTF-8
+/// The text of some bytes with their encoded-words decoded (RFC 2047), wherever they stand. Bytes that are no UTF-8
 /// become U+FFFD first.
+///
+/// A word stays as it is written where its charset isn't `utf-8`, `us-ascii` or `iso-8859-1`, its encoding isn't `B` or `Q`,
+/// it is longer than 75 bytes, or white space stands in its encoded-text. In what a decoded word says, U+FFFD stands for bytes
+/// that its charset doesn't have, and the control characters of ASCII are left out. White space that alone stands between two
+/// decoded words is dropped (section 6.2). It fails where there is no memory, and else never.
 pub fn decode_words(alloc: Global, bytes: &[u8]) -> Result<Text, NoMemory>
     ensures { IfOk result (λ t. t ≡ decoded_words (utf8_lossy bytes.now)) }
 {
