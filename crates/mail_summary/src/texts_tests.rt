@@ -82,5 +82,10 @@ fn previews_of_messages(rt: HostRuntime) -> Result<(), Fail> {
         let found = preview(rt.alloc(), message)?;
         assert_eq!(rt; found.as_str(), want, "message {message:?}");
     }
+    let long = "\u{E9}  ".repeat(rt.alloc(), 200)?;
+    let message = format!(in rt.alloc(); "Content-Type: text/plain; charset=utf-8\n\n{long}")?;
+    let found = preview(rt.alloc(), message.as_bytes())?;
+    let short = "\u{E9} ".repeat(rt.alloc(), 128)?;
+    assert_eq!(rt; found.as_str(), short.as_str());
     Ok(())
 }
