@@ -63,8 +63,8 @@ is_attached (Some disposition) = bytes_eq disposition (codes "attachment")
 
 -- whether a leaf may be shown where it stands: no attachment, of a type that can be shown, and the first of its list, or
 -- else media or without a name, and in no related list
-abbrev pub is_inline : Place → Bool → Node → Bool
-is_inline place first x =
+abbrev pub is_shown_in_place : Place → Bool → Node → Bool
+is_shown_in_place place first x =
     (not (is_multipart x) && not (is_attached x.disposition))
     && ((is_plain x || (is_html x || is_media x))
     && (first || (not place.related && (is_media x || not (is_some x.name)))))
@@ -80,7 +80,7 @@ leaf_in text html attachments x = record { text = number_if text x; html = numbe
 -- isn't so in the list of the alternative itself.
 abbrev pub open_behind : Place → Bool → Open → Node → Open
 open_behind place first open' x =
-    if is_inline place first x && (place.within && not place.alternative) then record { text = open'.text && not (is_html x); html = open'.html && not (is_plain x) } else open'
+    if is_shown_in_place place first x && (place.within && not place.alternative) then record { text = open'.text && not (is_html x); html = open'.html && not (is_plain x) } else open'
 
 -- an alternative gives each of its items to one list
 abbrev pub among_alternatives : Open → Node → Lists
@@ -93,7 +93,7 @@ among_others open' x = leaf_in open'.text open'.html (is_media x && not (open'.t
 -- what a leaf gives
 abbrev pub leaf_gives : Place → Bool → Open → Node → Lists
 leaf_gives place first open' x =
-    if not (is_inline place first x) then leaf_in false false true x
+    if not (is_shown_in_place place first x) then leaf_in false false true x
     else (if place.alternative then among_alternatives open' x else among_others (open_behind place first open' x) x)
 
 -- what stands in for a list that got nothing

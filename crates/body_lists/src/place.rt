@@ -1,7 +1,7 @@
 // Where an item stands, and what that says of it.
 ghost use Rattle.std.specs.Prelude.{◌≡◌};
 ghost use Rattle.mime_type.specs.Joined.{node_of};
-ghost use Rattle.body_lists.specs.Lists.{is_plain as plain_node, is_html as html_node, is_media as media_node, is_attached as attached_by, is_inline, top as top_place, inside as place_inside, open_behind};
+ghost use Rattle.body_lists.specs.Lists.{is_plain as plain_node, is_html as html_node, is_media as media_node, is_attached as attached_by, is_shown_in_place, top as top_place, inside as place_inside, open_behind};
 ghost use Rattle.body_lists.specs.Shown.{open_of, place_of};
 
 use mime_type::Part;
@@ -81,7 +81,7 @@ impl Place {
 
     /// Whether a part may be shown here, as the first of the list or not.
     pub fn shows(self, first: bool, part: &Part) -> bool
-        ensures { result ≡ is_inline (place_of self) first (node_of part.now) }
+        ensures { result ≡ is_shown_in_place (place_of self) first (node_of part.now) }
     {
         if part.boundary.is_some() || is_attached(part) {
             return false;

@@ -27,7 +27,7 @@ fn shown(alloc: Global, message: &[u8]) -> Result<Vec<u8>, NoMemory> {
 
 #[test]
 fn lists_of_messages(rt: HostRuntime) -> Result<(), Fail> {
-    let table: [(&[u8], &[u8]); 5] = [
+    let table: [(&[u8], &[u8]); 9] = [
         (b"", b" 1 / 1 /"),
         (b"Content-Type: image/png\n\n", b" 1 / 1 /"),
         (b"Content-Type: a/b\n\n", b" / / 1"),
@@ -35,6 +35,25 @@ fn lists_of_messages(rt: HostRuntime) -> Result<(), Fail> {
         (
             b"Content-Type: multipart/alternative; boundary=a\n\n--a\nContent-Type: text/html\n\nx\n--a\nContent-Type: text/calendar\n\ny\n--a--",
             b" 1 / 1 / 2",
+        ),
+        // One of plain text alone is the HTML too.
+        (
+            b"Content-Type: multipart/alternative; boundary=a\n\n--a\n\nx\n--a\nContent-Type: text/calendar\n\ny\n--a--",
+            b" 1 / 1 / 2",
+        ),
+        // An empty name is a name.
+        (
+            b"Content-Type: multipart/mixed; boundary=a\n\n--a\n\nx\n--a\nContent-Type: text/plain; name=\"\"\n\ny\n--a\n\nz\n--a--",
+            b" 1 3 / 1 3 / 2",
+        ),
+        // Sound and film are shown in place, and attachments too where plain text has closed the HTML.
+        (
+            b"Content-Type: multipart/mixed; boundary=a\n\n--a\nContent-Type: audio/ogg\n\nx\n--a\nContent-Type: video/ogg; name=y\n\ny\n--a--",
+            b" 1 2 / 1 2 /",
+        ),
+        (
+            b"Content-Type: multipart/alternative; boundary=a\n\n--a\nContent-Type: multipart/mixed; boundary=b\n\n--b\n\nx\n--b\nContent-Type: audio/ogg\n\ny\n--b--\n--a\nContent-Type: text/html\n\nz\n--a--",
+            b" 1 2 / 3 / 2",
         ),
         // RFC 8621, section 4.1.4.
         (

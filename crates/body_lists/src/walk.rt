@@ -17,7 +17,7 @@ pub struct BodyLists {
     pub text: Numbers,
     /// The leaves that are shown where HTML is.
     pub html: Numbers,
-    /// The other leaves, and media that stand for themselves.
+    /// The leaves that are in neither, and media that only one of the two takes.
     pub attachments: Numbers,
 }
 

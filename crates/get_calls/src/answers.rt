@@ -83,8 +83,8 @@ pub fn get_mailboxes(
     }
 }
 
-/// The answer to a get of records of a kind with these arguments, by a user to whom the account is read-only or not. Mailboxes are
-/// built.
+/// The answer to a get of mailboxes with these arguments, by a user to whom the account is read-only or not (RFC 8621, section 2.1).
+/// `kind` is that of mailboxes.
 pub fn get(
     alloc: Global,
     kind: Kind,

@@ -11,7 +11,7 @@ use Rattle.account_book.specs.declared.asks.Ask.TheVariants.{Method}
 use Rattle.account_book.specs.declared.plans.Out.{Out}
 use Rattle.account_book.specs.declared.plans.Plan.{Plan}
 use Rattle.mail_calls.specs.Plans.{method_plan, call_plan}
-use Rattle.mail_calls.specs.Promises.{IsWholeAlways, plan_keeps}
+use Rattle.mail_calls.specs.Promises.{IsWholeMail, plan_keeps}
 use Rattle.jmap_main.specs.Served.{Step, IsWritten, account_error, after_plan, unless_error, step, asked, point_between, replied_of, stamp_after, is_empty}
 
 nothing_of : {A : Type 0} (xs : List A) → is_empty xs ≡ true → xs ≡ []
@@ -81,8 +81,8 @@ begins_by true within h c p = account_after-all h (length h.entries) (omega arit
 begins_by false true h c p = account_after-grown_by h (Committed (commit_of p (stamp_after h)) ∷ []) (length h.entries) (omega arith) ∙ account_after-all h (length h.entries) (omega arith)
 begins_by false false h c p = account_after-all h (length h.entries) (omega arith)
 
-whole_by : (idle within : Bool) (h : History) (c : Invocation) (made : List Created) → nat_le (edit_bytes (edits_of h) + edit_bytes (method_plan h (call_of c) made false).edits) edit_limit ≡ within → IsWholeAlways h
-    → IsWholeAlways (step_by idle within h c (method_plan h (call_of c) made false)).history
+whole_by : (idle within : Bool) (h : History) (c : Invocation) (made : List Created) → nat_le (edit_bytes (edits_of h) + edit_bytes (method_plan h (call_of c) made false).edits) edit_limit ≡ within → IsWholeMail h
+    → IsWholeMail (step_by idle within h c (method_plan h (call_of c) made false)).history
 whole_by true within h c made f whole = whole
 whole_by false true h c made f whole =
     plan_keeps h (asked c made) (stamp_after h) whole (leb-true (edit_bytes (edits_of h) + edit_bytes (method_plan h (call_of c) made false).edits) edit_limit f)
@@ -107,11 +107,11 @@ step_written h c made none =
     (sym is)
     (r.0, r.1, reply, begins)
 
-by_error : (e : Option (List ℕ)) (h : History) (c : Invocation) (made : List Created) → IsWholeAlways h → IsWholeAlways (unless_error h (call_of c) made e).history
+by_error : (e : Option (List ℕ)) (h : History) (c : Invocation) (made : List Created) → IsWholeMail h → IsWholeMail (unless_error h (call_of c) made e).history
 by_error (Some kind) h c made whole = whole
 by_error None h c made whole =
     whole_by (is_empty (method_plan h (call_of c) made false).blobs && is_empty (method_plan h (call_of c) made false).edits)
     (nat_le (edit_bytes (edits_of h) + edit_bytes (method_plan h (call_of c) made false).edits) edit_limit) h c made refl whole
 
-pub step_whole : (h : History) (c : Invocation) (made : List Created) → IsWholeAlways h → IsWholeAlways (step h (call_of c) made).history
+pub step_whole : (h : History) (c : Invocation) (made : List Created) → IsWholeMail h → IsWholeMail (step h (call_of c) made).history
 step_whole h c made whole = by_error (account_error (call_of c)) h c made whole

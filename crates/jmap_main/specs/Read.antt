@@ -5,7 +5,7 @@ use Rattle.mail_view.specs.Arguments.{Reading, invalid, asked, read_arguments, w
 use Rattle.mail_view.specs.View.{view_tree}
 use Rattle.jmap_main.specs.Batch.{line_text}
 
--- a message is shown as the blob b1, and as no email
+-- A message is shown as the blob b1, and as no email. The arguments have their form (`arguments_of_read_are_taken` of mail_view).
 abbrev pub shown_by : List ℕ → Reading → Tree
 shown_by bytes (invalid name) = null
 shown_by bytes (asked wanted) = view_tree bytes (codes "b1") None wanted

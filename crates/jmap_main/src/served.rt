@@ -7,7 +7,7 @@ ghost use Rattle.jm_json.specs.Call.{error_of};
 ghost use Rattle.mail_records.specs.Histories.{empty_history};
 ghost use Rattle.mail_records.specs.Histories.{History};
 ghost use Rattle.mail_calls.specs.Plans.{method_plan};
-ghost use Rattle.mail_calls.specs.Promises.{IsWholeAlways};
+ghost use Rattle.mail_calls.specs.Promises.{IsWholeMail};
 ghost use Rattle.jm_json.specs.declared.invocation.Invocation.{Invocation as TheInvocation};
 ghost use Rattle.jm_json.specs.declared.invocation.Created.{Created as TheCreated};
 ghost use Rattle.jmap_main.specs.Served.{IsStep, IsWritten, account_error, account_steps, after_plan, from_error, is_account, is_copy, replied_of, stamp_after, step, text_in, to_error};
@@ -213,5 +213,5 @@ impl StepPort for AccountPort {
 /// that the call leaves, which begins with the history before it; and a whole account stays whole.
 pub(crate) fn steps_are_written()
     ensures written { (h : History) (c : TheInvocation) (made : List TheCreated) → account_error (call_of c) ≡ None → IsWritten h c made }
-    ensures whole { (h : History) (c : TheInvocation) (made : List TheCreated) → IsWholeAlways h → IsWholeAlways (step h (call_of c) made).history }
+    ensures whole { (h : History) (c : TheInvocation) (made : List TheCreated) → IsWholeMail h → IsWholeMail (step h (call_of c) made).history }
 {}

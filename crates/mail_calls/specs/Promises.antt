@@ -13,6 +13,7 @@ use Rattle.mail_records.specs.declared.records.Email.{Email}
 use Rattle.mail_records.specs.declared.records.Summary.{Summary}
 use Rattle.mail_records.proofs.Growth.{AllFit-append, NextAtMost-after_edits, all_map}
 use Rattle.mail_records.proofs.Prefixes.{IsSound-empty, edits_of-grown, content_of-grown, end_of-grown, blobs_of-grown}
+use Rattle.mail_summary.specs.Summaries.{summary}
 use Rattle.mail_counts.specs.Derived.{LeavesEmails}
 use Rattle.mail_counts.specs.Tidy.{IsTidy}
 use Rattle.mail_counts.proofs.Growth.{IsTidy-empty}
@@ -29,31 +30,28 @@ use Rattle.mail_calls.specs.Plans.{call_plan, ask_plan}
 use Rattle.mail_calls.specs.Whole.{IsWhole, HasMessage}
 use Rattle.mail_calls.specs.Kept.{IsNew, Keeps, call_keeps}
 
--- whole, whatever the summary of a message is
-abbrev pub IsWholeAlways : History → Type 0
-IsWholeAlways h = (summary : List ℕ → Summary) → IsWhole summary edit_bytes h
+-- whole, with the summaries that messages have
+abbrev pub IsWholeMail : History → Type 0
+IsWholeMail h = IsWhole summary edit_bytes h
 
-no_summary : List ℕ → Summary
-no_summary bytes = record { links = []; subject = []; from = []; to = []; sent = None; attachment = false }
-
-plan_keeps_tidy : (h : History) (call : Call) → IsWholeAlways h → Keeps (content_of h) (call_plan h call)
-plan_keeps_tidy h call whole = call_keeps h call (whole no_summary).tidy
+plan_keeps_tidy : (h : History) (call : Call) → IsWholeMail h → Keeps (content_of h) (call_plan h call)
+plan_keeps_tidy h call whole = call_keeps h call whole.tidy
 
 -- ---- of a plan
 
-pub plan_fits : (h : History) (call : Call) → IsWholeAlways h → AllFit (content_of h) (call_plan h call).edits
+pub plan_fits : (h : History) (call : Call) → IsWholeMail h → AllFit (content_of h) (call_plan h call).edits
 plan_fits h call whole = (plan_keeps_tidy h call whole).fits
 
 small_new : (e : Edit) → IsNew e → IsSmall e
 small_new e new = subst IsSmall (sym new.1) tt
 
-pub plan_small : (h : History) (call : Call) → IsWholeAlways h → AllByRecursion IsSmall (call_plan h call).edits
+pub plan_small : (h : History) (call : Call) → IsWholeMail h → AllByRecursion IsSmall (call_plan h call).edits
 plan_small h call whole = all_map IsNew IsSmall (call_plan h call).edits small_new (plan_keeps_tidy h call whole).new
 
 formed_new : (e : Edit) → IsNew e → IsFormedEdit e
 formed_new e new = subst IsFormedEdit (sym new.1) tt
 
-pub plan_formed : (h : History) (call : Call) (stamp : Stamp) → IsWholeAlways h → IsFormed (commit_of (call_plan h call) stamp)
+pub plan_formed : (h : History) (call : Call) (stamp : Stamp) → IsWholeMail h → IsFormed (commit_of (call_plan h call) stamp)
 plan_formed h call stamp whole = all_map IsNew IsFormedEdit (call_plan h call).edits formed_new (plan_keeps_tidy h call whole).new
 
 ask_reads : (h : History) (ask : Ask) (call : Call) → IsPlanFor ask (ask_plan h ask call.made call.read_only)
@@ -112,19 +110,19 @@ grown_whole summary h p stamp w keep within =
       next = subst (λ (c : Content). NextAtMost (end_of g + 1) c) (sym content) (subst (λ n. NextAtMost n (after_edits (content_of h) p.edits)) same next);
     }
 
-pub plan_keeps : (h : History) (call : Call) (stamp : Stamp) → IsWholeAlways h → IsWithin edit_bytes h (call_plan h call).edits → IsWholeAlways (grown h (Committed (commit_of (call_plan h call) stamp)))
-plan_keeps h call stamp whole within summary = grown_whole summary h (call_plan h call) stamp (whole summary) (plan_keeps_tidy h call whole) within
+pub plan_keeps : (h : History) (call : Call) (stamp : Stamp) → IsWholeMail h → IsWithin edit_bytes h (call_plan h call).edits → IsWholeMail (grown h (Committed (commit_of (call_plan h call) stamp)))
+plan_keeps h call stamp whole within = grown_whole summary h (call_plan h call) stamp whole (plan_keeps_tidy h call whole) within
 
 -- ---- of each whole account
 
-pub whole_sound : (h : History) → IsWholeAlways h → IsSound h
-whole_sound h whole = (whole no_summary).sound
+pub whole_sound : (h : History) → IsWholeMail h → IsSound h
+whole_sound h whole = whole.sound
 
-pub whole_limits : (h : History) → IsWholeAlways h → edit_bytes (edits_of h) ≤ edit_limit
-whole_limits h whole = (whole no_summary).limit
+pub whole_limits : (h : History) → IsWholeMail h → edit_bytes (edits_of h) ≤ edit_limit
+whole_limits h whole = whole.limit
 
-pub whole_blobs : (h : History) → IsWholeAlways h → AreBlobsFew (blobs_of h)
-whole_blobs h whole = (whole no_summary).blobs
+pub whole_blobs : (h : History) → IsWholeMail h → AreBlobsFew (blobs_of h)
+whole_blobs h whole = whole.blobs
 
 -- ---- refusals play no part
 
@@ -153,16 +151,16 @@ same_whole summary h g floor base edits blobs w =
       next = subst (λ n. NextAtMost (n + 1) (content_of g)) last (subst (NextAtMost (end_of h + 1)) content w.next);
     }
 
-pub whole_ignores : (h : History) → IsWholeAlways (without_refusals h) ↔ IsWholeAlways h
+pub whole_ignores : (h : History) → IsWholeMail (without_refusals h) ↔ IsWholeMail h
 whole_ignores h =
     let edits = edits_of-without_refusals h in
     let blobs = blobs_of-without_refusals h in (
-      λ whole summary. same_whole summary (without_refusals h) h refl refl edits blobs (whole summary),
-      λ whole summary. same_whole summary h (without_refusals h) refl refl (sym edits) (sym blobs) (whole summary),
+      λ whole. same_whole summary (without_refusals h) h refl refl edits blobs whole,
+      λ whole. same_whole summary h (without_refusals h) refl refl (sym edits) (sym blobs) whole,
     )
 
-pub whole_empty : IsWholeAlways empty_history
-whole_empty summary = record {
+pub whole_empty : IsWholeMail empty_history
+whole_empty = record {
   sound = IsSound-empty;
   tidy = IsTidy-empty;
   messages = tt;

@@ -7,13 +7,12 @@ use jm_base::NoMemory;
 use std::alloc::Global;
 
 /// The rules of mail accounts. What a call plans stands in `specs/Plans.antt`, and when an account is whole in
-/// `specs/Whole.antt`: until messages are summed up, it is whole whatever the summary of a message is.
+/// `specs/Whole.antt`.
 #[derive(Drop)]
 pub struct MailRules;
 
 impl Rules for MailRules {
-    ghost use Rattle.std.specs.Prelude.{ℕ, List};
-    ghost use Rattle.mail_records.specs.declared.records.Summary.{Summary};
+    ghost use Rattle.mail_summary.specs.Summaries.{summary};
     ghost use Rattle.account_book.specs.Replies.{edit_bytes};
     ghost use Rattle.mail_calls.specs.Plans.{call_plan};
     ghost use Rattle.mail_calls.specs.Whole.{IsWhole};
@@ -21,7 +20,7 @@ impl Rules for MailRules {
 
     ghost plan_of = { λ r h call moment. call_plan h call };
 
-    ghost is_whole = { λ r h. (summary : List ℕ → Summary) → IsWhole summary edit_bytes h };
+    ghost is_whole = { λ r h. IsWhole summary edit_bytes h };
 
     fn plan(
         &self,

@@ -1,6 +1,7 @@
 mod LeafFacts
 mod LinkFacts
 mod CharacterFacts
+mod Fronts
 mod Cuts
 mod FirstTexts
 mod LineEnds

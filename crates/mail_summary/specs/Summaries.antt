@@ -17,8 +17,8 @@ use Rattle.mail_summary.specs.Subjects.{stripped}
 use Rattle.mail_summary.specs.Links.{links}
 
 -- the value of the last field that has this name
-abbrev pub value_of : List ℕ → List ℕ → Option (List ℕ)
-value_of bytes name = last_value_of bytes name (fields_of bytes)
+abbrev pub last_field_value : List ℕ → List ℕ → Option (List ℕ)
+last_field_value bytes name = last_value_of bytes name (fields_of bytes)
 
 abbrev pub subject_by : Option (List ℕ) → List ℕ
 subject_by None = []
@@ -39,9 +39,9 @@ sent_by value = utc_of (on_one_line value)
 abbrev pub summary : List ℕ → Summary
 summary bytes = record {
   links = links bytes;
-  subject = subject_by (value_of bytes (codes "Subject"));
-  from = name_by (value_of bytes (codes "From"));
-  to = name_by (value_of bytes (codes "To"));
-  sent = option_and_then sent_by (value_of bytes (codes "Date"));
+  subject = subject_by (last_field_value bytes (codes "Subject"));
+  from = name_by (last_field_value bytes (codes "From"));
+  to = name_by (last_field_value bytes (codes "To"));
+  sent = option_and_then sent_by (last_field_value bytes (codes "Date"));
   attachment = has_attachment_in (parts_of bytes);
 }

@@ -100,10 +100,25 @@ fn after_space(text: &[char]) -> &[char]
     }
 }
 
-/// A text of at most 256 characters, with one space for each run of white space and none at either end.
-pub fn brief_spaced(alloc: Global, text: &[char]) -> Result<Text, NoMemory>
-    ensures { IfOk result (λ t. t ≡ brief (Texts.one_spaced text.now)) }
+/// The first 257 characters of a text with one space for each run of white space and none at the end, and perhaps more of them.
+fn front_spaced(alloc: Global, text: &str) -> Result<Vec<char>, NoMemory>
+    ensures { IfOk result (λ cs. take 257 cs.items ≡ take 257 (spaced (chars text.now))) }
 {
-    let out = space_out(alloc, text)?;
+    let mut out = Vec::new(alloc);
+    let mut gap = false;
+    for c in text.chars() {
+        if out.len() > MOST {
+            break;
+        }
+        gap = push_spaced(&mut out, gap, c)?;
+    }
+    Ok(out)
+}
+
+/// The first 256 characters of a text with one space for each run of white space and none at either end.
+pub fn brief_spaced(alloc: Global, text: &str) -> Result<Text, NoMemory>
+    ensures { IfOk result (λ t. t ≡ brief (Texts.one_spaced (chars text.now))) }
+{
+    let out = front_spaced(alloc, text)?;
     brief_of(alloc, after_space(out.as_slice()))
 }

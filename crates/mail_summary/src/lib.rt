@@ -11,6 +11,8 @@ mod preview;
 mod received;
 mod subjects;
 mod summary;
+#[cfg(test)]
+mod summary_tests;
 mod texts_lines;
 mod texts_tags;
 #[cfg(test)]

@@ -10,7 +10,7 @@ ghost use Rattle.mail_summary.specs.Shown.{node_in};
 ghost use Rattle.mail_summary.specs.Texts.{preview_by, shown_text};
 
 use crate::body_value::read_body_text;
-use crate::characters::{brief_spaced, characters};
+use crate::characters::brief_spaced;
 use crate::leaves::leaf;
 use crate::texts_tags::without_tags_of;
 use jm_base::{NoMemory, Text};
@@ -67,8 +67,7 @@ fn part_preview(alloc: Global, bytes: &[u8], part: &Part) -> Result<Text, NoMemo
 {
     let Decoded { text, .. } = read_body_text(alloc, bytes, part)?;
     let shown = show(alloc, part, text)?;
-    let all = characters(alloc, shown.as_str())?;
-    brief_spaced(alloc, all.as_slice())
+    brief_spaced(alloc, shown.as_str())
 }
 
 /// The preview of a message with this tree of parts, where the leaves of these numbers are its text: the words of the first

@@ -67,7 +67,7 @@ fn preview(alloc: Global, message: &[u8]) -> Result<Text, NoMemory> {
 
 #[test]
 fn previews_of_messages(rt: HostRuntime) -> Result<(), Fail> {
-    let table: [(&[u8], &str); 6] = [
+    let table: [(&[u8], &str); 7] = [
         (b"\n \r\n", ""),
         (b"\n Hello,\r\n\tMary!\r\n", "Hello, Mary!"),
         (b"\n<b>", "<b>"),
@@ -77,10 +77,20 @@ fn previews_of_messages(rt: HostRuntime) -> Result<(), Fail> {
         ),
         (b"Content-Type: text/html\n\n1 > 0 <<< 2", "1 > 0 <<< 2"),
         (b"Content-Transfer-Encoding: base64\n\nSGVsbG8K", "Hello"),
+        // An image that is shown first has no words.
+        (
+            b"Content-Type: multipart/mixed; boundary=a\n\n--a\nContent-Type: image/png\n\nx\n--a\n\nHello\n--a--",
+            "Hello",
+        ),
     ];
     for (message, want) in table {
         let found = preview(rt.alloc(), message)?;
         assert_eq!(rt; found.as_str(), want, "message {message:?}");
     }
+    let long = "\u{E9}  ".repeat(rt.alloc(), 200)?;
+    let message = format!(in rt.alloc(); "Content-Type: text/plain; charset=utf-8\n\n{long}")?;
+    let found = preview(rt.alloc(), message.as_bytes())?;
+    let short = "\u{E9} ".repeat(rt.alloc(), 128)?;
+    assert_eq!(rt; found.as_str(), short.as_str());
     Ok(())
 }

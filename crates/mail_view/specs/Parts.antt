@@ -15,8 +15,8 @@ use Rattle.mail_view.specs.declared.property.PartProperty.TheVariants.{PartId, B
 use Rattle.mail_view.specs.declared.property.AskedPart.{AskedPart}
 
 -- the bytes of a part with its header
-abbrev pub part_bytes : List ℕ → Node → List ℕ
-part_bytes bytes x = slice_range bytes x.start x.end
+abbrev pub bytes_with_header : List ℕ → Node → List ℕ
+bytes_with_header bytes x = slice_range bytes x.start x.end
 
 -- the identifier of a leaf's bytes: that of the message's, a dash and the number
 abbrev pub leaf_blob : List ℕ → Option ℕ → Tree
@@ -33,8 +33,8 @@ abbrev pub part_tree : List ℕ → List ℕ → Node → PartProperty → Tree
 part_tree bytes blob x PartId = decimal_or_null x.number
 part_tree bytes blob x BlobId = leaf_blob blob x.number
 part_tree bytes blob x Size = size_tree bytes x
-part_tree bytes blob x (Header asked) = header_tree (part_bytes bytes x) asked
-part_tree bytes blob x Headers = headers_tree (part_bytes bytes x)
+part_tree bytes blob x (Header asked) = header_tree (bytes_with_header bytes x) asked
+part_tree bytes blob x Headers = headers_tree (bytes_with_header bytes x)
 part_tree bytes blob x Name = text_or_null (option_map decoded_words x.name)
 part_tree bytes blob x MediaType = text x.media
 part_tree bytes blob x Charset = text_or_null x.charset

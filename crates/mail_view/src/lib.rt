@@ -5,6 +5,7 @@ mod fault;
 mod fields;
 mod headers;
 mod known;
+mod laws;
 mod message;
 mod names;
 mod part;
@@ -18,6 +19,7 @@ mod walk;
 mod wanted;
 
 pub use fault::WantedFault;
+pub use laws::arguments_of_read_are_taken;
 pub use property::{AskedPart, AskedProperty, HeaderAsked, KnownProperty, PartProperty, Property};
 pub use shown::view;
 pub use wanted::{Wanted, read_wanted, wanted_for_read};

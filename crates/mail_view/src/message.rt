@@ -55,7 +55,7 @@ pub(crate) fn html_body(alloc: Global, message: &Message<'_>) -> Result<Json, No
     leaf_list(alloc, message, &message.lists.html)
 }
 
-/// The other parts.
+/// The parts that are in neither, and media that only one of the two shows.
 pub(crate) fn attachments(alloc: Global, message: &Message<'_>) -> Result<Json, NoMemory>
     requires { IsRead message.now }
     ensures { IfOk result (λ t. json_of t ≡ leaves_tree message.now.showing.bytes.now message.now.showing.blob.now message.now.showing.asked.now (parts_of message.now.showing.bytes.now) (lists_in (parts_of message.now.showing.bytes.now)).attachments) }

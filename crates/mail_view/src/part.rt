@@ -10,7 +10,7 @@ ghost use Rattle.mime_words.specs.Words.{decoded_words};
 ghost use Rattle.header_forms.specs.Forms;
 ghost use Rattle.mail_view.specs.Objects;
 ghost use Rattle.mail_view.specs.Parts;
-ghost use Rattle.mail_view.specs.Parts.{leaf_tree, part_bytes, part_tree, size_tree};
+ghost use Rattle.mail_view.specs.Parts.{leaf_tree, bytes_with_header, part_tree, size_tree};
 
 use crate::headers::{header, headers};
 use crate::property::{AskedPart, PartProperty};
@@ -115,7 +115,7 @@ fn part_property(
     property: &PartProperty,
 ) -> Result<Json, NoMemory>
     requires placed { IsPlaced (length showing.now.bytes.now) (node_of part.now) }
-    requires own { own.now ≡ part_bytes showing.now.bytes.now (node_of part.now) }
+    requires own { own.now ≡ bytes_with_header showing.now.bytes.now (node_of part.now) }
     requires found { fields.now ≡ fields_of own.now }
     requires within { All (IsWithin own.now) fields.now }
     ensures { IfOk result (λ t. tree_of t ≡ part_tree showing.now.bytes.now showing.now.blob.now (node_of part.now) property.now) }

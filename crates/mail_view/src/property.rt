@@ -50,7 +50,7 @@ pub enum Property {
     TextBody,
     /// The parts to show as HTML.
     HtmlBody,
-    /// The other parts.
+    /// The parts that are in neither, and media that only one of the two shows.
     Attachments,
     /// Whether one of these isn't shown inline.
     HasAttachment,

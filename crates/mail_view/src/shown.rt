@@ -122,8 +122,9 @@ fn read_members(
     view_members(alloc, &message, email, wanted)
 }
 
-/// What a client is shown of a message with these bytes: an object with the properties that are asked for. `blob` is the
-/// identifier of the blob that holds the bytes, and `email` the email that the message is, if it is one.
+/// What a client is shown of a message with these bytes: an object with the properties that are asked for (RFC 8621, sections 4.1
+/// and 4.9). `blob` is the identifier of the blob that holds the bytes, read as UTF-8, and `email` the email that the message is,
+/// if it is one; id, threadId, mailboxIds, keywords and receivedAt are null if it is none. Total for all bytes.
 pub fn view(
     alloc: Global,
     bytes: &[u8],

@@ -141,6 +141,13 @@ fn fields_are_shown_by_their_names(rt: HostRuntime) -> Result<(), Fail> {
     check(&rt, rt.alloc(), "A: 1\nB: 2\nA: 3\n\n", &rows)
 }
 
+// What is shown of the email below where no properties are named (RFC 8621, section 4.2), and the one part for which `PART` stands.
+const ALL: &str =
+    "{\"attachments\":[],\"bcc\":null,\"blobId\":\"b1\",\"bodyValues\":{},\"cc\":null,\"from\":null,\"hasAttachment\":false,\"htmlBody\":[PART],\"id\":\"E7\",\"inReplyTo\":null,\"keywords\":{\"$seen\":true},\"mailboxIds\":{\"M10\":true,\"M2\":true},\"messageId\":null,\"preview\":\"\",\"receivedAt\":\"1970-01-01T00:00:09Z\",\"references\":null,\"replyTo\":null,\"sender\":null,\"sentAt\":null,\"size\":5,\"subject\":null,\"textBody\":[PART],\"threadId\":\"T3\",\"to\":null}";
+
+const EMPTY: &str =
+    "{\"blobId\":\"b1-1\",\"charset\":\"us-ascii\",\"cid\":null,\"disposition\":null,\"language\":null,\"location\":null,\"name\":null,\"partId\":\"1\",\"size\":0,\"type\":\"text/plain\"}";
+
 // An email in two mailboxes.
 fn email(alloc: Global) -> Result<Email, NoMemory> {
     let mut mailboxes = Numbers::new(alloc);
@@ -171,7 +178,10 @@ fn email(alloc: Global) -> Result<Email, NoMemory> {
 #[test]
 fn an_email_is_shown_with_what_is_known_of_it(rt: HostRuntime) -> Result<(), Fail> {
     let email = email(rt.alloc())?;
+    let all = ALL.replace(rt.alloc(), "PART", EMPTY)?;
     let rows = [
+        ("{}", all.as_str()),
+        ("{\"later\":1,\"properties\":null}", all.as_str()),
         ("{\"properties\":[]}", "{\"id\":\"E7\"}"),
         (
             "{\"properties\":[\"mailboxIds\",\"keywords\",\"threadId\",\"receivedAt\",\"size\"]}",
@@ -194,32 +204,129 @@ fn an_email_is_shown_with_what_is_known_of_it(rt: HostRuntime) -> Result<(), Fai
     Ok(())
 }
 
+// Whether the argument of this name, or none, is the one that is blamed.
+fn blames(alloc: Global, args: &str, name: &str) -> Result<bool, Fail> {
+    match asked(alloc, args, true)? {
+        Ok(_) => Ok(false),
+        Err(blamed) => Ok(blamed.as_str() == name),
+    }
+}
+
 #[test]
 fn an_argument_of_a_wrong_form_is_named(rt: HostRuntime) -> Result<(), Fail> {
-    let rows = [
-        ("null", ""),
-        ("[]", ""),
-        ("{\"bodyProperties\":null}", "bodyProperties"),
-        ("{\"bodyProperties\":[\"preview\"]}", "bodyProperties"),
-        ("{\"bodyProperties\":[\"partId\",1]}", "bodyProperties"),
-        ("{\"fetchAllBodyValues\":null}", "fetchAllBodyValues"),
-        ("{\"fetchHTMLBodyValues\":1}", "fetchHTMLBodyValues"),
-        (
-            "{\"fetchTextBodyValues\":\"true\",\"properties\":1}",
-            "fetchTextBodyValues",
-        ),
-        ("{\"maxBodyValueBytes\":-1}", "maxBodyValueBytes"),
-        ("{\"maxBodyValueBytes\":null}", "maxBodyValueBytes"),
-        ("{\"properties\":\"id\"}", "properties"),
-        ("{\"properties\":[\"partId\"]}", "properties"),
+    let alloc = rt.alloc();
+    let names = [
+        "bodyProperties",
+        "fetchAllBodyValues",
+        "fetchHTMLBodyValues",
+        "fetchTextBodyValues",
+        "maxBodyValueBytes",
+        "properties",
     ];
-    for (args, want) in rows {
-        match asked(rt.alloc(), args, true)? {
-            Ok(_) => panic!(rt; "{args}"),
-            Err(name) => assert!(rt; name.as_str() == want, "{args}"),
+    let flag = ["null", "1", "\"true\"", "[]", "{}"];
+    let lists = [
+        "true",
+        "1",
+        "\"id\"",
+        "{}",
+        "[1]",
+        "[null]",
+        "[[]]",
+        "[\"none\"]",
+    ];
+    let wrong: [&[&str]; 6] = [
+        &lists,
+        &flag,
+        &flag,
+        &flag,
+        &["null", "true", "-1", "\"1\"", "[]", "{}"],
+        &lists,
+    ];
+    for (name, values) in names.iter().zip(wrong.iter()) {
+        for value in *values {
+            let args = format!(in alloc; "{{\"{name}\":{value}}}")?;
+            assert!(rt; blames(alloc, args.as_str(), name)?, "{args}");
         }
     }
+    for args in ["null", "true", "1", "\"\"", "[]"] {
+        assert!(rt; blames(alloc, args, "")?, "{args}");
+    }
+    assert!(rt; blames(alloc, "{\"bodyProperties\":null}", "bodyProperties")?);
+    // A property of a part is none of an email, and the other way round.
+    assert!(rt;
+        blames(
+            alloc,
+            "{\"bodyProperties\":[\"preview\"]}",
+            "bodyProperties"
+        )?
+    );
+    assert!(rt; blames(alloc, "{\"properties\":[\"partId\"]}", "properties")?);
     Ok(())
+}
+
+#[test]
+fn the_first_argument_of_a_wrong_form_is_named(rt: HostRuntime) -> Result<(), Fail> {
+    let rows = [
+        (
+            "{\"maxBodyValueBytes\":{},\"properties\":{}}",
+            "maxBodyValueBytes",
+        ),
+        (
+            "{\"fetchTextBodyValues\":{},\"maxBodyValueBytes\":{}}",
+            "fetchTextBodyValues",
+        ),
+        (
+            "{\"fetchHTMLBodyValues\":{},\"fetchTextBodyValues\":{}}",
+            "fetchHTMLBodyValues",
+        ),
+        (
+            "{\"fetchAllBodyValues\":{},\"fetchHTMLBodyValues\":{}}",
+            "fetchAllBodyValues",
+        ),
+        (
+            "{\"bodyProperties\":{},\"fetchAllBodyValues\":{}}",
+            "bodyProperties",
+        ),
+    ];
+    for (args, name) in &rows {
+        assert!(rt; blames(rt.alloc(), args, name)?, "{args}");
+    }
+    Ok(())
+}
+
+#[test]
+fn long_lists_are_shown(rt: HostRuntime) -> Result<(), Fail> {
+    let alloc = rt.alloc();
+    // Of the parts that a message has, 1,000 count, and it is one itself.
+    let piece = "--a\nContent-Type: image/png\n\nx\n".repeat(alloc, 1500)?;
+    let message = format!(in alloc; "Content-Type: multipart/mixed; boundary=a\n\n{piece}")?;
+    let wanted = wanted_for_read(alloc)?;
+    let object = shown(alloc, message.as_str(), None, &wanted)?;
+    assert!(rt; object.as_str().contains("\"b1-999\""));
+    assert!(rt; !object.as_str().contains("\"b1-1000\""));
+    let more = ", B <b@x>".repeat(alloc, 100000)?;
+    let message = format!(in alloc; "From: a@x{more}\n")?;
+    let more = ",{\"email\":\"b@x\",\"name\":\"B\"}".repeat(alloc, 100000)?;
+    let want = format!(in alloc; "{{\"from\":[{{\"email\":\"a@x\",\"name\":null}}{more}]}}")?;
+    match asked(alloc, "{\"properties\":[\"from\"]}", true)? {
+        Ok(wanted) => {
+            let object = shown(alloc, message.as_str(), None, &wanted)?;
+            assert!(rt; object.as_str() == want.as_str());
+        }
+        Err(_) => panic!(rt; "properties"),
+    }
+    Ok(())
+}
+
+#[test]
+fn a_part_is_shown_with_what_its_head_says(rt: HostRuntime) -> Result<(), Fail> {
+    let message =
+        "Content-Type: image/png; name=x.png\nContent-Disposition: inline; filename=\"=?utf-8?Q?a_b?=\"\nContent-ID: <x@y>\nContent-Language: en, de\nContent-Location: http://x/y\n\npng";
+    let rows = [(
+        "{\"properties\":[\"bodyStructure\"]}",
+        "{\"bodyStructure\":{\"blobId\":\"b1-1\",\"charset\":null,\"cid\":\"x@y\",\"disposition\":\"inline\",\"language\":[\"en\",\"de\"],\"location\":\"http://x/y\",\"name\":\"a b\",\"partId\":\"1\",\"size\":3,\"type\":\"image/png\"}}",
+    )];
+    check(&rt, rt.alloc(), message, &rows)
 }
 
 #[test]

@@ -1,0 +1,24 @@
+use Rattle.std.proofs.Common.{◌≡◌, ◌++◌, ◌∷◌, take, rules, arith, ap, sym, ◌∙◌}
+use Rattle.std.specs.Str.{chars}
+use Rattle.std.proofs.lemmas.Str.{chars_past_char, IsUtf8-past_char}
+use Rattle.mail_summary.specs.Texts.{behind, spaced}
+use Rattle.mail_summary.proofs.Fronts.{take_front, at_end}
+use Rattle.mail_summary.proofs.characters.front_spaced.Goals as goal
+use Rattle.mail_summary.proofs.characters.front_spaced.Goals.{in-None, in-Some+then-len-gt-MOST}
+
+pub loop-c-preserved : goal.loop-c-preserved
+loop-c-preserved c =
+    let held = c.loop-c.invariant in
+    let parts = c.in-Some.ensures.steps.0 in
+    record {
+      utf8 = IsUtf8-past_char _ _ c.in-Some.c held.utf8 parts;
+      same = c.in_ok-gap.ensures (chars c.next.new.self.rest.now)
+          ∙ ap (λ cs. c.loop-c.out.items ++ behind c.loop-c.gap (spaced cs)) (sym (chars_past_char _ _ c.in-Some.c held.utf8 parts))
+          ∙ held.same;
+    }
+
+pub returns : goal.returns
+returns c = elim c.match-next.branch [
+  | in-None w ↦ at_end _ _ _ _ w.in-None.ensures.steps.0.0 c.loop-c.invariant.same
+  | in-Some+then-len-gt-MOST w ↦ take_front 257 _ _ (omega (arith, w.if-len-gt-MOST)) ∙ ap (λ cs. take 257 cs) c.loop-c.invariant.same
+]
