@@ -24,10 +24,31 @@ const OTHER_FORMS: [&str; 10] = [
     "INSERT INTO commits VALUES (1, 'a')",
 ];
 
-// each after the tables of format 1 with the rows `a` and `b`, and what brings them back
-const CHANGES: [(&str, &str); 5] = [
+// each after the tables of format 1, in a file
+const FORMS_IN_FILES: [&str; 4] = [
+    "UPDATE about SET value = 2",
+    "DROP TABLE commits; CREATE TABLE commits (place INTEGER, bytes BLOB)",
+    "DROP TABLE commits; CREATE VIEW commits AS SELECT item AS place, x'61' AS bytes FROM about",
+    "INSERT INTO commits VALUES (1, x'61'), (3, x'62')",
+];
+
+// each after the tables of format 1 with the rows `a` and `b`, and what takes it back
+const CHANGES: [(&str, &str); 10] = [
     ("UPDATE about SET value = 2", "UPDATE about SET value = 1"),
+    ("UPDATE about SET item = 2", "UPDATE about SET item = 1"),
+    (
+        "INSERT INTO about VALUES (2, 1)",
+        "DELETE FROM about WHERE item = 2",
+    ),
     ("DELETE FROM about", "INSERT INTO about VALUES (1, 1)"),
+    (
+        "DROP TABLE commits",
+        "CREATE TABLE commits (place INTEGER PRIMARY KEY, bytes BLOB NOT NULL); INSERT INTO commits VALUES (1, x'61'), (2, x'62')",
+    ),
+    (
+        "INSERT INTO commits VALUES (0, x'61')",
+        "DELETE FROM commits WHERE place = 0",
+    ),
     (
         "DELETE FROM commits WHERE place = 1",
         "INSERT INTO commits VALUES (1, x'61')",
@@ -35,6 +56,10 @@ const CHANGES: [(&str, &str); 5] = [
     (
         "UPDATE commits SET place = 4 WHERE place = 2",
         "UPDATE commits SET place = 2 WHERE place = 4",
+    ),
+    (
+        "UPDATE commits SET bytes = 'a' WHERE place = 1",
+        "UPDATE commits SET bytes = x'61' WHERE place = 1",
     ),
     ("BEGIN; INSERT INTO commits VALUES (3, x'63')", "ROLLBACK"),
 ];
@@ -274,7 +299,7 @@ fn files_of_forms(rt: &HostRuntime) -> io::Result<(Vec<u8>, Vec<u8>)> {
 
 #[test]
 fn files_of_other_forms_are_left_alone(rt: HostRuntime) -> Result<(), Fail> {
-    for more in OTHER_FORMS {
+    for more in FORMS_IN_FILES {
         folder(&rt, "keep_sqlite_forms")?;
         make(&rt, "keep_sqlite_forms/a.sqlite", more)?;
         let (file, log) = files_of_forms(&rt)?;
