@@ -1,15 +1,15 @@
 -- What a keeper keeps after a call, what a crash may leave then, and when a fault may be answered.
-use Rattle.std.specs.Prelude.{◌≡◌, ℕ, ◌≤◌, Result, Ok, Err, List, [], ◌∷◌, ◌++◌, Option, Some, None, ◌⊎◌}
+use Rattle.std.specs.Prelude.{◌≡◌, ◌↔◌, ℕ, Result, Ok, Err, List, [], ◌∷◌, ◌++◌, Option, Some, None, ◌⊎◌}
 use Rattle.jm_edge.specs.Causes.{Rose}
 use Rattle.jm_edge.specs.declared.fault.EdgeFault.{EdgeFault}
 use Rattle.jm_edge.specs.declared.fault.EdgeFault.TheVariants.{Failed, NoMemory}
 use Rattle.keep_port.specs.declared.kept.Kept.{Kept}
 
--- the count of faults did not fall, it rose where the call failed, and for want of memory it is as it was
+-- the count of faults rose where the call failed, and else it is as it was
 abbrev pub IsCounted : {T : Type 0} → ℕ → ℕ → Result T EdgeFault → Type 0
 IsCounted before now (Err Failed) = Rose before now
 IsCounted before now (Err NoMemory) = now ≡ before
-IsCounted before now (Ok _) = before ≤ now
+IsCounted before now (Ok _) = now ≡ before
 
 -- this is what is kept, where that is told
 abbrev pub IsTold : Option Kept → Kept → Type 0
@@ -47,6 +47,6 @@ MustLeave (Ok _) next old new = (k : Kept) → next ≡ Some k → new k
 MustLeave (Err Failed) next old new = (k : Kept) → old k ⊎ (next ≡ Some k) → new k
 MustLeave (Err NoMemory) next old new = (k : Kept) → old k → new k
 
--- a crash leaves what is kept, and nothing else
+-- a crash leaves what is kept, and may leave nothing else
 abbrev pub IsClean : Option Kept → (Kept → Type 0) → Type 0
-IsClean kept image = (k : Kept) → image k → kept ≡ Some k
+IsClean kept image = (k : Kept) → image k ↔ (kept ≡ Some k)

@@ -9,8 +9,8 @@ use std::alloc::Global;
 
 /// What keeps the rows of an account.
 ///
-/// Each call answers `Failed` only where its own count of faults rose in that call. After a refusal what is kept is as
-/// before. Want of memory raises no count.
+/// Each call answers `Failed` only where its own count of faults rose in that call. `Ok` and want of memory raise no count.
+/// After a refusal what is kept is as before.
 pub trait Keeper: Drop + Send {
     /// What is kept, where the keeper tells it.
     ghost kept: { Self → Option Kept };

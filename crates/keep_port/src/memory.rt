@@ -13,7 +13,7 @@ use std::alloc::Global;
 /// refused `append`, or the whole of one refused `replace`, of those since the last call of either that was not refused.
 ///
 /// The listed calls fail, counted from 1 for `load`, `append` and `replace` apart. A call that finds no memory changes
-/// nothing, and is not counted.
+/// nothing, and is not counted: where it was a listed one, the next of its kind is. At first a crash leaves what is kept.
 #[derive(Drop)]
 pub struct MemoryKeeper {
     kept: Kept,
@@ -38,7 +38,7 @@ impl MemoryKeeper {
         MemoryKeeper::failing(alloc, kept, none, Numbers::new(alloc), Numbers::new(alloc))
     }
 
-    #[tactic(auto, using(crate::proofs::Left::nothing_refused))]
+    #[tactic(auto, using(crate::proofs::Left::nothing_refused, crate::proofs::Left::kept_is_left))]
     /// A keeper that keeps this, and fails at the listed calls of `load`, `append` and `replace`.
     pub fn failing(
         alloc: Global,

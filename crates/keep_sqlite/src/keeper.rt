@@ -1,9 +1,9 @@
 // A keeper of rows in a database, with its faults counted. What the database holds is not told.
-ghost use Rattle.std.specs.Prelude.{◌≡◌, None, IsSome};
-ghost use Rattle.jm_edge.specs.Causes.{Rose};
-ghost use Rattle.keep_port.specs.Keeping.{IsCounted, kept_after, whole_if, MayLeave, MustLeave};
+ghost use Rattle.std.specs.Prelude.{◌≡◌, None, IsSome, IfOk};
+ghost use Rattle.keep_port.specs.Keeping.{IsCounted, IsTold, kept_after, whole_if, MayLeave, MustLeave};
+ghost use Rattle.keep_sqlite.specs.Answers.{Answers};
 
-use crate::access::{Access, OpenAt, Place};
+use crate::access::{Access, Place};
 use jm_base::Text;
 use jm_edge::EdgeFault;
 use keep_port::{Keeper, Kept};
@@ -13,7 +13,10 @@ use std::alloc::Global;
 #[cfg(test)]
 mod tests;
 
-/// Keeps rows in a database.
+// a base is of no format that is written
+const BASE: Error = Error::SqliteFailure(ErrorCode::NotADatabase);
+
+/// Keeps rows in a database over a store.
 ///
 /// Each call is one transaction. A refusal changes nothing, and but for want of memory it raises the count of its call. Once the
 /// store has shut the database after a fault of the disk, each later call is refused.
@@ -38,15 +41,15 @@ impl SqliteKeeper<FileStore<File>> {
     }
 }
 
-impl<S: OpenAt> SqliteKeeper<S> {
+impl<S: Alter + Drop> SqliteKeeper<S> {
     /// A keeper of what this connection is open to. While a transaction of it is not ended, each call is refused.
     pub fn adopt(connection: Connection<S>) -> SqliteKeeper<S>
-        ensures adopted { result.access.place ≡ Place.Open connection }
+        ensures adopted { result.access.place ≡ Place.Adopted connection }
         ensures loads { result.load_faults ≡ 0 }
         ensures appends { result.append_faults ≡ 0 }
         ensures replaces { result.replace_faults ≡ 0 }
     {
-        SqliteKeeper::new(Place::Open(connection))
+        SqliteKeeper::new(Place::Adopted(connection))
     }
 
     fn new(place: Place<S>) -> SqliteKeeper<S>
@@ -64,13 +67,21 @@ impl<S: OpenAt> SqliteKeeper<S> {
     }
 }
 
-fn count(faults: &mut u64)
-    ensures { Rose faults.old faults.new }
+// What a call answers for what came of it in the database, with its faults counted.
+fn answer<T: Drop>(faults: &mut u64, done: Result<T, Error>) -> Result<T, EdgeFault>
+    ensures { Answers done faults.old faults.new result }
 {
-    *faults = faults.saturating_add(1);
+    match done {
+        Ok(value) => Ok(value),
+        Err(Error::SqliteFailure(ErrorCode::OutOfMemory)) => Err(EdgeFault::NoMemory),
+        Err(_) => {
+            *faults = faults.saturating_add(1);
+            Err(EdgeFault::Failed)
+        }
+    }
 }
 
-impl<S: OpenAt + Send> Keeper for SqliteKeeper<S> {
+impl<S: Alter + Drop + Send> Keeper for SqliteKeeper<S> {
     ghost kept = { λ _. None };
 
     ghost image = { λ _ _. ⊥ };
@@ -81,26 +92,20 @@ impl<S: OpenAt + Send> Keeper for SqliteKeeper<S> {
 
     ghost replace_faults = { λ k. k.replace_faults };
 
-    fn load(&mut self, alloc: Global) -> Result<Kept, EdgeFault> {
-        match self.access.load(alloc) {
-            Ok(rows) => Ok(Kept { base: None, rows }),
-            Err(Error::SqliteFailure(ErrorCode::OutOfMemory)) => Err(EdgeFault::NoMemory),
-            Err(_) => {
-                count(&mut self.load_faults);
-                Err(EdgeFault::Failed)
-            }
-        }
+    /// The rows that are kept. There is no base.
+    fn load(&mut self, alloc: Global) -> Result<Kept, EdgeFault>
+        ensures base { IfOk result (λ k. k.base ≡ None) }
+        ensures loaded { IfOk result (IsTold None) }
+        ensures cause { IsCounted self.old.load_faults self.new.load_faults result }
+        ensures append_count { self.new.append_faults ≡ self.old.append_faults }
+        ensures replace_count { self.new.replace_faults ≡ self.old.replace_faults }
+    {
+        let rows = answer(&mut self.load_faults, self.access.load(alloc))?;
+        Ok(Kept { base: None, rows })
     }
 
     fn append(&mut self, alloc: Global, row: &[u8]) -> Result<(), EdgeFault> {
-        match self.access.append(alloc, row) {
-            Ok(()) => Ok(()),
-            Err(Error::SqliteFailure(ErrorCode::OutOfMemory)) => Err(EdgeFault::NoMemory),
-            Err(_) => {
-                count(&mut self.append_faults);
-                Err(EdgeFault::Failed)
-            }
-        }
+        answer(&mut self.append_faults, self.access.append(alloc, row))
     }
 
     /// Keeps these rows in the place of those that are kept. A base is refused, and nothing is asked of the database then.
@@ -115,16 +120,9 @@ impl<S: OpenAt + Send> Keeper for SqliteKeeper<S> {
         ensures append_count { self.new.append_faults ≡ self.old.append_faults }
     {
         if whole.base.is_some() {
-            count(&mut self.replace_faults);
-            return Err(EdgeFault::Failed);
+            return answer(&mut self.replace_faults, Err(BASE));
         }
-        match self.access.replace(alloc, whole.rows.as_slice()) {
-            Ok(()) => Ok(()),
-            Err(Error::SqliteFailure(ErrorCode::OutOfMemory)) => Err(EdgeFault::NoMemory),
-            Err(_) => {
-                count(&mut self.replace_faults);
-                Err(EdgeFault::Failed)
-            }
-        }
+        let done = self.access.replace(alloc, whole.rows.as_slice());
+        answer(&mut self.replace_faults, done)
     }
 }

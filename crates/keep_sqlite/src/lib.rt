@@ -10,5 +10,4 @@ mod database;
 mod keeper;
 mod tables;
 
-pub use access::OpenAt;
 pub use keeper::SqliteKeeper;

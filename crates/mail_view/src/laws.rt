@@ -5,5 +5,4 @@ ghost use Rattle.mail_view.specs.Arguments.{IsTaken, read_arguments, wanted_in};
 /// The arguments by which a message is read from the command line have their form.
 pub fn arguments_of_read_are_taken()
     ensures { IsTaken (wanted_in read_arguments true) }
-{
-}
+{}

@@ -4,7 +4,8 @@ use crate::timing::{nanos_since, no_memory};
 use jm_base::Text;
 use jm_edge::EdgeFault;
 use keep_port::Keeper;
-use keep_sqlite::{OpenAt, SqliteKeeper};
+use keep_sqlite::SqliteKeeper;
+use sqlite::Alter;
 use std::alloc::Global;
 use std::io;
 use std::time::{Clock, Instant};
@@ -41,7 +42,7 @@ fn rows_of<K: Keeper>(alloc: Global, keeper: &mut K) -> io::Result<usize> {
 }
 
 // Measures appends to a keeper that is opened first.
-fn measure_keeper<R: Clock + Print + Eprint, S: OpenAt + Send>(
+fn measure_keeper<R: Clock + Print + Eprint, S: Alter + Drop + Send>(
     rt: &R,
     alloc: Global,
     mut keeper: SqliteKeeper<S>,

@@ -1,5 +1,4 @@
 use super::SqliteKeeper;
-use crate::OpenAt;
 use jm_base::{Bytes, NoMemory, Text};
 use jm_edge::EdgeFault;
 use keep_port::{Keeper, Kept};
@@ -11,8 +10,8 @@ use std::{fs, io};
 const FORMAT_1: &str =
     "CREATE TABLE about (item INTEGER PRIMARY KEY, value INTEGER NOT NULL); CREATE TABLE commits (place INTEGER PRIMARY KEY, bytes BLOB NOT NULL); INSERT INTO about VALUES (1, 1);";
 
-// each after the tables of format 1; the last is a transaction that is not ended
-const OTHER_FORMS: [&str; 11] = [
+// each after the tables of format 1
+const OTHER_FORMS: [&str; 10] = [
     "UPDATE about SET value = 2",
     "UPDATE about SET item = 2",
     "INSERT INTO about VALUES (2, 1)",
@@ -23,7 +22,46 @@ const OTHER_FORMS: [&str; 11] = [
     "INSERT INTO commits VALUES (0, x'61')",
     "INSERT INTO commits VALUES (1, x'61'), (3, x'62')",
     "INSERT INTO commits VALUES (1, 'a')",
-    "BEGIN",
+];
+
+// each after the tables of format 1, in a file
+const FORMS_IN_FILES: [&str; 4] = [
+    "UPDATE about SET value = 2",
+    "DROP TABLE commits; CREATE TABLE commits (place INTEGER, bytes BLOB)",
+    "DROP TABLE commits; CREATE VIEW commits AS SELECT item AS place, x'61' AS bytes FROM about",
+    "INSERT INTO commits VALUES (1, x'61'), (3, x'62')",
+];
+
+// each after the tables of format 1 with the rows `a` and `b`, and what takes it back
+const CHANGES: [(&str, &str); 10] = [
+    ("UPDATE about SET value = 2", "UPDATE about SET value = 1"),
+    ("UPDATE about SET item = 2", "UPDATE about SET item = 1"),
+    (
+        "INSERT INTO about VALUES (2, 1)",
+        "DELETE FROM about WHERE item = 2",
+    ),
+    ("DELETE FROM about", "INSERT INTO about VALUES (1, 1)"),
+    (
+        "DROP TABLE commits",
+        "CREATE TABLE commits (place INTEGER PRIMARY KEY, bytes BLOB NOT NULL); INSERT INTO commits VALUES (1, x'61'), (2, x'62')",
+    ),
+    (
+        "INSERT INTO commits VALUES (0, x'61')",
+        "DELETE FROM commits WHERE place = 0",
+    ),
+    (
+        "DELETE FROM commits WHERE place = 1",
+        "INSERT INTO commits VALUES (1, x'61')",
+    ),
+    (
+        "UPDATE commits SET place = 4 WHERE place = 2",
+        "UPDATE commits SET place = 2 WHERE place = 4",
+    ),
+    (
+        "UPDATE commits SET bytes = 'a' WHERE place = 1",
+        "UPDATE commits SET bytes = x'61' WHERE place = 1",
+    ),
+    ("BEGIN; INSERT INTO commits VALUES (3, x'63')", "ROLLBACK"),
 ];
 
 fn run<S: Alter + Drop>(mut connection: Connection<S>, text: &str) -> Result<Connection<S>, Error> {
@@ -135,17 +173,38 @@ fn all_come<K: Keeper>(rt: &HostRuntime, keeper: &mut K, steps: &[Step]) -> bool
     true
 }
 
+fn counts<S: Alter + Drop>(keeper: &SqliteKeeper<S>) -> [u64; 3] {
+    [
+        keeper.load_faults,
+        keeper.append_faults,
+        keeper.replace_faults,
+    ]
+}
+
 // whether each step comes as it says, and so many calls of `load`, `append` and `replace` were refused; it is closed then
-fn goes<S: OpenAt + Send>(
+fn goes<S: Alter + Drop + Send>(
     rt: &HostRuntime,
     mut keeper: SqliteKeeper<S>,
     steps: &[Step],
     faults: [u64; 3],
 ) -> bool {
-    all_come(rt, &mut keeper, steps)
-        && keeper.load_faults == faults[0]
-        && keeper.append_faults == faults[1]
-        && keeper.replace_faults == faults[2]
+    all_come(rt, &mut keeper, steps) && counts(&keeper) == faults
+}
+
+// statements that are run in the database, and the calls after them
+type Turn = (&'static str, &'static [Step]);
+
+fn all_turns_come<S: Alter + Drop + Send>(
+    rt: &HostRuntime,
+    keeper: &mut SqliteKeeper<S>,
+    turns: &[Turn],
+) -> bool {
+    for (text, steps) in turns {
+        if !keeper.access.run(text) || !all_come(rt, keeper, steps) {
+            return false;
+        }
+    }
+    true
 }
 
 fn goes_at(
@@ -179,6 +238,12 @@ fn goes_in_memory(
 ) -> Result<bool, Error> {
     let keeper = memory(rt.alloc(), more)?;
     Ok(goes(rt, keeper, steps, faults))
+}
+
+// in memory, after the tables of format 1 were made
+fn goes_by_turns(rt: &HostRuntime, turns: &[Turn], faults: [u64; 3]) -> Result<bool, Error> {
+    let mut keeper = memory(rt.alloc(), "")?;
+    Ok(all_turns_come(rt, &mut keeper, turns) && counts(&keeper) == faults)
 }
 
 #[test]
@@ -215,6 +280,64 @@ fn other_forms_are_refused_and_counted(rt: HostRuntime) -> Result<(), Fail> {
             "after {more}"
         );
     }
+    Ok(())
+}
+
+// makes a file with the tables of format 1, runs this in it, and closes it
+fn make(rt: &HostRuntime, path: &str, more: &str) -> Result<(), Error> {
+    let made = run(Connection::open(rt, path)?, FORMAT_1)?;
+    run(made, more)?;
+    Ok(())
+}
+
+// the bytes of the file in the folder of other forms, and of the log beside it
+fn files_of_forms(rt: &HostRuntime) -> io::Result<(Vec<u8>, Vec<u8>)> {
+    let file = fs::read(rt, "keep_sqlite_forms/a.sqlite")?;
+    let log = fs::read(rt, "keep_sqlite_forms/a.sqlite-wal")?;
+    Ok((file, log))
+}
+
+#[test]
+fn files_of_other_forms_are_left_alone(rt: HostRuntime) -> Result<(), Fail> {
+    for more in FORMS_IN_FILES {
+        folder(&rt, "keep_sqlite_forms")?;
+        make(&rt, "keep_sqlite_forms/a.sqlite", more)?;
+        let (file, log) = files_of_forms(&rt)?;
+        assert!(rt;
+            goes_at(&rt, "keep_sqlite_forms/a.sqlite", &REFUSED, [1; 3])?,
+            "after {more}"
+        );
+        let (file_after, log_after) = files_of_forms(&rt)?;
+        assert!(rt; file.as_slice() == file_after.as_slice(), "after {more}");
+        assert!(rt; log.as_slice() == log_after.as_slice(), "after {more}");
+    }
+    Ok(())
+}
+
+// what was loaded before counts for nothing then
+#[test]
+fn a_form_that_changed_is_refused_until_it_is_back(rt: HostRuntime) -> Result<(), Fail> {
+    for (change, back) in CHANGES {
+        let turns: [Turn; 3] = [
+            ("", &[Append(b"a"), Append(b"b"), Load(&[b"a", b"b"])]),
+            (change, &REFUSED),
+            (
+                back,
+                &[Load(&[b"a", b"b"]), Append(b"c"), Load(&[b"a", b"b", b"c"])],
+            ),
+        ];
+        assert!(rt; goes_by_turns(&rt, &turns, [1; 3])?, "after {change}");
+    }
+    Ok(())
+}
+
+#[test]
+fn a_transaction_that_is_not_ended_is_left_alone(rt: HostRuntime) -> Result<(), Fail> {
+    let turns: [Turn; 2] = [
+        ("BEGIN; INSERT INTO commits VALUES (1, x'61')", &REFUSED),
+        ("COMMIT", &[Load(&[b"a"])]),
+    ];
+    assert!(rt; goes_by_turns(&rt, &turns, [1; 3])?);
     Ok(())
 }
 
