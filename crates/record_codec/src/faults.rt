@@ -11,6 +11,7 @@ pub enum CodecFault {
     /// The bytes are no commit's spelling. The number is the place, counted from 0, of the first byte at which no
     /// commit goes on as the bytes do: their length where they stop early.
     NotACommit(u64),
+    /// There was no memory for the commit; nothing is said of the bytes.
     NoMemory,
 }
 

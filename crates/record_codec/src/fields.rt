@@ -7,7 +7,7 @@ ghost use Rattle.record_codec.specs.Spelling.{number, blob, listed, truth, optio
 use jm_base::{Bytes, NoMemory, Text, UtcDate};
 
 /// The seconds from the beginning of the year 1 to that of 1970.
-pub const YEARS_BEFORE_1970: i64 = 62135596800;
+pub const SECONDS_BEFORE_1970: i64 = 62135596800;
 
 /// The last second of the year 9999, counted from the beginning of the year 1.
 pub const LAST_SECOND: u64 = 315537897599;
@@ -47,7 +47,7 @@ pub fn put_date(out: &mut Vec<u8>, value: &UtcDate) -> Result<(), NoMemory>
     requires { IsMoment value.now }
     ensures { OnOk result (out.new.items ≡ out.old.items ++ date value.now) }
 {
-    let seconds = value.seconds + YEARS_BEFORE_1970;
+    let seconds = value.seconds + SECONDS_BEFORE_1970;
     put_number(out, seconds as u64)
 }
 

@@ -18,7 +18,7 @@ pub const READ: [&str; 6] = [
 ];
 
 /// Bytes that are no commit's spelling, and the place.
-pub const REFUSED: [(&str, u64); 80] = [
+pub const REFUSED: [(&str, u64); 95] = [
     // a byte more
     ("01 #1 #1 #0 #1 06 #5 00", 42),
     // tag 7
@@ -365,4 +365,64 @@ pub const REFUSED: [(&str, u64); 80] = [
         "01 #1 #1 #0 #1 03 #1 #2 #3 #1 #1 #0 #9 #63713520000 #18446744073709551615 #1 61",
         115,
     ),
+    // a count of mailboxes that is one more
+    (
+        "01 #1 #1 #0 #1 03 #1 #2 #3 #2 #1 #0 #9 #63713520000 #0 #1 73 #0 #0 00 00 00",
+        81,
+    ),
+    // a count of mailboxes that is one less
+    (
+        "01 #1 #1 #0 #1 03 #1 #2 #3 #1 #1 #7 #0 #9 #63713520000 #0 #1 73 #0 #0 00 00 00",
+        105,
+    ),
+    // a count of mailboxes past the end
+    ("01 #1 #1 #0 #1 03 #1 #2 #3 #18446744073709551615 #0 #1", 82),
+    // a count of a thread's emails that is one less
+    ("01 #1 #1 #0 #1 05 #9 #1 #3 #1 00", 59),
+    // a count of a thread's emails past the end
+    ("01 #1 #1 #0 #1 05 #9 #18446744073709551615 #3", 58),
+    // a keyword whose length is one more
+    (
+        "01 #1 #1 #0 #1 03 #1 #2 #3 #1 #1 #1 #3 6162 #9 #63713520000 #0 #1 73 #0 #0 00 00 00",
+        103,
+    ),
+    // a keyword whose length is one less
+    (
+        "01 #1 #1 #0 #1 03 #1 #2 #3 #1 #1 #1 #1 6162 #9 #63713520000 #0 #1 73 #0 #0 00 00 00",
+        99,
+    ),
+    // a keyword past the end
+    (
+        "01 #1 #1 #0 #1 03 #1 #2 #3 #1 #1 #1 #18446744073709551615 6162",
+        92,
+    ),
+    // a link whose length is one more
+    (
+        "01 #1 #1 #0 #1 03 #1 #2 #3 #1 #1 #0 #9 #63713520000 #1 #3 6162 #1 73 #0 #0 00 00 00",
+        144,
+    ),
+    // a link whose length is one less
+    (
+        "01 #1 #1 #0 #1 03 #1 #2 #3 #1 #1 #0 #9 #63713520000 #1 #1 6162 #1 73 #0 #0 00 00 00",
+        144,
+    ),
+    // a subject that isn't UTF-8
+    (
+        "01 #1 #1 #0 #1 03 #1 #2 #3 #1 #1 #0 #9 #63713520000 #0 #1 ff #0 #0 00 00 00",
+        114,
+    ),
+    // a keyword that isn't UTF-8
+    (
+        "01 #1 #1 #0 #1 03 #1 #2 #3 #1 #1 #1 #2 6180 #9 #63713520000 #0 #1 73 #0 #0 00 00 00",
+        91,
+    ),
+    // links that fall
+    (
+        "01 #1 #1 #0 #1 03 #1 #2 #3 #1 #1 #0 #9 #63713520000 #2 #1 62 #1 61 #1 73 #0 #0 00 00 00",
+        123,
+    ),
+    // a count of mailboxes that rises no further before the end
+    ("01 #1 #1 #0 #1 03 #1 #2 #3 #3 #18446744073709551615 #2", 73),
+    // a name past the end that isn't UTF-8 before it
+    ("01 #1 #1 #0 #1 01 #1 #18446744073709551615 61ff", 51),
 ];

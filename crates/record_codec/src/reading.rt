@@ -49,7 +49,7 @@ fn alone(bytes: &[u8], commit: Commit, rest: &[u8]) -> Result<Commit, CodecFault
     Err(CodecFault::NotACommit((bytes.len() - rest.len()) as u64))
 }
 
-/// The commit that the bytes spell.
+/// The commit that the bytes spell. Of bytes that spell none the place is told: `NotACommit`. Want of memory may come at any time.
 pub fn decode(alloc: Global, bytes: &[u8]) -> Result<Commit, CodecFault>
     ensures { IsRead bytes.now result }
 {

@@ -3,8 +3,8 @@ ghost use Rattle.mail_records.specs.Commits.{IsFormed};
 
 use crate::places::{READ, REFUSED};
 use crate::{CodecFault, decode, encode};
-use jm_base::{Blobs, Bytes, NoMemory};
-use mail_records::{Commit, Edit, Edits, Stamp};
+use jm_base::{Blobs, Bytes, NoMemory, Texts};
+use mail_records::{Commit, Edit, Edits, Email, Mailbox, Stamp, Summary};
 use std::alloc::Global;
 use std::test::Fail;
 
@@ -114,5 +114,92 @@ fn a_spelling_cut_off_is_refused_at_its_end(rt: HostRuntime) -> Result<(), Fail>
             assert_eq!(rt; answer, Some(CodecFault::NotACommit(length as u64)));
         }
     }
+    Ok(())
+}
+
+fn told_mailbox(alloc: Global, m: &Mailbox) -> Result<String, NoMemory> {
+    let role = m.role.as_ref().map_or("", |role| role.as_str());
+    let own = format!(in alloc;
+        "{} {} {} {} {} {}",
+        m.number,
+        m.name.as_str(),
+        m.parent.unwrap_or(0),
+        role,
+        m.sort_order,
+        m.subscribed as u8
+    )?;
+    Ok(format!(in alloc;
+        "{} {} {} {} {}",
+        own, m.total_emails, m.unread_emails, m.total_threads, m.unread_threads
+    )?)
+}
+
+fn told_texts(alloc: Global, texts: &Texts) -> Result<String, NoMemory> {
+    let mut told = String::new(alloc);
+    for text in texts.as_slice() {
+        told.push_str(text.as_str())?;
+    }
+    Ok(told)
+}
+
+fn told_summary(alloc: Global, s: &Summary) -> Result<String, NoMemory> {
+    let links = told_texts(alloc, &s.links)?;
+    let sent = s.sent.map_or(0, |date| date.seconds);
+    Ok(format!(in alloc;
+        "{} {} {} {} {} {}",
+        links,
+        s.subject.as_str(),
+        s.from.as_str(),
+        s.to.as_str(),
+        sent,
+        s.attachment as u8
+    )?)
+}
+
+fn told_email(alloc: Global, e: &Email) -> Result<String, NoMemory> {
+    let mailbox = e.mailboxes.as_slice().first().copied().unwrap_or(0);
+    let keywords = told_texts(alloc, &e.keywords)?;
+    let summary = told_summary(alloc, &e.summary)?;
+    let own = format!(in alloc;
+        "{} {} {} {} {}",
+        e.number, e.thread, e.blob, mailbox, keywords
+    )?;
+    Ok(format!(in alloc; "{} {} {} {}", own, e.size, e.received.seconds, summary)?)
+}
+
+fn told_edit(alloc: Global, edit: &Edit) -> Result<String, NoMemory> {
+    match edit {
+        Edit::PutMailbox { item, was, counts } => {
+            let item = told_mailbox(alloc, item)?;
+            Ok(format!(in alloc; "{} {} {};", item, *was as u8, *counts as u8)?)
+        }
+        Edit::PutEmail { item, was } => {
+            let item = told_email(alloc, item)?;
+            Ok(format!(in alloc; "{} {};", item, *was as u8)?)
+        }
+        Edit::DropEmail { number, thread } => Ok(format!(in alloc; "{number} {thread};")?),
+        _ => Ok(String::new(alloc)),
+    }
+}
+
+// Each field has a value of its own, so that none stands in the place of another.
+#[test]
+fn fields_stand_in_their_order(rt: HostRuntime) -> Result<(), Fail> {
+    let alloc = rt.alloc();
+    let bytes = bytes_of(
+        alloc,
+        "01 #3 #4 #0 #3 01 #11 #1 61 01 #12 01 #1 62 #13 01 #14 #15 #16 #17 00 01 03 #21 #22 #23 #1 #24 #1 #1 63 #25 #63713520026 #1 #1 64 #1 65 #1 66 #1 67 01 #63713520027 00 01 04 #31 #32",
+    )?;
+    let commit = decode(alloc, &bytes).ok().ok_or("it is a spelling")?;
+    assert_eq!(rt; commit.stamp, Stamp { pass: 3, serial: 4 });
+    let mut told = String::new(alloc);
+    for edit in commit.edits.as_slice() {
+        let edit = told_edit(alloc, edit)?;
+        told.push_str(edit.as_str())?;
+    }
+    assert_eq!(rt;
+        told.as_str(),
+        "11 a 12 b 13 1 14 15 16 17 0 1;21 22 23 24 c 25 1577923226 d e f g 1577923227 0 1;31 32;"
+    );
     Ok(())
 }

@@ -7,7 +7,7 @@ ghost use Rattle.record_codec.specs.Reading.{Gives};
 ghost use Rattle.record_codec.specs.Readers.{number_at, number_between, truth_at, date_at, optional_at, tag_at};
 
 use crate::faults::Misread;
-use crate::fields::{LAST_SECOND, YEARS_BEFORE_1970};
+use crate::fields::{LAST_SECOND, SECONDS_BEFORE_1970};
 use jm_base::UtcDate;
 
 /// A number, and the bytes behind it.
@@ -83,7 +83,7 @@ pub fn date_of(bytes: &[u8]) -> Result<(UtcDate, &[u8]), Misread>
     ensures { Gives (λ x. (x.0, x.1.now)) result (date_at bytes.now) }
 {
     let (number, rest) = number_from(0, LAST_SECOND, bytes)?;
-    let seconds = number as i64 - YEARS_BEFORE_1970;
+    let seconds = number as i64 - SECONDS_BEFORE_1970;
     Ok((UtcDate { seconds }, rest))
 }
 
