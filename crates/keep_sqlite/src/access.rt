@@ -8,65 +8,88 @@ use std::alloc::Global;
 
 const CANNOT_OPEN: Error = Error::SqliteFailure(ErrorCode::CannotOpen);
 
-/// Where the database is.
-#[derive(Drop)]
-pub enum Place<S: Alter + Drop> {
-    /// At a path, and not opened yet.
-    At(HostRuntime, Text),
-    /// Opened at its path.
-    Opened(Connection<FileStore<File>>),
-    /// Open over a store, as it was adopted.
-    Adopted(Connection<S>),
+/// What opens a database over a store.
+pub trait Opens<S: Alter + Drop>: Drop {
+    /// Opens the database, or makes it. What opens none refuses each time.
+    fn open(&self) -> Result<Connection<S>, Error>;
 }
 
-impl<S: Alter + Drop> Place<S> {
-    // where it is at a path, it is opened there, or made
-    fn open(&mut self) -> Result<(), Error> {
-        if let Place::At(rt, path) = self {
-            let opened = Connection::open(rt, path.as_str())?;
-            *self = Place::Opened(opened);
+/// Opens the file at a path.
+#[derive(Drop)]
+pub struct AtPath {
+    rt: HostRuntime,
+    path: Text,
+}
+
+impl AtPath {
+    /// What opens the file at this path.
+    pub fn new(rt: &HostRuntime, path: Text) -> AtPath
+        ensures { result ≡ record { rt = rt.now; path = path } }
+    {
+        AtPath { rt: *rt, path }
+    }
+}
+
+impl Opens<FileStore<File>> for AtPath {
+    fn open(&self) -> Result<Connection<FileStore<File>>, Error> {
+        Connection::open(&self.rt, self.path.as_str())
+    }
+}
+
+/// Opens none: the connection was adopted.
+#[derive(Drop)]
+pub struct Adopted;
+
+impl<S: Alter + Drop> Opens<S> for Adopted {
+    fn open(&self) -> Result<Connection<S>, Error> {
+        Err(CANNOT_OPEN)
+    }
+}
+
+/// Where the database is.
+#[derive(Drop)]
+pub enum Place<S: Alter + Drop, O: Opens<S>> {
+    /// To be opened so, and not opened yet.
+    At(O),
+    /// Open.
+    Open(Connection<S>),
+}
+
+impl<S: Alter + Drop, O: Opens<S>> Place<S, O> {
+    fn connection(&mut self) -> Result<&mut Connection<S>, Error> {
+        if let Place::At(opener) = self {
+            let opened = opener.open()?;
+            *self = Place::Open(opened);
         }
-        Ok(())
+        match self {
+            Place::Open(connection) => Ok(connection),
+            Place::At(_) => Err(CANNOT_OPEN),
+        }
     }
 
     fn load(&mut self, alloc: Global) -> Result<Rows, Error> {
-        self.open()?;
-        match self {
-            Place::Opened(connection) => database::load(alloc, connection),
-            Place::Adopted(connection) => database::load(alloc, connection),
-            Place::At(..) => Err(CANNOT_OPEN),
-        }
+        database::load(alloc, self.connection()?)
     }
 
     fn append(&mut self, alloc: Global, last: Option<i64>, row: &[u8]) -> Result<i64, Error> {
-        self.open()?;
-        match self {
-            Place::Opened(connection) => database::append(alloc, connection, last, row),
-            Place::Adopted(connection) => database::append(alloc, connection, last, row),
-            Place::At(..) => Err(CANNOT_OPEN),
-        }
+        database::append(alloc, self.connection()?, last, row)
     }
 
     fn replace(&mut self, alloc: Global, last: Option<i64>, rows: &[Bytes]) -> Result<i64, Error> {
-        self.open()?;
-        match self {
-            Place::Opened(connection) => database::replace(alloc, connection, last, rows),
-            Place::Adopted(connection) => database::replace(alloc, connection, last, rows),
-            Place::At(..) => Err(CANNOT_OPEN),
-        }
+        database::replace(alloc, self.connection()?, last, rows)
     }
 }
 
 /// The database, and the last place of its commits, once its tables were made or checked.
 #[derive(Drop)]
-pub struct Access<S: Alter + Drop> {
-    place: Place<S>,
+pub struct Access<S: Alter + Drop, O: Opens<S>> {
+    place: Place<S, O>,
     last: Option<i64>,
 }
 
-impl<S: Alter + Drop> Access<S> {
+impl<S: Alter + Drop, O: Opens<S>> Access<S, O> {
     /// What is at this place, neither made nor checked yet.
-    pub fn new(place: Place<S>) -> Access<S>
+    pub fn new(place: Place<S, O>) -> Access<S, O>
         ensures place { result.place ≡ place }
         ensures last { result.last ≡ None }
     {
@@ -97,12 +120,12 @@ impl<S: Alter + Drop> Access<S> {
         Ok(())
     }
 
-    /// Runs statements on a connection that was adopted, and says whether there is one and it ran them.
+    /// Runs statements on the connection, and says whether one is open and ran them.
     #[cfg(test)]
     pub fn run(&mut self, text: &str) -> bool {
         match &mut self.place {
-            Place::Adopted(connection) => connection.execute_batch(text).is_ok(),
-            _ => false,
+            Place::Open(connection) => connection.execute_batch(text).is_ok(),
+            Place::At(_) => false,
         }
     }
 }

@@ -3,7 +3,7 @@ ghost use Rattle.std.specs.Prelude.{◌≡◌, None, IsSome, IfOk};
 ghost use Rattle.keep_port.specs.Keeping.{IsCounted, IsTold, kept_after, whole_if, MayLeave, MustLeave};
 ghost use Rattle.keep_sqlite.specs.Answers.{Answers};
 
-use crate::access::{Access, Place};
+use crate::access::{Access, Adopted, AtPath, Opens, Place};
 use jm_base::Text;
 use jm_edge::EdgeFault;
 use keep_port::{Keeper, Kept};
@@ -16,43 +16,45 @@ mod tests;
 // a base is of no format that is written
 const BASE: Error = Error::SqliteFailure(ErrorCode::NotADatabase);
 
-/// Keeps rows in a database over a store.
+/// Keeps rows in a database over a store: a file's that is to be opened at a path, or any that is open and was adopted.
 ///
 /// Each call is one transaction. A refusal changes nothing, and but for want of memory it raises the count of its call. Once the
 /// store has shut the database after a fault of the disk, each later call is refused.
 #[derive(Drop)]
-pub struct SqliteKeeper<S: Alter + Drop> {
-    access: Access<S>,
+pub struct SqliteKeeper<S: Alter + Drop, O: Opens<S>> {
+    access: Access<S, O>,
     load_faults: u64,
     append_faults: u64,
     replace_faults: u64,
 }
 
-impl SqliteKeeper<FileStore<File>> {
+impl SqliteKeeper<FileStore<File>, AtPath> {
     /// A keeper of the file at this path. It opens nothing: the first call opens the file, or makes it. A call by which it can
     /// not be opened is refused, and the next one tries it again.
-    pub fn at(rt: &HostRuntime, path: Text) -> SqliteKeeper<FileStore<File>>
-        ensures unopened { result.access.place ≡ Place.At rt.now path }
+    pub fn at(rt: &HostRuntime, path: Text) -> SqliteKeeper<FileStore<File>, AtPath>
+        ensures unopened { result.access.place ≡ Place.At (record { rt = rt.now; path = path }) }
         ensures loads { result.load_faults ≡ 0 }
         ensures appends { result.append_faults ≡ 0 }
         ensures replaces { result.replace_faults ≡ 0 }
     {
-        SqliteKeeper::new(Place::At(*rt, path))
+        SqliteKeeper::new(Place::At(AtPath::new(rt, path)))
     }
 }
 
-impl<S: Alter + Drop> SqliteKeeper<S> {
+impl<S: Alter + Drop> SqliteKeeper<S, Adopted> {
     /// A keeper of what this connection is open to. While a transaction of it is not ended, each call is refused.
-    pub fn adopt(connection: Connection<S>) -> SqliteKeeper<S>
-        ensures adopted { result.access.place ≡ Place.Adopted connection }
+    pub fn adopt(connection: Connection<S>) -> SqliteKeeper<S, Adopted>
+        ensures adopted { result.access.place ≡ Place.Open connection }
         ensures loads { result.load_faults ≡ 0 }
         ensures appends { result.append_faults ≡ 0 }
         ensures replaces { result.replace_faults ≡ 0 }
     {
-        SqliteKeeper::new(Place::Adopted(connection))
+        SqliteKeeper::new(Place::Open(connection))
     }
+}
 
-    fn new(place: Place<S>) -> SqliteKeeper<S>
+impl<S: Alter + Drop, O: Opens<S>> SqliteKeeper<S, O> {
+    fn new(place: Place<S, O>) -> SqliteKeeper<S, O>
         ensures place { result.access.place ≡ place }
         ensures loads { result.load_faults ≡ 0 }
         ensures appends { result.append_faults ≡ 0 }
@@ -81,7 +83,7 @@ fn answer<T: Drop>(faults: &mut u64, done: Result<T, Error>) -> Result<T, EdgeFa
     }
 }
 
-impl<S: Alter + Drop + Send> Keeper for SqliteKeeper<S> {
+impl<S: Alter + Drop + Send, O: Opens<S> + Send> Keeper for SqliteKeeper<S, O> {
     ghost kept = { λ _. None };
 
     ghost image = { λ _ _. ⊥ };

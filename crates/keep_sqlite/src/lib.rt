@@ -10,4 +10,5 @@ mod database;
 mod keeper;
 mod tables;
 
+pub use access::{Adopted, AtPath, Opens};
 pub use keeper::SqliteKeeper;

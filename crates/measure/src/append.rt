@@ -4,7 +4,7 @@ use crate::timing::{nanos_since, no_memory};
 use jm_base::Text;
 use jm_edge::EdgeFault;
 use keep_port::Keeper;
-use keep_sqlite::SqliteKeeper;
+use keep_sqlite::{Opens, SqliteKeeper};
 use sqlite::Alter;
 use std::alloc::Global;
 use std::io;
@@ -42,10 +42,10 @@ fn rows_of<K: Keeper>(alloc: Global, keeper: &mut K) -> io::Result<usize> {
 }
 
 // Measures appends to a keeper that is opened first.
-fn measure_keeper<R: Clock + Print + Eprint, S: Alter + Drop + Send>(
+fn measure_keeper<R: Clock + Print + Eprint, S: Alter + Drop + Send, O: Opens<S> + Send>(
     rt: &R,
     alloc: Global,
-    mut keeper: SqliteKeeper<S>,
+    mut keeper: SqliteKeeper<S, O>,
 ) -> io::Result<()> {
     rows_of(alloc, &mut keeper)?;
     let nanos = timed_appends(rt, alloc, &mut keeper)?;

@@ -1,4 +1,5 @@
 use super::SqliteKeeper;
+use crate::{Adopted, AtPath, Opens};
 use jm_base::{Bytes, NoMemory, Text};
 use jm_edge::EdgeFault;
 use keep_port::{Keeper, Kept};
@@ -70,12 +71,12 @@ fn run<S: Alter + Drop>(mut connection: Connection<S>, text: &str) -> Result<Con
 }
 
 // in memory, after the tables of format 1 were made and this was run
-fn memory(alloc: Global, more: &str) -> Result<SqliteKeeper<MemStore>, Error> {
+fn memory(alloc: Global, more: &str) -> Result<SqliteKeeper<MemStore, Adopted>, Error> {
     let made = run(Connection::open_in_memory(alloc)?, FORMAT_1)?;
     Ok(SqliteKeeper::adopt(run(made, more)?))
 }
 
-fn at(rt: &HostRuntime, path: &str) -> Result<SqliteKeeper<FileStore<File>>, NoMemory> {
+fn at(rt: &HostRuntime, path: &str) -> Result<SqliteKeeper<FileStore<File>, AtPath>, NoMemory> {
     Ok(SqliteKeeper::at(rt, Text::from_str(rt.alloc(), path)?))
 }
 
@@ -84,7 +85,7 @@ fn adopted(
     rt: &HostRuntime,
     path: &str,
     more: &str,
-) -> Result<SqliteKeeper<FileStore<File>>, Error> {
+) -> Result<SqliteKeeper<FileStore<File>, Adopted>, Error> {
     Ok(SqliteKeeper::adopt(run(Connection::open(rt, path)?, more)?))
 }
 
@@ -173,7 +174,7 @@ fn all_come<K: Keeper>(rt: &HostRuntime, keeper: &mut K, steps: &[Step]) -> bool
     true
 }
 
-fn counts<S: Alter + Drop>(keeper: &SqliteKeeper<S>) -> [u64; 3] {
+fn counts<S: Alter + Drop, O: Opens<S>>(keeper: &SqliteKeeper<S, O>) -> [u64; 3] {
     [
         keeper.load_faults,
         keeper.append_faults,
@@ -182,9 +183,9 @@ fn counts<S: Alter + Drop>(keeper: &SqliteKeeper<S>) -> [u64; 3] {
 }
 
 // whether each step comes as it says, and so many calls of `load`, `append` and `replace` were refused; it is closed then
-fn goes<S: Alter + Drop + Send>(
+fn goes<S: Alter + Drop + Send, O: Opens<S> + Send>(
     rt: &HostRuntime,
-    mut keeper: SqliteKeeper<S>,
+    mut keeper: SqliteKeeper<S, O>,
     steps: &[Step],
     faults: [u64; 3],
 ) -> bool {
@@ -194,9 +195,9 @@ fn goes<S: Alter + Drop + Send>(
 // statements that are run in the database, and the calls after them
 type Turn = (&'static str, &'static [Step]);
 
-fn all_turns_come<S: Alter + Drop + Send>(
+fn all_turns_come<S: Alter + Drop + Send, O: Opens<S> + Send>(
     rt: &HostRuntime,
-    keeper: &mut SqliteKeeper<S>,
+    keeper: &mut SqliteKeeper<S, O>,
     turns: &[Turn],
 ) -> bool {
     for (text, steps) in turns {
