@@ -1,5 +1,5 @@
 -- What the arguments of an Email/get or an Email/parse ask to be shown (RFC 8621, 4.2 and 4.9).
-use Rattle.std.specs.Prelude.{⊤, ⊥, ℕ, ℤ, pos, negsuc, Bool, true, false, List, [], ◌∷◌, ◌++◌, map, Option, Some, None, option_map, option_and_then, codes, if◌then◌else◌}
+use Rattle.std.specs.Prelude.{⊤, ℕ, ℤ, pos, negsuc, Bool, true, false, List, [], ◌∷◌, ◌++◌, map, Option, Some, None, option_map, option_and_then, codes, if◌then◌else◌}
 use Rattle.jm_json.specs.Tree.{Tree, null, boolean, number, text, list, object, trees_of, fields_of}
 use Rattle.jm_json.specs.Find.{find, as_text, as_list, as_object}
 use Rattle.mail_view.specs.Selections.{but_null}
