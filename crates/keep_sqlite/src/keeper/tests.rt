@@ -80,15 +80,6 @@ fn at(rt: &HostRuntime, path: &str) -> Result<SqliteKeeper<FileStore<File>, AtPa
     Ok(SqliteKeeper::at(rt, Text::from_str(rt.alloc(), path)?))
 }
 
-// of the file at the path, after this was run
-fn adopted(
-    rt: &HostRuntime,
-    path: &str,
-    more: &str,
-) -> Result<SqliteKeeper<FileStore<File>, Adopted>, Error> {
-    Ok(SqliteKeeper::adopt(run(Connection::open(rt, path)?, more)?))
-}
-
 // an empty folder
 fn folder(rt: &HostRuntime, name: &str) -> io::Result<()> {
     let _ = fs::remove_dir_all(rt, name);
@@ -218,6 +209,16 @@ fn goes_at(
     Ok(goes(rt, keeper, steps, faults))
 }
 
+// over a connection that is adopted
+fn goes_over<S: Alter + Drop + Send>(
+    rt: &HostRuntime,
+    connection: Connection<S>,
+    steps: &[Step],
+    faults: [u64; 3],
+) -> bool {
+    goes(rt, SqliteKeeper::adopt(connection), steps, faults)
+}
+
 // of a file in which `more` was run
 fn goes_adopted(
     rt: &HostRuntime,
@@ -226,8 +227,8 @@ fn goes_adopted(
     steps: &[Step],
     faults: [u64; 3],
 ) -> Result<bool, Error> {
-    let keeper = adopted(rt, path, more)?;
-    Ok(goes(rt, keeper, steps, faults))
+    let connection = run(Connection::open(rt, path)?, more)?;
+    Ok(goes_over(rt, connection, steps, faults))
 }
 
 // in memory, after the tables of format 1 were made and `more` was run
