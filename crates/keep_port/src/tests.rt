@@ -47,7 +47,7 @@ fn loads_what_is_kept_but_at_the_listed_calls(rt: HostRuntime) -> Result<(), Fai
         Numbers::new(alloc),
     );
     assert!(rt; keeper.append(alloc, b"a").is_ok());
-    assert!(rt; keeper.load(alloc).is_err());
+    assert!(rt; matches!(keeper.load(alloc), Err(EdgeFault::Failed)));
     let mut loaded = Kept::new(alloc);
     if let Ok(kept) = keeper.load(alloc) {
         loaded = kept;

@@ -1,5 +1,5 @@
 // A keeper of rows in a database, with its faults counted. What the database holds is not told.
-ghost use Rattle.std.specs.Prelude.{◌≡◌, None, IsSome, IfOk};
+ghost use Rattle.std.specs.Prelude.{◌≡◌, None, IsSome, IfOk, IfErr};
 ghost use Rattle.keep_port.specs.Keeping.{IsCounted, IsTold, kept_after, whole_if, MayLeave, MustLeave};
 ghost use Rattle.keep_sqlite.specs.Answers.{Answers};
 
@@ -18,7 +18,7 @@ const BASE: Error = Error::SqliteFailure(ErrorCode::NotADatabase);
 
 /// Keeps rows in a database over a store: a file's that is to be opened at a path, or any that is open and was adopted.
 ///
-/// Each call is one transaction. A refusal changes nothing, and but for want of memory it raises the count of its call. Once the
+/// Each call is one transaction. A refusal changes no row, and but for want of memory it raises the count of its call by one. Once the
 /// store has shut the database after a fault of the disk, each later call is refused.
 #[derive(Drop)]
 pub struct SqliteKeeper<S: Alter + Drop, O: Opens<S>> {
@@ -101,6 +101,7 @@ impl<S: Alter + Drop + Send, O: Opens<S> + Send> Keeper for SqliteKeeper<S, O> {
         ensures cause { IsCounted self.old.load_faults self.new.load_faults result }
         ensures append_count { self.new.append_faults ≡ self.old.append_faults }
         ensures replace_count { self.new.replace_faults ≡ self.old.replace_faults }
+        ensures forgets { IfErr result (λ _. self.new.access.last ≡ None) }
     {
         let rows = answer(&mut self.load_faults, self.access.load(alloc))?;
         Ok(Kept { base: None, rows })

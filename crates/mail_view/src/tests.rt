@@ -212,55 +212,60 @@ fn blames(alloc: Global, args: &str, name: &str) -> Result<bool, Fail> {
     }
 }
 
+// No truth value, no list of names, and no unsigned number.
+const NO_FLAGS: [&str; 5] = ["null", "1", "\"true\"", "[]", "{}"];
+
+const NO_LISTS: [&str; 8] = [
+    "true",
+    "1",
+    "\"id\"",
+    "{}",
+    "[1]",
+    "[null]",
+    "[[]]",
+    "[\"none\"]",
+];
+
+const NO_COUNTS: [&str; 6] = ["null", "true", "-1", "\"1\"", "[]", "{}"];
+
+// Whether the argument of this name is blamed for each of these values.
+fn all_blamed(alloc: Global, name: &str, values: &[&str]) -> Result<bool, Fail> {
+    for value in values {
+        let args = format!(in alloc; "{{\"{name}\":{value}}}")?;
+        if !blames(alloc, args.as_str(), name)? {
+            return Ok(false);
+        }
+    }
+    Ok(true)
+}
+
 #[test]
 fn an_argument_of_a_wrong_form_is_named(rt: HostRuntime) -> Result<(), Fail> {
     let alloc = rt.alloc();
-    let names = [
-        "bodyProperties",
+    for name in [
         "fetchAllBodyValues",
         "fetchHTMLBodyValues",
         "fetchTextBodyValues",
-        "maxBodyValueBytes",
-        "properties",
-    ];
-    let flag = ["null", "1", "\"true\"", "[]", "{}"];
-    let lists = [
-        "true",
-        "1",
-        "\"id\"",
-        "{}",
-        "[1]",
-        "[null]",
-        "[[]]",
-        "[\"none\"]",
-    ];
-    let wrong: [&[&str]; 6] = [
-        &lists,
-        &flag,
-        &flag,
-        &flag,
-        &["null", "true", "-1", "\"1\"", "[]", "{}"],
-        &lists,
-    ];
-    for (name, values) in names.iter().zip(wrong.iter()) {
-        for value in *values {
-            let args = format!(in alloc; "{{\"{name}\":{value}}}")?;
-            assert!(rt; blames(alloc, args.as_str(), name)?, "{args}");
-        }
+    ] {
+        assert!(rt; all_blamed(alloc, name, &NO_FLAGS)?, "{name}");
     }
-    for args in ["null", "true", "1", "\"\"", "[]"] {
-        assert!(rt; blames(alloc, args, "")?, "{args}");
+    assert!(rt; all_blamed(alloc, "bodyProperties", &NO_LISTS)?);
+    assert!(rt; all_blamed(alloc, "properties", &NO_LISTS)?);
+    assert!(rt; all_blamed(alloc, "maxBodyValueBytes", &NO_COUNTS)?);
+    let rows = [
+        ("null", ""),
+        ("true", ""),
+        ("1", ""),
+        ("\"\"", ""),
+        ("[]", ""),
+        ("{\"bodyProperties\":null}", "bodyProperties"),
+        // A property of a part is none of an email, and the other way round.
+        ("{\"bodyProperties\":[\"preview\"]}", "bodyProperties"),
+        ("{\"properties\":[\"partId\"]}", "properties"),
+    ];
+    for (args, name) in &rows {
+        assert!(rt; blames(alloc, args, name)?, "{args}");
     }
-    assert!(rt; blames(alloc, "{\"bodyProperties\":null}", "bodyProperties")?);
-    // A property of a part is none of an email, and the other way round.
-    assert!(rt;
-        blames(
-            alloc,
-            "{\"bodyProperties\":[\"preview\"]}",
-            "bodyProperties"
-        )?
-    );
-    assert!(rt; blames(alloc, "{\"properties\":[\"partId\"]}", "properties")?);
     Ok(())
 }
 

@@ -12,11 +12,13 @@ const FORMAT_1: &str =
     "CREATE TABLE about (item INTEGER PRIMARY KEY, value INTEGER NOT NULL); CREATE TABLE commits (place INTEGER PRIMARY KEY, bytes BLOB NOT NULL); INSERT INTO about VALUES (1, 1);";
 
 // each after the tables of format 1
-const OTHER_FORMS: [&str; 10] = [
+const OTHER_FORMS: [&str; 12] = [
     "UPDATE about SET value = 2",
     "UPDATE about SET item = 2",
     "INSERT INTO about VALUES (2, 1)",
     "DELETE FROM about",
+    "DROP TABLE about",
+    "DROP TABLE about; CREATE TABLE about (item INTEGER, value INTEGER); INSERT INTO about VALUES (1, 1)",
     "DROP TABLE commits",
     "DROP TABLE commits; CREATE TABLE commits (place INTEGER, bytes BLOB)",
     "DROP TABLE commits; CREATE VIEW commits AS SELECT item AS place, x'61' AS bytes FROM about",
@@ -258,6 +260,15 @@ fn two_rows_are_loaded_after_the_file_was_closed(rt: HostRuntime) -> Result<(), 
 }
 
 #[test]
+fn an_empty_file_is_a_new_database(rt: HostRuntime) -> Result<(), Fail> {
+    folder(&rt, "keep_sqlite_empty")?;
+    fs::write(&rt, "keep_sqlite_empty/a.sqlite", b"")?;
+    let steps = [Load(&[]), Append(b"a"), Load(&[b"a"])];
+    assert!(rt; goes_at(&rt, "keep_sqlite_empty/a.sqlite", &steps, [0; 3])?);
+    Ok(())
+}
+
+#[test]
 fn two_rows_are_loaded_by_adopt(rt: HostRuntime) -> Result<(), Fail> {
     folder(&rt, "keep_sqlite_adopt")?;
     let path = "keep_sqlite_adopt/a.sqlite";
@@ -349,6 +360,9 @@ fn what_is_no_database_is_refused_and_left_alone(rt: HostRuntime) -> Result<(), 
     fs::write(&rt, "keep_sqlite_none/a.txt", b"no database")?;
     assert!(rt; goes_at(&rt, "keep_sqlite_none/a.txt", &REFUSED, [1; 3])?);
     assert!(rt; fs::read(&rt, "keep_sqlite_none/a.txt")?.as_slice() == b"no database".as_slice());
+    // An open that is refused may leave an empty log.
+    let log = fs::read(&rt, "keep_sqlite_none/a.txt-wal").unwrap_or(Vec::new(rt.alloc()));
+    assert!(rt; log.is_empty());
     Ok(())
 }
 
@@ -358,11 +372,12 @@ fn a_path_in_no_folder_is_refused_until_there_is_one(rt: HostRuntime) -> Result<
     let steps = [
         RefusedLoad,
         RefusedAppend(b"a"),
+        RefusedReplace(&[b"a"]),
         Folder("keep_sqlite_later"),
         Append(b"b"),
         Load(&[b"b"]),
     ];
-    assert!(rt; goes_at(&rt, "keep_sqlite_later/a.sqlite", &steps, [1, 1, 0])?);
+    assert!(rt; goes_at(&rt, "keep_sqlite_later/a.sqlite", &steps, [1; 3])?);
     Ok(())
 }
 
