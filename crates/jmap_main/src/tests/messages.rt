@@ -134,9 +134,9 @@ fn shows_multiparts_within_one_another(rt: HostRuntime) -> Result<(), Fail> {
 
 // An image of this many bytes, its header counted.
 fn image(alloc: Global, size: usize) -> Result<Vec<u8>, Fail> {
-    let mut message = vec![in alloc; b'\n'; size]?;
-    let head = "Content-Type: image/png";
-    message.as_mut_slice()[..head.len()].copy_from_slice(head.as_bytes());
+    let mut message = "Content-Type: image/png".as_bytes().to_vec(alloc)?;
+    let body = vec![in alloc; b'\n'; size.saturating_sub(message.len())]?;
+    message.extend_from_slice(&body)?;
     Ok(message)
 }
 
