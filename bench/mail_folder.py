@@ -5,7 +5,7 @@ import random
 
 WORDS = (
     "meeting agenda report budget summer garden invoice please attached regards tomorrow the a of and to in we you it is on for "
-    "have with this that will can our plan next week morning train ticket photo family dinner street house water paper letter"
+    "have with this that will can our plan next week morning train ticket photo family dinner street house water pencil letter"
 ).split()
 NAMES = ["Ann Lee", "Bob Stone", "Zoë Müller", "José García", "山田太郎", "Ed", "O'Neil, Pat", "Kari Nordmann", "Анна Петрова"]
 ZONES = ["+0000", "+0200", "-0500", "+0530", "GMT", "-0800"]
