@@ -6,7 +6,7 @@ use Rattle.jiff_core.specs.Calendar.{day_count, days_from_civil, IsCivilDate}
 use Rattle.jiff_core.proofs.SignedLemmas.{signed_arith}
 use Rattle.jiff_core.proofs.MarchLemmas.{day_count-early}
 use Rattle.jiff_core.proofs.CalendarLemmas.{days_from_civil-day_count, day_count-lt_year, day_count-lt_month, day_count-day, day_count-day_of_year, day_count_bounds}
-use Rattle.jm_base.specs.Moments.{last_of, year_of, month_of, day_of, IsDay}
+use Rattle.jm_base.specs.UtcDates.{last_of, year_of, month_of, day_of, IsDay}
 
 le_as : (a b : ℤ) (t : Bool) → int_le a b ≡ t → a ≤ℤ b → t ≡ true
 le_as a b true same le = refl

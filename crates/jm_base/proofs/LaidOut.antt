@@ -1,6 +1,6 @@
 -- Bytes that are laid out as wanted are as many as the layout has.
 use Rattle.std.proofs.Common.{◌≡◌, ℕ, suc, Bool, true, false, ◌&&◌, List, [], ◌∷◌, length, refl, ap}
-use Rattle.jm_base.specs.Moments.{is_laid_out}
+use Rattle.jm_base.specs.UtcDates.{is_laid_out}
 
 under : (a b : Bool) → (a && b) ≡ true → b ≡ true
 under true b is = is

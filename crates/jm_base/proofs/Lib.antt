@@ -1,3 +1,5 @@
 pub mod Decimals
 pub mod Days
 pub mod LaidOut
+pub mod Spliced
+pub mod Searched

@@ -1,6 +1,8 @@
--- The texts of identifiers and of states (RFC 8620, 1.2 and 5.1; the form is our own). Each has one spelling.
-use Rattle.std.specs.Prelude.{◌≡◌, ℕ, ◌<◌, ◌≤◌, ◌^◌, List, ◌∷◌}
+-- The texts of identifiers and of states (RFC 8620, 1.2 and 5.1; the form is our own). Each has
+-- exactly one text.
+use Rattle.std.specs.Prelude.{◌≡◌, ℕ, ◌<◌, ◌≤◌, List, ◌∷◌}
 use Rattle.std.specs.Fmt.{decimal}
+use Rattle.jm_base.specs.declared.identifiers.TheConstants.{NUMBER_LIMIT}
 use Rattle.jm_base.specs.declared.identifiers.Id.{Id}
 use Rattle.jm_base.specs.declared.identifiers.Kind.{Kind}
 use Rattle.jm_base.specs.declared.identifiers.Kind.TheVariants.{Mailbox as OfMailbox, Email as OfEmail, Thread as OfThread}
@@ -8,7 +10,7 @@ use Rattle.jm_base.specs.declared.identifiers.Kind.TheVariants.{Mailbox as OfMai
 -- the number is from 1 and below 2^53
 pub record IsId (id : Id) : Type 0 where
   pub from_one : 1 ≤ id.number
-  pub below : id.number < 2 ^ 53
+  pub below : id.number < NUMBER_LIMIT
 
 -- `M`, `E` or `T`
 abbrev pub kind_letter : Kind → ℕ
@@ -22,7 +24,7 @@ id_text id = kind_letter id.kind ∷ decimal id.number
 
 -- the position is below 2^53
 abbrev pub IsState : ℕ → Type 0
-IsState position = position < 2 ^ 53
+IsState position = position < NUMBER_LIMIT
 
 -- the position in decimal
 abbrev pub state_text : ℕ → List ℕ
@@ -30,4 +32,4 @@ state_text position = decimal position
 
 -- the text is the decimal of a number below 2^53
 abbrev pub IsNumberText : List ℕ → ℕ → Type 0
-IsNumberText text number = (number < 2 ^ 53) × (text ≡ decimal number)
+IsNumberText text number = (number < NUMBER_LIMIT) × (text ≡ decimal number)

@@ -1,2 +1,3 @@
 pub mod Ids
-pub mod Moments
+pub mod UtcDates
+pub mod Splices

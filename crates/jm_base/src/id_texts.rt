@@ -3,11 +3,8 @@ ghost use Rattle.std.specs.Prelude.{◌≡◌, ◌≢◌, ◌<◌, ◌^◌, ℕ,
 ghost use Rattle.jm_base.specs.Ids.{IsId, IsNumberText, IsState, id_text, state_text};
 ghost use Rattle.jm_base.specs.declared.identifiers.Id.{Id as TheId};
 
-use crate::{FormFault, Id, Kind, NoMemory, Text};
+use crate::{FormFault, Id, Kind, NUMBER_LIMIT, NoMemory, Text};
 use std::alloc::Global;
-
-/// Numbers of records and positions are below this one.
-const LIMIT: u64 = 1 << 53;
 
 // Whether a text may be a number: it is not empty, and begins with no plus and no leading zero.
 fn begins_well(text: &[u8]) -> bool
@@ -27,12 +24,18 @@ fn parse_number(text: &str) -> Option<u64>
     ensures { MatchOption result ((n : ℕ) → ¬ (IsNumberText text.now n)) (IsNumberText text.now) }
 {
     match text.parse::<u64>() {
-        Ok(number) => { if number < LIMIT { Some(number) } else { None } }
+        Ok(number) => {
+            if number < NUMBER_LIMIT {
+                Some(number)
+            } else {
+                None
+            }
+        }
         Err(_) => None,
     }
 }
 
-// The number below 2^53 that a text is the decimal of.
+// Returns the number below the limit of which the text is the decimal.
 fn read_number(text: &[u8]) -> Option<u64>
     ensures { MatchOption result ((n : ℕ) → ¬ (IsNumberText text.now n)) (IsNumberText text.now) }
 {
@@ -45,8 +48,9 @@ fn read_number(text: &[u8]) -> Option<u64>
     }
 }
 
-/// The identifier of a text: `M`, `E` or `T`, and its number in decimal, from 1 and below 2^53, without a leading
-/// zero. Any other text is `NotAnId`.
+/// Returns the identifier of a text: `M`, `E` or `T`, then its number in decimal without a leading
+/// zero, from 1 and below [`NUMBER_LIMIT`] (RFC 8620, section 1.2). Fails with `NotAnId` if the
+/// text is any other.
 pub fn read_id(text: &[u8]) -> Result<Id, FormFault>
     ensures ok { IfOk result (λ id. IsId id × (text.now ≡ id_text id)) }
     ensures err { OnErr result ((id : TheId) → IsId id → text.now ≢ id_text id) }
@@ -72,7 +76,7 @@ pub fn read_id(text: &[u8]) -> Result<Id, FormFault>
     }
 }
 
-/// The text of an identifier.
+/// Returns the text of an identifier.
 pub fn id_text(alloc: Global, id: &Id) -> Result<Text, NoMemory>
     ensures { IfOk result (λ text. text ≡ id_text id.now) }
 {
@@ -85,7 +89,8 @@ pub fn id_text(alloc: Global, id: &Id) -> Result<Text, NoMemory>
     Ok(Text::from_string(text))
 }
 
-/// The state of a text: a position in decimal, below 2^53, without a leading zero. Any other text is `NotAState`.
+/// Returns the position of the text of a state: the position in decimal without a leading zero,
+/// below [`NUMBER_LIMIT`] (RFC 8620, section 5.1). Fails with `NotAState` if the text is any other.
 pub fn read_state(text: &[u8]) -> Result<u64, FormFault>
     ensures ok { IfOk result (λ position. IsState position × (text.now ≡ state_text position)) }
     ensures err { OnErr result ((position : ℕ) → IsState position → text.now ≢ state_text position) }
@@ -97,7 +102,7 @@ pub fn read_state(text: &[u8]) -> Result<u64, FormFault>
     }
 }
 
-/// The text of a state.
+/// Returns the text of a state.
 pub fn state_text(alloc: Global, position: u64) -> Result<Text, NoMemory>
     ensures { IfOk result (λ text. text ≡ state_text position) }
 {

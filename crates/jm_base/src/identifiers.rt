@@ -1,4 +1,9 @@
-// Identifiers of records, moments, and the items of a change to a list (RFC 8620, sections 1.2, 1.4 and 5.6).
+// Identifiers of records, dates, and the items of a change to a list (RFC 8620, sections 1.2, 1.4
+// and 5.6).
+
+/// Record numbers and positions are below this number, so that every JSON reader takes them exactly
+/// (RFC 8259, section 6).
+pub const NUMBER_LIMIT: u64 = 1 << 53;
 
 /// A kind of record.
 #[derive(Clone, Copy, Debug, PartialEq, Eq)]
@@ -8,14 +13,15 @@ pub enum Kind {
     Thread,
 }
 
-/// The identifier of a record: its kind, and its number among those of the kind, from 1 and below 2^53.
+/// The identifier of a record: its kind, and its number among those of the kind, from 1 and below
+/// [`NUMBER_LIMIT`].
 #[derive(Clone, Copy, Debug, PartialEq, Eq)]
 pub struct Id {
     pub kind: Kind,
     pub number: u64,
 }
 
-/// A moment: the seconds since the beginning of 1970 in UTC.
+/// A date and time of day: the seconds since the beginning of 1970 in UTC (RFC 8620, section 1.4).
 #[derive(Clone, Copy, Debug, PartialEq, Eq)]
 pub struct UtcDate {
     pub seconds: i64,
@@ -36,8 +42,8 @@ pub enum FormFault {
     NotADate,
 }
 
-/// A change does not fit a list: the added item at this place has an index past the list at its turn. Or no memory
-/// was left.
+/// A change does not fit a list: the added item with this index in `added` has an index past the
+/// end of the list at its turn. Or an allocation failed.
 #[derive(Clone, Copy, Debug, PartialEq, Eq)]
 pub enum SpliceFault {
     BadIndex(u64),

@@ -1,20 +1,28 @@
 //! Texts, byte lists, lists and identifiers that every layer speaks of.
 //!
-//! Contracts see a [`Text`] and a [`Bytes`] as a list of bytes, and a [`Sequence`] as the list of its items.
+//! Contracts see a [`Text`] and a [`Bytes`] as a list of bytes, and a [`Sequence`] as the list of
+//! its items.
 #![tactic(auto)]
 
 mod bytes;
 mod id_texts;
 mod identifiers;
+mod laws;
 mod memory;
-mod moments;
 mod sequence;
+mod splices;
 mod text;
+mod utc_dates;
 
 pub use bytes::Bytes;
 pub use id_texts::{id_text, read_id, read_state, state_text};
-pub use identifiers::{AddedItem, FormFault, Id, Kind, SpliceFault, UtcDate};
+pub use identifiers::{AddedItem, FormFault, Id, Kind, NUMBER_LIMIT, SpliceFault, UtcDate};
+pub use laws::{
+    show_that_a_change_brings_up_to_date, show_that_a_list_becomes_the_other,
+    show_that_nothing_changes_nothing,
+};
 pub use memory::NoMemory;
-pub use moments::{read_utc, utc_text};
 pub use sequence::{Blobs, Numbers, Rows, Sequence, Texts};
+pub use splices::splice;
 pub use text::Text;
+pub use utc_dates::{FIRST_TIMESTAMP, LAST_TIMESTAMP, read_utc, utc_text};

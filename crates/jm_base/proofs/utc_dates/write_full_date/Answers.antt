@@ -2,7 +2,7 @@ use Rattle.std.proofs.Common.{◌∙◌, arith, w64, rules}
 use Rattle.std.proofs.lemmas.Int.{to_z-of_z}
 use Rattle.jiff_core.proofs.SignedLemmas.{signed_arith}
 use Rattle.jm_base.proofs.Days.{civil_of}
-use Rattle.jm_base.proofs.moments.day_shown.Goals as goal
+use Rattle.jm_base.proofs.utc_dates.write_full_date.Goals as goal
 
 pub returns : goal.returns
 returns c =

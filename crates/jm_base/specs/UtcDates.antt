@@ -1,18 +1,19 @@
--- The moments that the product keeps and prints, and their texts (RFC 8620, 1.4; RFC 3339, 5.6).
-use Rattle.std.specs.Prelude.{◌≡◌, ℕ, zero, suc, ◌+◌, ◌*◌, ◌/◌, ◌%◌, ◌-◌, ◌≤◌, Bool, true, false, ◌&&◌, ◌||◌, ◌==◌, nat_le, ℤ, pos, negsuc, ◌+ℤ◌, ◌-ℤ◌, ◌*ℤ◌, ◌≤ℤ◌, int_le, unsigned_abs, List, [], ◌∷◌, ◌++◌, take, drop, slice_index, bytes_eq, codes, if◌then◌else◌}
+-- The dates in UTC that the product keeps and prints, and their texts (RFC 8620, 1.4; RFC 3339,
+-- 5.6).
+use Rattle.std.specs.Prelude.{◌≡◌, ℕ, zero, suc, ◌+◌, ◌*◌, ◌/◌, ◌%◌, ◌-◌, ◌≤◌, Bool, true, false, ◌&&◌, ◌||◌, ◌==◌, nat_le, ℤ, pos, ◌+ℤ◌, ◌-ℤ◌, ◌*ℤ◌, ◌≤ℤ◌, int_le, unsigned_abs, List, [], ◌∷◌, ◌++◌, take, drop, slice_index, bytes_eq, codes, if◌then◌else◌}
 use Rattle.std.specs.Int.{int_div_euclid, int_rem_euclid}
 use Rattle.std.specs.Fmt.{decimal}
 use Rattle.jiff_core.specs.Calendar.{days_in_month, days_from_civil}
 use Rattle.jm_base.specs.declared.identifiers.UtcDate.{UtcDate}
+use Rattle.jm_base.specs.declared.utc_dates.TheConstants.{FIRST_TIMESTAMP, LAST_TIMESTAMP}
 
--- A moment of the years 0001 to 9999: its seconds are from those of 0001-01-01T00:00:00Z, which are -62135596800, to
--- those of 9999-12-31T23:59:59Z (RFC 8620, 1.4; RFC 3339 has four digits for the year).
-pub record IsMoment (date : UtcDate) : Type 0 where
-  pub not_before : negsuc 62135596799 ≤ℤ date.seconds
-  pub not_after : date.seconds ≤ℤ pos 253402300799
+-- A date of the years 0001 to 9999 (RFC 8620, 1.4; RFC 3339 has four digits for the year).
+pub record IsUtcDate (date : UtcDate) : Type 0 where
+  pub not_before : FIRST_TIMESTAMP ≤ℤ date.seconds
+  pub not_after : date.seconds ≤ℤ pos LAST_TIMESTAMP
 
--- what a calendar and a clock show
-pub record Clock : Type 0 where
+-- a day of the calendar and a time of day (RFC 3339, 5.6: date-time)
+pub record DateTime : Type 0 where
   pub year : ℕ
   pub month : ℕ
   pub day : ℕ
@@ -35,14 +36,16 @@ pub record IsTime (hour minute second : ℕ) : Type 0 where
   pub to_minute : minute ≤ 59
   pub to_second : second ≤ 59
 
--- a second of a day of the years 0001 to 9999
-pub record IsClock (c : Clock) : Type 0 where
+-- a date-time of the years 0001 to 9999
+pub record IsDateTime (c : DateTime) : Type 0 where
   pub day : IsDay c.year c.month c.day
   pub time : IsTime c.hour c.minute c.second
 
--- the seconds since the beginning of 1970 at which a clock in UTC shows this
-abbrev pub clock_seconds : Clock → ℤ
-clock_seconds c = days_from_civil (pos c.year) c.month c.day *ℤ pos 86400 +ℤ pos (c.hour * 3600 + c.minute * 60 + c.second)
+-- the timestamp of a date-time in UTC: seconds since the beginning of 1970
+abbrev pub date_time_seconds : DateTime → ℤ
+date_time_seconds c =
+    days_from_civil (pos c.year) c.month c.day *ℤ pos 86400
+    +ℤ pos (c.hour * 3600 + c.minute * 60 + c.second)
 
 -- the greatest of the numbers from 1 to n for which this holds, or 0
 unfoldable pub last_of : (ℕ → Bool) → ℕ → ℕ
@@ -61,32 +64,42 @@ month_of day = last_of (λ m. int_le (days_from_civil (pos (year_of day)) m 1) d
 unfoldable pub day_of : ℤ → ℕ
 day_of day = unsigned_abs (day -ℤ days_from_civil (pos (year_of day)) (month_of day) 1) + 1
 
--- what a calendar and a clock in UTC show where a day and seconds of it have gone by since the beginning of 1970
-abbrev pub clock_on : ℤ → ℕ → Clock
-clock_on day seconds = record { year = year_of day; month = month_of day; day = day_of day; hour = seconds / 3600; minute = seconds / 60 % 60; second = seconds % 60 }
+-- the date-time in UTC so many days after the beginning of 1970, and so many seconds of the day
+abbrev pub date_time_on : ℤ → ℕ → DateTime
+date_time_on day seconds = record {
+  year = year_of day;
+  month = month_of day;
+  day = day_of day;
+  hour = seconds / 3600;
+  minute = seconds / 60 % 60;
+  second = seconds % 60;
+}
 
--- what they show so many seconds after the beginning of 1970
-abbrev pub clock_at : ℤ → Clock
-clock_at seconds = clock_on (int_div_euclid seconds (pos 86400)) (unsigned_abs (int_rem_euclid seconds (pos 86400)))
+-- the date-time in UTC of a timestamp
+abbrev pub date_time_at : ℤ → DateTime
+date_time_at seconds =
+    date_time_on (int_div_euclid seconds (pos 86400)) (unsigned_abs (int_rem_euclid seconds (pos 86400)))
 
 -- the last two digits of a number
 abbrev pub two_digits : ℕ → List ℕ
 two_digits n = decimal (n / 10 % 10) ++ decimal (n % 10)
 
--- YYYY-MM-DD
-abbrev pub day_text : Clock → List ℕ
-day_text c = two_digits (c.year / 100) ++ two_digits c.year ++ codes "-" ++ two_digits c.month ++ codes "-" ++ two_digits c.day
+-- YYYY-MM-DD (RFC 3339, 5.6: full-date)
+abbrev pub full_date_text : DateTime → List ℕ
+full_date_text c =
+    two_digits (c.year / 100) ++ two_digits c.year ++ codes "-" ++ two_digits c.month ++ codes "-" ++ two_digits c.day
 
--- HH:MM:SS
-abbrev pub time_text : Clock → List ℕ
-time_text c = two_digits c.hour ++ codes ":" ++ two_digits c.minute ++ codes ":" ++ two_digits c.second
+-- HH:MM:SS (RFC 3339, 5.6: partial-time, without a fraction)
+abbrev pub partial_time_text : DateTime → List ℕ
+partial_time_text c =
+    two_digits c.hour ++ codes ":" ++ two_digits c.minute ++ codes ":" ++ two_digits c.second
 
--- YYYY-MM-DDTHH:MM:SSZ, the text of a moment without a fraction
-abbrev pub clock_text : Clock → List ℕ
-clock_text c = day_text c ++ codes "T" ++ time_text c ++ codes "Z"
+-- YYYY-MM-DDTHH:MM:SSZ
+abbrev pub date_time_text : DateTime → List ℕ
+date_time_text c = full_date_text c ++ codes "T" ++ partial_time_text c ++ codes "Z"
 
 abbrev pub utc_text : UtcDate → List ℕ
-utc_text date = clock_text (clock_at date.seconds)
+utc_text date = date_time_text (date_time_at date.seconds)
 
 abbrev pub is_digit : ℕ → Bool
 is_digit b = nat_le 48 b && nat_le b 57
@@ -98,13 +111,13 @@ is_laid_out [] (b ∷ bs) = false
 is_laid_out (l ∷ ls) [] = false
 is_laid_out (l ∷ ls) (b ∷ bs) = (if l == 48 then is_digit b else b == l) && is_laid_out ls bs
 
--- the number of the two digits at a place
+-- the number of the two digits at a byte offset
 abbrev pub two_at : ℕ → List ℕ → ℕ
 two_at place text = (slice_index text place - 48) * 10 + (slice_index text (place + 1) - 48)
 
 -- what YYYY-MM-DDTHH:MM:SS names
-abbrev pub clock_in : List ℕ → Clock
-clock_in text = record {
+abbrev pub date_time_in : List ℕ → DateTime
+date_time_in text = record {
   year = two_at 0 text * 100 + two_at 2 text;
   month = two_at 5 text;
   day = two_at 8 text;
@@ -126,10 +139,10 @@ abbrev pub is_end : List ℕ → Bool
 is_end [] = false
 is_end (b ∷ bs) = is_z (b ∷ bs) || (b == 46 && ends_in_digits bs)
 
--- A text of a moment: YYYY-MM-DDTHH:MM:SS, perhaps a fraction, which counts for nothing, and `Z`; the calendar has the
--- day, and the clock the time.
+-- A text of a date: YYYY-MM-DDTHH:MM:SS, perhaps a fraction of a second, which counts for nothing,
+-- and `Z`. The calendar has the day, and the day has the time.
 pub record IsUtcText (text : List ℕ) (date : UtcDate) : Type 0 where
   pub laid_out : is_laid_out (codes "0000-00-00T00:00:00") (take 19 text) ≡ true
   pub ends : is_end (drop 19 text) ≡ true
-  pub clock : IsClock (clock_in text)
-  pub seconds : date.seconds ≡ clock_seconds (clock_in text)
+  pub date_time : IsDateTime (date_time_in text)
+  pub seconds : date.seconds ≡ date_time_seconds (date_time_in text)

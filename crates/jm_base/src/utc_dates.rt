@@ -1,21 +1,29 @@
-// The texts of moments (RFC 8620, section 1.4; RFC 3339, section 5.6).
+// The texts of dates in UTC (RFC 8620, section 1.4; RFC 3339, section 5.6).
 ghost use Rattle.std.specs.Prelude.{◌≡◌, ◌<◌, ◌≤◌, ◌+◌, ◌*◌, ◌%◌, ◌/◌, ◌++◌, pos, negsuc, ◌≤ℤ◌, IfOk, IfErr, IfSome, OnErr, MatchOption, length, codes, string_bytes};
 ghost use Rattle.jiff_core.specs.Calendar.{days_from_civil};
-ghost use Rattle.jm_base.specs.Moments.{IsMoment, IsDay, IsTime, IsClock, IsUtcText, two_digits, two_at, clock_in, clock_seconds, clock_on, clock_text, is_digit, is_laid_out, is_z, ends_in_digits, is_end, utc_text, year_of, month_of, day_of};
+ghost use Rattle.jm_base.specs.UtcDates.{IsUtcDate, IsDay, IsTime, IsDateTime, IsUtcText, two_digits, two_at, date_time_in, date_time_seconds, date_time_on, date_time_text, is_digit, is_laid_out, is_z, ends_in_digits, is_end, utc_text, year_of, month_of, day_of};
 ghost use Rattle.jm_base.specs.declared.identifiers.UtcDate.{UtcDate as TheDate};
+ghost use Rattle.jm_base.specs.declared.utc_dates.TheConstants.{FIRST_TIMESTAMP, LAST_TIMESTAMP};
 
 use crate::{FormFault, NoMemory, Text, UtcDate};
 use jiff_core::civil::Date;
 use std::alloc::Global;
 
-/// The seconds of a day.
-const DAY: i64 = 86_400;
+/// The first second of the year 0001, counted from the beginning of 1970 in UTC. No date is earlier
+/// (RFC 3339: the year has four digits).
+pub const FIRST_TIMESTAMP: i64 = -62_135_596_800;
 
-/// What the front of a moment's text is, with a `0` for each digit.
+/// The last second of the year 9999, counted from the beginning of 1970 in UTC. No date is later.
+pub const LAST_TIMESTAMP: u64 = 253_402_300_799;
+
+/// The seconds of a day.
+const DAY_SECONDS: i64 = 86_400;
+
+/// The beginning of the text of a date, with a `0` for each digit.
 const LAYOUT: &str = "0000-00-00T00:00:00";
 
 // `YYYY-MM-DD`
-fn day_text(alloc: Global, year: u64, month: u64, day: u64) -> Result<String, NoMemory>
+fn full_date_text(alloc: Global, year: u64, month: u64, day: u64) -> Result<String, NoMemory>
     ensures { IfOk result (λ t. string_bytes t ≡ two_digits (year / 100) ++ two_digits year ++ codes "-" ++ two_digits month ++ codes "-" ++ two_digits day) }
 {
     Ok(format!(in alloc;
@@ -32,7 +40,7 @@ fn day_text(alloc: Global, year: u64, month: u64, day: u64) -> Result<String, No
 }
 
 // `HH:MM:SS`
-fn time_text(alloc: Global, hour: u64, minute: u64, second: u64) -> Result<String, NoMemory>
+fn partial_time_text(alloc: Global, hour: u64, minute: u64, second: u64) -> Result<String, NoMemory>
     ensures { IfOk result (λ t. string_bytes t ≡ two_digits hour ++ codes ":" ++ two_digits minute ++ codes ":" ++ two_digits second) }
 {
     Ok(format!(in alloc;
@@ -47,13 +55,13 @@ fn time_text(alloc: Global, hour: u64, minute: u64, second: u64) -> Result<Strin
 }
 
 // `YYYY-MM-DD` of a day since the beginning of 1970.
-fn day_shown(alloc: Global, day: i64) -> Result<String, NoMemory>
+fn write_full_date(alloc: Global, day: i64) -> Result<String, NoMemory>
     requires from { negsuc 719_161 ≤ℤ day }
     requires to { day ≤ℤ pos 2_932_896 }
     ensures { IfOk result (λ t. string_bytes t ≡ two_digits (year_of day / 100) ++ two_digits (year_of day) ++ codes "-" ++ two_digits (month_of day) ++ codes "-" ++ two_digits (day_of day)) }
 {
     match Date::from_unix_epoch_day(day) {
-        Ok(shown) => day_text(
+        Ok(shown) => full_date_text(
             alloc,
             shown.year.unsigned_abs() as u64,
             shown.month as u64,
@@ -64,23 +72,23 @@ fn day_shown(alloc: Global, day: i64) -> Result<String, NoMemory>
 }
 
 // `YYYY-MM-DDTHH:MM:SSZ` of a day since the beginning of 1970, and so many seconds of it.
-fn clock_shown(alloc: Global, day: i64, seconds: u64) -> Result<Text, NoMemory>
+fn write_date_time(alloc: Global, day: i64, seconds: u64) -> Result<Text, NoMemory>
     requires from { negsuc 719_161 ≤ℤ day }
     requires to { day ≤ℤ pos 2_932_896 }
-    ensures { IfOk result (λ t. t ≡ clock_text (clock_on day seconds)) }
+    ensures { IfOk result (λ t. t ≡ date_time_text (date_time_on day seconds)) }
 {
-    let date = day_shown(alloc, day)?;
-    let time = time_text(alloc, seconds / 3600, seconds / 60 % 60, seconds % 60)?;
+    let date = write_full_date(alloc, day)?;
+    let time = partial_time_text(alloc, seconds / 3600, seconds / 60 % 60, seconds % 60)?;
     Ok(Text::from_string(format!(in alloc; "{date}T{time}Z")?))
 }
 
-/// The text of a moment of the years 0001 to 9999, `YYYY-MM-DDTHH:MM:SSZ`.
+/// Returns the text of a date of the years 0001 to 9999, `YYYY-MM-DDTHH:MM:SSZ`.
 pub fn utc_text(alloc: Global, date: &UtcDate) -> Result<Text, NoMemory>
-    requires { IsMoment date.now }
+    requires { IsUtcDate date.now }
     ensures { IfOk result (λ text. text ≡ utc_text date.now) }
 {
-    let seconds = date.seconds.rem_euclid(DAY).unsigned_abs();
-    clock_shown(alloc, date.seconds.div_euclid(DAY), seconds)
+    let seconds = date.seconds.rem_euclid(DAY_SECONDS).unsigned_abs();
+    write_date_time(alloc, date.seconds.div_euclid(DAY_SECONDS), seconds)
 }
 
 // Whether a byte is a digit.
@@ -155,7 +163,7 @@ fn two_at(place: usize, text: &[u8]) -> u64
 }
 
 // The number of a day since the beginning of 1970, if the calendar has it.
-fn day_number(year: u64, month: u64, day: u64) -> Option<i64>
+fn find_day(year: u64, month: u64, day: u64) -> Option<i64>
     ensures { MatchOption result (¬ IsDay year month day) (λ n. IsDay year month day × (n ≡ days_from_civil (pos year) month day)) }
 {
     if year == 0 || year > 9999 || month > 12 || day > 31 {
@@ -168,7 +176,7 @@ fn day_number(year: u64, month: u64, day: u64) -> Option<i64>
 }
 
 // The seconds of a day that have gone by at a time of it.
-fn second_number(hour: u64, minute: u64, second: u64) -> Option<i64>
+fn find_second(hour: u64, minute: u64, second: u64) -> Option<i64>
     ensures bound { IfSome result (λ n. (pos 0 ≤ℤ n) × (n ≤ℤ pos 86_399)) }
     ensures value { MatchOption result (¬ IsTime hour minute second) (λ n. IsTime hour minute second × (n ≡ pos (hour * 3600 + minute * 60 + second))) }
 {
@@ -179,25 +187,25 @@ fn second_number(hour: u64, minute: u64, second: u64) -> Option<i64>
 }
 
 // The seconds since the beginning of 1970 of what a text names, if there is such a day and time.
-fn seconds_in(text: &[u8]) -> Option<i64>
+fn find_seconds(text: &[u8]) -> Option<i64>
     requires { 19 ≤ length text.now }
-    ensures bound { IfSome result (λ n. (negsuc 62_135_596_799 ≤ℤ n) × (n ≤ℤ pos 253_402_300_799)) }
-    ensures value { MatchOption result (¬ IsClock (clock_in text.now)) (λ n. IsClock (clock_in text.now) × (n ≡ clock_seconds (clock_in text.now))) }
+    ensures bound { IfSome result (λ n. (FIRST_TIMESTAMP ≤ℤ n) × (n ≤ℤ pos LAST_TIMESTAMP)) }
+    ensures value { MatchOption result (¬ IsDateTime (date_time_in text.now)) (λ n. IsDateTime (date_time_in text.now) × (n ≡ date_time_seconds (date_time_in text.now))) }
 {
     let year = two_at(0, text) * 100 + two_at(2, text);
-    let Some(day) = day_number(year, two_at(5, text), two_at(8, text)) else {
+    let Some(day) = find_day(year, two_at(5, text), two_at(8, text)) else {
         return None;
     };
-    let Some(second) = second_number(two_at(11, text), two_at(14, text), two_at(17, text)) else {
+    let Some(second) = find_second(two_at(11, text), two_at(14, text), two_at(17, text)) else {
         return None;
     };
-    Some(day * DAY + second)
+    Some(day * DAY_SECONDS + second)
 }
 
-/// The moment of a text: `YYYY-MM-DDTHH:MM:SS`, perhaps a fraction, which is dropped, and `Z`, of the years 0001 to 9999.
-/// Any other text is `NotADate`.
+/// Returns the date of a text: `YYYY-MM-DDTHH:MM:SS`, perhaps a fraction of a second, which is
+/// dropped, and `Z`, of the years 0001 to 9999. Fails with `NotADate` if the text is any other.
 pub fn read_utc(text: &[u8]) -> Result<UtcDate, FormFault>
-    ensures moment { IfOk result IsMoment }
+    ensures range { IfOk result IsUtcDate }
     ensures ok { IfOk result (λ date. IsUtcText text.now date) }
     ensures err { OnErr result ((date : TheDate) → ¬ (IsUtcText text.now date)) }
     ensures fault { IfErr result (λ e. e ≡ FormFault.NotADate) }
@@ -209,7 +217,7 @@ pub fn read_utc(text: &[u8]) -> Result<UtcDate, FormFault>
     if !is_laid_out(LAYOUT.as_bytes(), front) || !is_end(back) {
         return Err(FormFault::NotADate);
     }
-    match seconds_in(text) {
+    match find_seconds(text) {
         Some(seconds) => Ok(UtcDate { seconds }),
         None => Err(FormFault::NotADate),
     }
@@ -259,7 +267,7 @@ mod tests {
     ];
 
     #[test]
-    fn a_moment_has_its_text(rt: HostRuntime) -> Result<(), Fail> {
+    fn a_date_has_its_text(rt: HostRuntime) -> Result<(), Fail> {
         for row in ROWS {
             let date = read_utc(row.text.as_bytes())?;
             assert!(rt; date.seconds == row.seconds, "{}", row.text);

@@ -2,7 +2,7 @@ use Rattle.std.proofs.Common.{◌≡◌, ℤ, pos, negsuc, refl, arith, ◌*ℤ�
 use Rattle.std.proofs.lemmas.Int.{to_z-of_z}
 use Rattle.jiff_core.proofs.SignedLemmas.{signed_arith}
 use Rattle.jm_base.proofs.Days.{day_bounds}
-use Rattle.jm_base.proofs.moments.seconds_in.Goals as goal
+use Rattle.jm_base.proofs.utc_dates.find_seconds.Goals as goal
 
 -- the numbers of a day and of a second of it, and of both, fit
 pub record Fitting (day second : ℤ) : Type 0 where
@@ -30,27 +30,27 @@ seconds_are day second f =
 pub overflow_mul-result : goal.overflow_mul-result
 overflow_mul-result c =
     let d = c.in-Some.ensures in
-    let f = fitting c.in-Some.day c.in-Some-second_number.second (rw (d.1) (day_bounds _ _ _ d.0)) c.in-Some-second_number.ensures.bound in
+    let f = fitting c.in-Some.day c.in-Some-find_second.second (rw (d.1) (day_bounds _ _ _ d.0)) c.in-Some-find_second.ensures.bound in
     rw (to_z-of_z w64 c.in-Some.day f.day_fits) f.product_fits
 
 pub overflow_add-result : goal.overflow_add-result
 overflow_add-result c =
     let d = c.in-Some.ensures in
-    let s = c.in-Some-second_number.second in
-    let f = fitting c.in-Some.day s (rw (d.1) (day_bounds _ _ _ d.0)) c.in-Some-second_number.ensures.bound in
+    let s = c.in-Some-find_second.second in
+    let f = fitting c.in-Some.day s (rw (d.1) (day_bounds _ _ _ d.0)) c.in-Some-find_second.ensures.bound in
     rw (to_z-of_z w64 c.in-Some.day f.day_fits, to_z-of_z w64 s f.second_fits) (rw (to_z-of_z w64 (c.in-Some.day *ℤ pos 86400) f.product_fits) f.sum_fits)
 
 pub returns-clause-bound : goal.returns-clause-bound
 returns-clause-bound c =
     let d = c.in-Some.ensures in
-    let s = c.in-Some-second_number.second in
-    let f = fitting c.in-Some.day s (rw (d.1) (day_bounds _ _ _ d.0)) c.in-Some-second_number.ensures.bound in
+    let s = c.in-Some-find_second.second in
+    let f = fitting c.in-Some.day s (rw (d.1) (day_bounds _ _ _ d.0)) c.in-Some-find_second.ensures.bound in
     rw (seconds_are c.in-Some.day s f) (f.not_before, f.not_after)
 
 pub returns-clause-value : goal.returns-clause-value
 returns-clause-value c =
     let d = c.in-Some.ensures in
-    let s = c.in-Some-second_number.ensures in
-    let f = fitting c.in-Some.day c.in-Some-second_number.second (rw (d.1) (day_bounds _ _ _ d.0)) s.bound in
-    rw (seconds_are c.in-Some.day c.in-Some-second_number.second f, ← c.two_at.ensures.value, ← c.two_at-2.ensures.value, ← c.two_at-3.ensures.value, ← c.two_at-4.ensures.value, ← c.two_at-5.ensures.value, ← c.two_at-6.ensures.value, ← c.two_at-7.ensures.value)
+    let s = c.in-Some-find_second.ensures in
+    let f = fitting c.in-Some.day c.in-Some-find_second.second (rw (d.1) (day_bounds _ _ _ d.0)) s.bound in
+    rw (seconds_are c.in-Some.day c.in-Some-find_second.second f, ← c.two_at.ensures.value, ← c.two_at-2.ensures.value, ← c.two_at-3.ensures.value, ← c.two_at-4.ensures.value, ← c.two_at-5.ensures.value, ← c.two_at-6.ensures.value, ← c.two_at-7.ensures.value)
     (record { day = d.0; time = s.value.0 }, rw (← d.1, ← s.value.1) refl)
