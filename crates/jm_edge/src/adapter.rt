@@ -1,4 +1,5 @@
-// Readers and writers of std as sources and sinks. What a file, a terminal or a pipe holds is not told.
+// Readers and writers of std as sources and sinks. What a file, a terminal or a pipe holds is not
+// told.
 ghost use Rattle.std.specs.Prelude.{◌≡◌};
 
 use crate::{Failed, Sink, Source};
@@ -37,7 +38,8 @@ impl<R: Read + Drop> Source for Reading<R> {
     }
 }
 
-/// A writer of std, with its faults counted. A writer that takes nothing of a piece that is not empty has failed.
+/// A writer of std, with its faults counted. A writer that takes nothing of a piece that is not
+/// empty has failed.
 #[derive(Drop)]
 pub struct Writing<W: Drop> {
     inner: W,

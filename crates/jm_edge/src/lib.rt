@@ -1,19 +1,33 @@
-//! What a program reads from and writes to: sources and sinks that count their faults.
+//! What a program reads from and writes to: sources, sinks and links that count their faults,
+//! clocks and gates.
 //!
-//! A call answers [`Failed`] only where the count of faults rose in that call. Content is told where it can be: over memory
-//! it is, over a file or a terminal it is not, and then the clauses on content say nothing.
+//! A call fails with [`Failed`] only if the count of faults rose in that call. Content is exposed
+//! to contracts where it can be: that of memory is; that of a file, a socket or a terminal is not,
+//! and then the clauses on content say nothing.
 #![tactic(auto)]
 
 mod adapter;
+mod clock;
 mod fault;
+mod gate;
+mod link;
 mod memory;
+mod memory_clock;
+mod memory_link;
 mod sink;
 mod source;
+mod tcp;
 #[cfg(test)]
 mod tests;
 
 pub use adapter::{Reading, Writing};
+pub use clock::Clock;
 pub use fault::{EdgeFault, Failed};
+pub use gate::{CountingGate, Gate, NoGate};
+pub use link::{Link, put_to_link};
 pub use memory::{MemorySink, MemorySource};
+pub use memory_clock::MemoryClock;
+pub use memory_link::MemoryLink;
 pub use sink::{Sink, put_all};
 pub use source::Source;
+pub use tcp::TcpLink;

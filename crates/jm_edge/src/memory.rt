@@ -1,21 +1,23 @@
 // A source and a sink in memory, with a list of the calls that fail.
-ghost use Rattle.std.specs.Prelude.{◌≡◌, ◌<◌, ◌≤◌, ◌-◌, [], is_err, IfOk, IfErr, OnOk, OnErr, length, List, ℕ};
+ghost use Rattle.std.specs.Prelude.{◌≡◌, ◌<◌, ◌≤◌, ◌-◌, [], min, is_err, IfOk, IfErr, OnOk, OnErr, length, List, ℕ};
 ghost use Rattle.std.specs.Io.{ReadsAtMost, WritesAtMost};
 ghost use Rattle.std.specs.Io.KnownBytes.{ReadConsumes, WriteAppends};
 ghost use Rattle.jm_edge.specs.Causes.{HasCause};
-ghost use Rattle.jm_edge.specs.Memory.{one_on, is_to_fail};
+ghost use Rattle.jm_edge.specs.Memory.{one_on, is_to_fail, size_at};
 
 use crate::{Failed, Sink, Source};
 use jm_base::Numbers;
 use std::alloc::Global;
 use std::marker::Model;
 
-/// Bytes in memory that are read in pieces of at most a given size. The calls of the list, counted from 1, fail.
+/// Bytes in memory that are read in pieces of given sizes. The calls of the list, counted from 1,
+/// fail.
 #[derive(Drop)]
 pub struct MemorySource {
     bytes: Vec<u8>,
     at: usize,
-    piece: usize,
+    sizes: Numbers,
+    most: usize,
     calls: u64,
     faults: u64,
     fails: Numbers,
@@ -27,32 +29,62 @@ impl Model for MemorySource {
 
     ghost Value = { Input };
 
-    ghost view = { λ s. record { left = drop s.at s.bytes.items; calls = s.calls; faults = s.faults; fails = s.fails } };
+    ghost view = { λ s. record {
+      left = drop s.at s.bytes.items;
+      sizes = s.sizes;
+      most = s.most;
+      calls = s.calls;
+      faults = s.faults;
+      fails = s.fails;
+    } };
 
-    ghost invariant = { λ s. (s.at ≤ vec_len s.bytes) × (0 < s.piece) };
+    ghost invariant = { λ s. s.at ≤ vec_len s.bytes };
 }
 
 impl MemorySource {
-    /// A source that gives these bytes and never fails.
+    /// Returns a source of these bytes that never fails.
     pub fn new(alloc: Global, bytes: Vec<u8>) -> MemorySource
-        ensures { result ≡ record { left = bytes.items; calls = 0; faults = 0; fails = [] } }
+        ensures left { result.left ≡ bytes.items }
+        ensures fails { result.fails ≡ [] }
+        ensures faults { result.faults ≡ 0 }
     {
         MemorySource::in_pieces(bytes, usize::MAX, Numbers::new(alloc))
     }
 
-    /// A source that gives these bytes, at most a piece at a call, and fails at the listed calls.
-    pub fn in_pieces(bytes: Vec<u8>, piece: usize, fails: Numbers) -> MemorySource
-        requires { 0 < piece }
-        ensures { result ≡ record { left = bytes.items; calls = 0; faults = 0; fails = fails } }
+    /// Returns a source of these bytes of which each call reads at most so many, at least one. The
+    /// source fails at the listed calls.
+    pub fn in_pieces(bytes: Vec<u8>, most: usize, fails: Numbers) -> MemorySource
+        ensures { result ≡ record { left = bytes.items; sizes = []; most = most; calls = 0; faults = 0; fails = fails } }
+    {
+        let sizes = Numbers::new(*bytes.allocator());
+        MemorySource::in_sizes(bytes, sizes, most, fails)
+    }
+
+    /// Returns a source of these bytes of which each call reads at most as many as its size says,
+    /// at least one. The sizes are those of the calls in turn, failed ones too; after these the
+    /// size is `most`. The source fails at the listed calls.
+    pub fn in_sizes(bytes: Vec<u8>, sizes: Numbers, most: usize, fails: Numbers) -> MemorySource
+        ensures { result ≡ record { left = bytes.items; sizes = sizes; most = most; calls = 0; faults = 0; fails = fails } }
     {
         MemorySource {
             bytes,
             at: 0,
-            piece,
+            sizes,
+            most,
             calls: 0,
             faults: 0,
             fails,
         }
+    }
+}
+
+// Returns how many bytes the call with this number, from 1, reads at most.
+fn find_size(sizes: &[u64], most: usize, call: u64) -> usize
+    ensures { result ≡ size_at sizes.now most call }
+{
+    match sizes.get(call.saturating_sub(1) as usize) {
+        Some(size) => 1.max(*size as usize),
+        None => 1.max(most),
     }
 }
 
@@ -71,14 +103,18 @@ impl Source for MemorySource {
         // It fails at the listed calls and at no other.
         ensures fails { is_err result ≡ is_to_fail self.old.fails (one_on self.old.calls) }
         ensures calls { self.new.calls ≡ one_on self.old.calls }
+        ensures count { IfOk result (λ n. n ≡ min (min (length room.new) (length self.old.left)) (size_at self.old.sizes self.old.most (one_on self.old.calls))) }
         ensures script { self.new.fails ≡ self.old.fails }
+        ensures sizes { self.new.sizes ≡ self.old.sizes }
+        ensures most { self.new.most ≡ self.old.most }
     {
         self.calls = self.calls.saturating_add(1);
         if self.fails.as_slice().contains(&self.calls) {
             self.faults = self.faults.saturating_add(1);
             return Err(Failed);
         }
-        let count = room.len().min(self.bytes.len() - self.at).min(self.piece);
+        let size = find_size(self.sizes.as_slice(), self.most, self.calls);
+        let count = room.len().min(self.bytes.len() - self.at).min(size);
         let end = self.at + count;
         room[..count].copy_from_slice(&self.bytes[self.at..end]);
         self.at = end;
@@ -86,7 +122,8 @@ impl Source for MemorySource {
     }
 }
 
-/// Bytes that are kept in memory. The calls of the list, counted from 1, fail, and so does a call that finds no memory.
+/// Bytes that are kept in memory. The calls of the list, counted from 1, fail, and so does a call
+/// that finds no memory.
 #[derive(Drop)]
 pub struct MemorySink {
     bytes: Vec<u8>,

@@ -14,8 +14,8 @@ pub trait Sink: Drop {
     /// How often writing has failed. It never falls.
     ghost faults: { Self → ℕ };
 
-    /// Takes a front of the piece, at least a byte of one that is not empty, and says how many bytes. After `Failed` nothing
-    /// of the piece was taken.
+    /// Takes a front of the piece, at least a byte of one that is not empty, and says how many
+    /// bytes. After `Failed` nothing of the piece was taken.
     fn put(&mut self, piece: &[u8]) -> Result<usize, Failed>
         ensures bound { WritesAtMost result piece.now }
         ensures some { IfOk result (λ n. 0 < length piece.now → 0 < n) }

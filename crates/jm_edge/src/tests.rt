@@ -1,9 +1,13 @@
-use crate::{Failed, MemorySink, MemorySource, Reading, Sink, Source, Writing, put_all};
+use crate::{
+    Clock, CountingGate, Failed, Gate, Link, MemoryClock, MemoryLink, MemorySink, MemorySource,
+    NoGate, Reading, Sink, Source, Writing, put_all, put_to_link,
+};
 use jm_base::Numbers;
 use std::io::{self, Read, Write};
 use std::test::Fail;
 
-// A reader and a writer that take at most so many bytes a call, and fail when their calls are used up.
+// A reader and a writer that take at most so many bytes a call, and fail when their calls are used
+// up.
 #[derive(Drop)]
 struct Slow {
     held: Vec<u8>,
@@ -99,5 +103,53 @@ fn reads_until_a_reader_fails(rt: HostRuntime) -> Result<(), Fail> {
     assert_eq!(rt; source.read(&mut room), Ok(2));
     assert_eq!(rt; &room[..2], b"xx".as_slice());
     assert_eq!(rt; source.read(&mut room), Err(Failed));
+    Ok(())
+}
+
+#[test]
+fn a_link_reads_and_writes_apart(rt: HostRuntime) -> Result<(), Fail> {
+    let alloc = rt.alloc();
+    let (mut sizes, mut reads, mut writes) = (
+        Numbers::new(alloc),
+        Numbers::new(alloc),
+        Numbers::new(alloc),
+    );
+    sizes.push(1)?;
+    sizes.push(0)?;
+    reads.push(3)?;
+    writes.push(2)?;
+    let input = MemorySource::in_sizes(b"abcdef".to_vec(alloc)?, sizes, 3, reads);
+    let mut link = MemoryLink::new(input, MemorySink::failing(alloc, writes));
+    let mut room = [0u8; 8];
+    // calls of one byte, of one (a size of 0 counts as 1), one that fails, and of three
+    for read in [Ok(1), Ok(1), Err(Failed), Ok(3), Ok(1), Ok(0)] {
+        assert_eq!(rt; link.read(&mut room), read);
+    }
+    assert_eq!(rt; put_to_link(&mut link, b"ab"), Ok(()));
+    assert_eq!(rt; put_to_link(&mut link, b"cd"), Err(Failed));
+    assert_eq!(rt; put_to_link(&mut link, b"ef"), Ok(()));
+    assert_eq!(rt; link.bytes(), b"abef".as_slice());
+    Ok(())
+}
+
+#[test]
+fn a_clock_shows_its_times(rt: HostRuntime) -> Result<(), Fail> {
+    let mut times = Numbers::new(rt.alloc());
+    times.push(7)?;
+    times.push(u64::MAX)?;
+    let mut clock = MemoryClock::new(times, 9);
+    for time in [7, 253_402_300_799, 9, 9] {
+        assert_eq!(rt; clock.now(), time);
+    }
+    Ok(())
+}
+
+#[test]
+fn a_gate_is_counted(rt: HostRuntime) -> Result<(), Fail> {
+    let gate = CountingGate::new();
+    gate.pass(1);
+    gate.pass(2);
+    NoGate.pass(3);
+    assert_eq!(rt; gate.count(), 2);
     Ok(())
 }
