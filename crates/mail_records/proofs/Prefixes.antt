@@ -74,7 +74,7 @@ AllFit-front : (es more : List Edit) (c : Content) → AllFit c (es ++ more) →
 AllFit-front [] more c fit = tt
 AllFit-front (e ∷ es) more c fit = (fit.0, AllFit-front es more (after_edit c e) fit.1)
 
-all_front : {R : Type 0} (P : R → Type 0) (xs ys : List R) → AllByRecursion P (xs ++ ys) → AllByRecursion P xs
+pub all_front : {R : Type 0} (P : R → Type 0) (xs ys : List R) → AllByRecursion P (xs ++ ys) → AllByRecursion P xs
 all_front P [] ys all = tt
 all_front P (x ∷ xs) ys all = (all.0, all_front P xs ys all.1)
 

@@ -89,7 +89,7 @@ place_bounds test (x ∷ xs) n e =
     (low, omega arith)
 
 -- the later of two places, of which the first stands behind so many items
-abbrev later : ℕ → Option ℕ → Option ℕ → Option ℕ
+abbrev pub later : ℕ → Option ℕ → Option ℕ → Option ℕ
 later n (Some m) o = Some (n + m)
 later n None o = o
 
@@ -101,7 +101,7 @@ later_with : (b : Bool) (n : ℕ) (o p : Option ℕ) → place_with b (later n o
 later_with b n (Some m) p = ap Some (let e : n + m + 1 ≡ n + 1 + m = omega arith in e)
 later_with b n None p = refl
 
-last_place-append : {A : Type 0} (test : A → Bool) (xs ys : List A) → last_place test (xs ++ ys) ≡ later (length xs) (last_place test ys) (last_place test xs)
+pub last_place-append : {A : Type 0} (test : A → Bool) (xs ys : List A) → last_place test (xs ++ ys) ≡ later (length xs) (last_place test ys) (last_place test xs)
 last_place-append test [] ys = later_none (last_place test ys)
 last_place-append test (x ∷ xs) ys =
     ap (place_with (test x)) (last_place-append test xs ys)

@@ -5,7 +5,7 @@ use Rattle.std.specs.List.Sorted.{IsStrictlySortedBy}
 use Rattle.std.specs.Ordering.{nat_cmp}
 use Rattle.std.specs.Cmp.Lexicographic.{slice_cmp}
 use Rattle.std.specs.Option.{ForSome}
-use Rattle.jm_base.specs.Moments.{IsMoment}
+use Rattle.jm_base.specs.UtcDates.{IsUtcDate}
 use Rattle.mail_records.specs.declared.records.Email.{Email}
 use Rattle.mail_records.specs.declared.edits.Edit.{Edit}
 use Rattle.mail_records.specs.declared.edits.Edit.TheVariants.{PutEmail}
@@ -24,8 +24,8 @@ pub record IsFormedEmail (e : Email) : Type 0 where
   pub mailboxes : NumbersRise e.mailboxes
   pub keywords : TextsRise e.keywords
   pub links : TextsRise e.summary.links
-  pub received : IsMoment e.received
-  pub sent : ForSome e.summary.sent IsMoment
+  pub received : IsUtcDate e.received
+  pub sent : ForSome e.summary.sent IsUtcDate
 
 -- an email that is put is formed
 abbrev pub IsFormedEdit : Edit → Type 0

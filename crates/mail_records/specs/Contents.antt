@@ -16,7 +16,7 @@ pub record Content : Type 0 where
   pub next_email : ℕ
   pub next_thread : ℕ
 
--- a content, and for how many edits room stands ready
+-- a content, and for how many edits there is room
 pub record Held : Type 0 where
   pub content : Content
   pub spare : ℕ

@@ -4,3 +4,8 @@ pub mod Edits
 pub mod Commits
 pub mod Histories
 pub mod States
+pub mod Orders
+pub mod OrderSteps
+pub mod Laws
+pub mod Views
+pub mod Moved

@@ -1,20 +1,23 @@
 // The content of an account: a table of each kind of record, and the next numbers.
-ghost use Rattle.std.specs.Prelude.{◌≡◌, ◌+◌, ◌<◌, ◌≤◌, ◌^◌, false, Some, None, OnOk, OnErr, IfOk, MatchOption, length};
+ghost use Rattle.std.specs.Prelude.{◌≡◌, ◌+◌, ◌*◌, ◌<◌, ◌≤◌, ◌^◌, false, Some, None, OnOk, OnErr, IfOk, MatchOption, length};
 ghost use Rattle.mail_records.specs.Contents.{mailbox_number, email_number, thread_number, mailbox_at, email_at, thread_at, next_of, empty_content};
 ghost use Rattle.mail_records.specs.Edits.{Fits, HasNext, IsSmall, after_edit};
+ghost use Rattle.mail_records.specs.Orders.{AreByReceived, AreChildren, AreChildrenNamed, AreInMailbox, AreInThread, AreWithLink, AreWithRole};
 ghost use Rattle.mail_records.specs.Tables.{IsTable};
 
-use crate::{Edit, Email, Mailbox, Table, Thread};
+use crate::emails::Emails;
+use crate::mailboxes::Mailboxes;
+use crate::{Dated, Edit, Email, Linked, Mailbox, Named, Placed, Roled, Table, Thread, Threaded};
 use jm_base::{Kind, NoMemory};
 use std::alloc::Global;
 use std::marker::Model;
 
-/// The mailboxes, emails and threads of an account, each by number, and the next number of each kind. Contracts see
-/// beside it `spare`: for how many edits room stands ready.
+/// The mailboxes, emails and threads of an account, each by number, and the next number of each
+/// kind. Contracts see beside it `spare`: for how many edits room stands ready.
 #[derive(Drop)]
 pub struct Content {
-    pub(crate) mailboxes: Table<Mailbox>,
-    pub(crate) emails: Table<Email>,
+    pub(crate) mailboxes: Mailboxes,
+    pub(crate) emails: Emails,
     pub(crate) threads: Table<Thread>,
     pub(crate) next_mailbox: u64,
     pub(crate) next_email: u64,
@@ -22,7 +25,7 @@ pub struct Content {
 }
 
 impl Model for Content {
-    ghost use Rattle.std.specs.Prelude.{min};
+    ghost use Rattle.std.specs.Prelude.{min, ◌/◌};
     ghost use Rattle.mail_records.specs.Contents.{Held};
 
     ghost Value = { Held };
@@ -36,7 +39,9 @@ impl Model for Content {
         next_email = c.next_email;
         next_thread = c.next_thread;
       };
-      spare = min c.mailboxes.spare (min c.emails.spare c.threads.spare);
+      spare = min c.mailboxes.spare
+          (min c.emails.spare
+          (min (c.emails.placed / 64) (min (c.emails.linked / 100) c.threads.spare)));
     } };
 }
 
@@ -46,8 +51,8 @@ impl Content {
         ensures { result.content ≡ empty_content }
     {
         Content {
-            mailboxes: Table::new(alloc),
-            emails: Table::new(alloc),
+            mailboxes: Mailboxes::new(alloc),
+            emails: Emails::new(alloc),
             threads: Table::new(alloc),
             next_mailbox: 1,
             next_email: 1,
@@ -77,7 +82,7 @@ impl Content {
         ensures items { result.now ≡ self.now.content.mailboxes }
         ensures table { IsTable mailbox_number result.now }
     {
-        self.mailboxes.as_slice()
+        self.mailboxes.table().as_slice()
     }
 
     /// Lends the emails, in number order.
@@ -85,7 +90,7 @@ impl Content {
         ensures items { result.now ≡ self.now.content.emails }
         ensures table { IsTable email_number result.now }
     {
-        self.emails.as_slice()
+        self.emails.table().as_slice()
     }
 
     /// Lends the threads, in number order.
@@ -98,21 +103,24 @@ impl Content {
 
     /// Lends the mailbox of a number.
     pub fn mailbox(&self, number: u64) -> Option<&Mailbox>
-        ensures { MatchOption result (mailbox_at self.now.content number ≡ None) (λ r. mailbox_at self.now.content number ≡ Some r.now) }
+        ensures { MatchOption result (mailbox_at self.now.content number ≡ None)
+            (λ r. mailbox_at self.now.content number ≡ Some r.now) }
     {
-        self.mailboxes.get(number)
+        self.mailboxes.table().get(number)
     }
 
     /// Lends the email of a number.
     pub fn email(&self, number: u64) -> Option<&Email>
-        ensures { MatchOption result (email_at self.now.content number ≡ None) (λ r. email_at self.now.content number ≡ Some r.now) }
+        ensures { MatchOption result (email_at self.now.content number ≡ None)
+            (λ r. email_at self.now.content number ≡ Some r.now) }
     {
-        self.emails.get(number)
+        self.emails.table().get(number)
     }
 
     /// Lends the thread of a number.
     pub fn thread(&self, number: u64) -> Option<&Thread>
-        ensures { MatchOption result (thread_at self.now.content number ≡ None) (λ r. thread_at self.now.content number ≡ Some r.now) }
+        ensures { MatchOption result (thread_at self.now.content number ≡ None)
+            (λ r. thread_at self.now.content number ≡ Some r.now) }
     {
         self.threads.get(number)
     }
@@ -128,7 +136,59 @@ impl Content {
         }
     }
 
-    /// Makes room for these edits. Where there is none, all but the room is as before.
+    /// Lends the mailboxes with a parent, or those without one, in the order of name, then number.
+    pub fn children(&self, parent: Option<u64>) -> &[Named]
+        ensures { AreChildren self.now.content parent result.now }
+    {
+        self.mailboxes.children(parent)
+    }
+
+    /// Lends the mailboxes with a parent, or those without one, and with a name, in the order of
+    /// number.
+    pub fn children_named(&self, parent: Option<u64>, name: &[u8]) -> &[Named]
+        ensures { AreChildrenNamed self.now.content parent name.now result.now }
+    {
+        self.mailboxes.children_named(parent, name)
+    }
+
+    /// Lends the mailboxes with a role, in the order of number.
+    pub fn with_role(&self, role: &[u8]) -> &[Roled]
+        ensures { AreWithRole self.now.content role.now result.now }
+    {
+        self.mailboxes.with_role(role)
+    }
+
+    /// Lends all emails in the order of the time received, then number.
+    pub fn by_received(&self) -> &[Dated]
+        ensures { AreByReceived self.now.content result.now }
+    {
+        self.emails.by_received()
+    }
+
+    /// Lends the emails of a thread in the order of the time received, then number (RFC 8621,
+    /// section 3).
+    pub fn in_thread(&self, thread: u64) -> &[Threaded]
+        ensures { AreInThread self.now.content thread result.now }
+    {
+        self.emails.in_thread(thread)
+    }
+
+    /// Lends the emails in a mailbox in the order of the time received, then number.
+    pub fn in_mailbox(&self, mailbox: u64) -> &[Placed]
+        ensures { AreInMailbox self.now.content mailbox result.now }
+    {
+        self.emails.in_mailbox(mailbox)
+    }
+
+    /// Lends the emails with a link in their summary, in the order of number, then the index of the
+    /// link there.
+    pub fn with_link(&self, link: &[u8]) -> &[Linked]
+        ensures { AreWithLink self.now.content link.now result.now }
+    {
+        self.emails.with_link(link)
+    }
+
+    /// Makes room for these edits. If an allocation fails, all but the room is as before.
     pub fn reserve(&mut self, edits: &[Edit]) -> Result<(), NoMemory>
         ensures same { self.new.content ≡ self.old.content }
         ensures spare { OnOk result (length edits.now ≤ self.new.spare) }
@@ -143,8 +203,10 @@ impl Content {
         ensures spare { OnOk result (edits ≤ self.new.spare) }
         ensures no_less { self.old.spare ≤ self.new.spare }
     {
+        let placed = product(edits, 64)?;
+        let linked = product(edits, 100)?;
         self.mailboxes.reserve(edits)?;
-        self.emails.reserve(edits)?;
+        self.emails.reserve(edits, placed, linked)?;
         self.threads.reserve(edits)?;
         Ok(())
     }
@@ -152,7 +214,8 @@ impl Content {
     fn put_mailbox(&mut self, item: Mailbox, was: bool)
         requires room { 1 ≤ self.old.spare }
         requires next { was ≡ false → item.number + 1 < 2 ^ 64 }
-        ensures content { self.new.content ≡ after_edit self.old.content (Edit.PutMailbox item was false) }
+        ensures content { self.new.content ≡ after_edit self.old.content
+            (Edit.PutMailbox item was false) }
         ensures spare { self.old.spare ≤ self.new.spare + 1 }
     {
         if !was {
@@ -163,6 +226,8 @@ impl Content {
 
     fn put_email(&mut self, item: Email, was: bool)
         requires room { 1 ≤ self.old.spare }
+        requires mailboxes { length item.mailboxes ≤ 64 }
+        requires links { length item.summary.links ≤ 100 }
         requires next { was ≡ false → item.number + 1 < 2 ^ 64 }
         ensures content { self.new.content ≡ after_edit self.old.content (Edit.PutEmail item was) }
         ensures spare { self.old.spare ≤ self.new.spare + 1 }
@@ -185,21 +250,39 @@ impl Content {
         self.threads.put_ready(item);
     }
 
-    // Applies an edit that fits, for which room stands ready.
-    fn enter(&mut self, edit: Edit)
-        requires room { 1 ≤ self.old.spare }
+    // Puts an email with any number of mailboxes and links. If an allocation fails, the content is
+    // as before.
+    fn put_large(&mut self, item: Email, was: bool) -> Result<(), NoMemory>
+        requires next { was ≡ false → item.number + 1 < 2 ^ 64 }
+        ensures ok { OnOk result (self.new.content ≡ after_edit self.old.content
+            (Edit.PutEmail item was)) }
+        ensures err { OnErr result (self.new.content ≡ self.old.content) }
+    {
+        let placed = item.mailboxes.len();
+        let linked = item.summary.links.len();
+        self.emails.reserve(1, placed, linked)?;
+        if !was {
+            self.next_email = item.number + 1;
+        }
+        self.emails.put_ready(item);
+        Ok(())
+    }
+
+    // Applies an edit that fits. If an allocation fails, the content is as before.
+    fn enter(&mut self, edit: Edit) -> Result<(), NoMemory>
         requires fits { Fits self.old.content edit }
         requires next { HasNext self.old.content edit }
-        ensures content { self.new.content ≡ after_edit self.old.content edit }
-        ensures spare { self.old.spare ≤ self.new.spare + 1 }
+        ensures ok { OnOk result (self.new.content ≡ after_edit self.old.content edit) }
+        ensures err { OnErr result (self.new.content ≡ self.old.content) }
     {
+        self.make_room(1)?;
         match edit {
-            Edit::PutMailbox { item, was, .. } => self.put_mailbox(item, was),
-            Edit::DropMailbox { number } => self.mailboxes.take_out(number),
-            Edit::PutEmail { item, was } => self.put_email(item, was),
-            Edit::DropEmail { number, .. } => self.emails.take_out(number),
-            Edit::PutThread { item, was } => self.put_thread(item, was),
-            Edit::DropThread { number } => self.threads.take_out(number),
+            Edit::PutMailbox { item, was, .. } => Ok(self.put_mailbox(item, was)),
+            Edit::DropMailbox { number } => Ok(self.mailboxes.take_out(number)),
+            Edit::PutEmail { item, was } => self.put_large(item, was),
+            Edit::DropEmail { number, .. } => Ok(self.emails.take_out(number)),
+            Edit::PutThread { item, was } => Ok(self.put_thread(item, was)),
+            Edit::DropThread { number } => Ok(self.threads.take_out(number)),
         }
     }
 
@@ -212,7 +295,24 @@ impl Content {
         ensures content { self.new.content ≡ after_edit self.old.content edit }
         ensures spare { self.old.spare ≤ self.new.spare + 1 }
     {
-        self.enter(edit);
+        match edit {
+            Edit::PutMailbox { item, was, .. } => self.put_mailbox(item, was),
+            Edit::DropMailbox { number } => self.mailboxes.take_out(number),
+            Edit::PutEmail { item, was } => self.put_email(item, was),
+            Edit::DropEmail { number, .. } => self.emails.take_out(number),
+            Edit::PutThread { item, was } => self.put_thread(item, was),
+            Edit::DropThread { number } => self.threads.take_out(number),
+        }
+    }
+}
+
+// Multiplies two numbers; a product that is too large is out of memory.
+fn product(count: usize, each: usize) -> Result<usize, NoMemory>
+    ensures { IfOk result (λ n. n ≡ count * each) }
+{
+    match count.checked_mul(each) {
+        Some(product) => Ok(product),
+        None => Err(NoMemory),
     }
 }
 
@@ -224,7 +324,5 @@ pub fn apply(alloc: Global, content: &mut Content, edit: &Edit) -> Result<(), No
     ensures err { OnErr result (content.new.content ≡ content.old.content) }
 {
     let copy = edit.copy(alloc)?;
-    content.make_room(1)?;
-    content.enter(copy);
-    Ok(())
+    content.enter(copy)
 }

@@ -9,7 +9,8 @@ use std::alloc::Global;
 /// One change of one record. `was` says whether a record of this number was there before.
 #[derive(Drop)]
 pub enum Edit {
-    /// The mailbox is now this one. `counts` says that it was there, and that only its four counts changed.
+    /// The mailbox is now this one. `counts` says that it was there, and that only its four counts
+    /// changed.
     PutMailbox {
         item: Mailbox,
         was: bool,
@@ -85,8 +86,8 @@ impl Edit {
 /// A list of edits, in the order in which they are applied.
 pub type Edits = Sequence<Edit>;
 
-/// Who made an entry of a history: the number of the pass under which it was made, and its number among those made
-/// under that pass, from 1.
+/// Who made an entry of a history: the number of the pass under which it was made, and its number
+/// among those made under that pass, from 1.
 #[derive(Clone, Copy, Debug, PartialEq, Eq)]
 pub struct Stamp {
     pub pass: u64,

@@ -12,7 +12,8 @@ use std::alloc::Global;
 use std::collections::VecDeque;
 
 fn put_fits<R: Record>(table: &Table<R>, number: u64, was: bool, next: u64) -> bool
-    ensures { IsTrue result ↔ PutFits (is_some (lookup R.number number table.now.rows)) was number next }
+    ensures { IsTrue result ↔ PutFits (is_some
+        (lookup R.number number table.now.rows)) was number next }
 {
     let present = table.get(number).is_some();
     was == present && (was || number == next)
@@ -25,7 +26,8 @@ fn drop_fits<R: Record>(table: &Table<R>, number: u64) -> bool
 }
 
 fn drop_email_fits(table: &Table<Email>, number: u64, thread: u64) -> bool
-    ensures { IsTrue result ↔ ((x : TheEmail) × (lookup email_number number table.now.rows ≡ Some x) × (x.thread ≡ thread)) }
+    ensures { IsTrue result ↔ ((x : TheEmail) ×
+        (lookup email_number number table.now.rows ≡ Some x) × (x.thread ≡ thread)) }
 {
     match table.get(number) {
         Some(email) => email.thread == thread,
@@ -33,20 +35,34 @@ fn drop_email_fits(table: &Table<Email>, number: u64, thread: u64) -> bool
     }
 }
 
-/// Whether an edit fits the content before it: its `was` is right, a new record has its kind's next number, and a
-/// record that is dropped is there, an email with the thread that the edit names.
+/// Whether an edit fits the content before it: its `was` is right, a new record has its kind's next
+/// number, and a record that is dropped is there, an email with the thread that the edit names.
 pub fn fits(content: &Content, edit: &Edit) -> bool
     ensures { IsTrue result ↔ Fits content.now.content edit.now }
 {
     match edit {
         Edit::PutMailbox { item, was, .. } => {
-            put_fits(&content.mailboxes, item.number, *was, content.next_mailbox)
+            put_fits(
+                content.mailboxes.table(),
+                item.number,
+                *was,
+                content.next_mailbox,
+            )
         }
-        Edit::DropMailbox { number } => drop_fits(&content.mailboxes, *number),
+        Edit::DropMailbox { number } => drop_fits(content.mailboxes.table(), *number),
         Edit::PutEmail { item, was } => {
-            put_fits(&content.emails, item.number, *was, content.next_email)
+            put_fits(
+                content.emails.table(),
+                item.number,
+                *was,
+                content.next_email,
+            )
         }
-        Edit::DropEmail { number, thread } => drop_email_fits(&content.emails, *number, *thread),
+        Edit::DropEmail { number, thread } => drop_email_fits(
+            content.emails.table(),
+            *number,
+            *thread,
+        ),
         Edit::PutThread { item, was } => {
             put_fits(&content.threads, item.number, *was, content.next_thread)
         }
@@ -55,7 +71,8 @@ pub fn fits(content: &Content, edit: &Edit) -> bool
 }
 
 fn stays_in_thread(table: &Table<Email>, number: u64, thread: u64) -> bool
-    ensures { IsTrue result ↔ ((x : TheEmail) → lookup email_number number table.now.rows ≡ Some x → x.thread ≡ thread) }
+    ensures { IsTrue result ↔ ((x : TheEmail) → lookup email_number number table.now.rows ≡ Some x
+        → x.thread ≡ thread) }
 {
     match table.get(number) {
         Some(old) => old.thread == thread,
@@ -63,13 +80,14 @@ fn stays_in_thread(table: &Table<Email>, number: u64, thread: u64) -> bool
     }
 }
 
-/// Whether an edit keeps the thread of its email: it isn't the put of an email in the place of one of another thread.
+/// Whether an edit keeps the thread of its email: it isn't the put of an email in the place of one
+/// of another thread.
 pub fn keeps_thread(content: &Content, edit: &Edit) -> bool
     ensures { IsTrue result ↔ KeepsThread content.now.content edit.now }
 {
     match edit {
         Edit::PutEmail { item, .. } => {
-            stays_in_thread(&content.emails, item.number, item.thread)
+            stays_in_thread(content.emails.table(), item.number, item.thread)
         }
         Edit::PutMailbox { .. }
         | Edit::DropMailbox { .. }
@@ -79,7 +97,8 @@ pub fn keeps_thread(content: &Content, edit: &Edit) -> bool
     }
 }
 
-/// Applies edits of which each fits the content before it, and for which room stands ready. It takes no memory.
+/// Applies edits of which each fits the content before it, and for which room stands ready. It
+/// takes no memory.
 pub fn apply_all_ready(content: &mut Content, edits: Edits)
     requires room { length edits ≤ content.old.spare }
     requires fits { AllFit content.old.content edits }
@@ -103,16 +122,27 @@ pub struct Applied {
     pub keeps_threads: bool,
 }
 
-/// Applies edits one after the other, or answers None where one of them doesn't fit the content before it.
+// Returns whether the edits up to one kept the threads of their emails, and this one does.
+fn still_keeps(before: bool, content: &Content, edit: &Edit) -> bool
+    ensures { IsTrue result ↔ (IsTrue before × KeepsThread content.now.content edit.now) }
+{
+    before && keeps_thread(content, edit)
+}
+
+/// Applies edits one after the other, or answers None where one of them doesn't fit the content
+/// before it.
 pub fn apply_fitting(
     alloc: Global,
     content: Content,
     edits: &[Edit],
 ) -> Result<Option<Applied>, NoMemory>
     requires { HasNumbers (length edits.now) content.content }
-    ensures fits { IfOk result (λ o. MatchOption o (¬ AllFit content.content edits.now) (λ a. AllFit content.content edits.now)) }
-    ensures content { IfOk result (λ o. MatchOption o ⊤ (λ a. a.content.content ≡ after_edits content.content edits.now)) }
-    ensures threads { IfOk result (λ o. MatchOption o ⊤ (λ a. IsTrue a.keeps_threads ↔ AllKeepThread content.content edits.now)) }
+    ensures fits { IfOk result (λ o. MatchOption o (¬ AllFit content.content edits.now)
+        (λ a. AllFit content.content edits.now)) }
+    ensures content { IfOk result (λ o. MatchOption o ⊤
+        (λ a. a.content.content ≡ after_edits content.content edits.now)) }
+    ensures threads { IfOk result (λ o. MatchOption o ⊤
+        (λ a. IsTrue a.keeps_threads ↔ AllKeepThread content.content edits.now)) }
 {
     let mut made = content;
     let mut keeps_threads = true;
@@ -120,7 +150,7 @@ pub fn apply_fitting(
         if !fits(&made, edit) {
             return Ok(None);
         }
-        keeps_threads = keeps_threads && keeps_thread(&made, edit);
+        keeps_threads = still_keeps(keeps_threads, &made, edit);
         apply(alloc, &mut made, edit)?;
     }
     Ok(Some(Applied {

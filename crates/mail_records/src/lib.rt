@@ -1,14 +1,21 @@
 //! The records of an account, the edits that change them, and the histories that the edits make.
 //!
-//! An account is three finite maps from numbers to records: mailboxes, emails and threads (RFC 8620 and RFC 8621). Every
-//! change is a list of [`Edit`]s, each of which puts or drops one record. A [`Commit`] is the list of one change with
-//! the blobs that it brings. What a history, a position, a content at a position and a state are stands in `specs/`.
+//! An account is three finite maps from numbers to records: mailboxes, emails and threads (RFC 8620
+//! and RFC 8621). Every change is a list of [`Edit`]s, each of which puts or drops one record. A
+//! [`Commit`] is the list of one change with the blobs that it brings. What a history, a position,
+//! a content at a position and a state are stands in `specs/`.
 #![tactic(auto)]
 
 mod content;
 mod copies;
 mod edits;
+mod emails;
+mod entries;
+mod entry_keys;
 mod fitting;
+mod laws;
+mod mailboxes;
+mod orders;
 mod records;
 mod table;
 #[cfg(test)]
@@ -16,6 +23,11 @@ mod tests;
 
 pub use content::{Content, apply};
 pub use edits::{Commit, Edit, Edits, Stamp, copy_edits};
+pub use entries::{Dated, Linked, Named, Placed, Roled, Threaded};
 pub use fitting::{Applied, apply_all_ready, apply_fitting, fits, keeps_thread};
+pub use laws::{
+    histories_are_founded, histories_are_sound, histories_grow, keys_tell_lists,
+    states_tell_records,
+};
 pub use records::{Email, Mailbox, Summary, Thread};
 pub use table::{Record, Table};

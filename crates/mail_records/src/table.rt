@@ -1,4 +1,5 @@
-// A finite map from numbers to records: the records in number order in a vector, with room that may stand ready.
+// A finite map from numbers to records: the records in number order in a vector, with room that may
+// stand ready.
 ghost use Rattle.std.specs.Prelude.{◌≡◌, ◌+◌, ◌<◌, ◌≤◌, ℕ, [], Some, None, OnOk, IfOk, MatchOption, length, take, insert, remove, slice_set, vec_len, vec_capacity};
 ghost use Rattle.mail_records.specs.Tables.{IsPlace, IsTable, lookup, put, without};
 
@@ -30,7 +31,8 @@ fn place_of<R: Record>(rows: &[R], number: u64) -> usize
 // The record of a number.
 fn find<R: Record>(rows: &[R], number: u64) -> Option<&R>
     requires { IsTable R.number rows.now }
-    ensures { MatchOption result (lookup R.number number rows.now ≡ None) (λ r. lookup R.number number rows.now ≡ Some r.now) }
+    ensures { MatchOption result (lookup R.number number rows.now ≡ None)
+        (λ r. lookup R.number number rows.now ≡ Some r.now) }
 {
     let place = place_of(rows, number);
     if place == rows.len() {
@@ -44,8 +46,8 @@ fn find<R: Record>(rows: &[R], number: u64) -> Option<&R>
     }
 }
 
-// An insertion for which room stands ready.
-fn insert_ready<R: Drop>(rows: &mut Vec<R>, place: usize, item: R)
+/// Inserts an item for which room is ready.
+pub(crate) fn insert_ready<R: Drop>(rows: &mut Vec<R>, place: usize, item: R)
     requires place { place ≤ vec_len rows.old }
     requires room { vec_len rows.old < vec_capacity rows.old }
     ensures items { rows.new.items ≡ insert rows.old.items place item }
@@ -162,7 +164,8 @@ impl<R: Record> Table<R> {
 
     /// Lends the record of a number.
     pub fn get(&self, number: u64) -> Option<&R>
-        ensures { MatchOption result (lookup R.number number self.now.rows ≡ None) (λ r. lookup R.number number self.now.rows ≡ Some r.now) }
+        ensures { MatchOption result (lookup R.number number self.now.rows ≡ None)
+            (λ r. lookup R.number number self.now.rows ≡ Some r.now) }
     {
         find(&self.rows, number)
     }

@@ -4,11 +4,13 @@
 //! A position counts edits. The first edit after the floor has the position floor + 1.
 #![tactic(auto)]
 
+mod laws;
 mod log;
 mod notes;
 #[cfg(test)]
 mod tests;
 mod touched;
 
+pub use laws::{logs_follow_histories, logs_tell_histories};
 pub use log::{Log, note_all_ready};
 pub use notes::Note;

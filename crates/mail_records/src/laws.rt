@@ -1,0 +1,91 @@
+// What holds of all histories: laws of the definitions, each as the contract of a function that
+// does nothing.
+ghost use Rattle.std.specs.Prelude.{◌≡◌, ◌+◌, ◌++◌, ◌≤◌, Bool, ℕ, List, length};
+ghost use Rattle.jm_base.specs.declared.identifiers.Kind.{Kind};
+ghost use Rattle.mail_records.specs.Contents.{AreNumbered, AreTables, NextAtMost, SameRecords, email_number, mailbox_number};
+ghost use Rattle.mail_records.specs.Orders.{AreKeys, Key};
+ghost use Rattle.mail_records.specs.declared.records.Email.{Email};
+ghost use Rattle.mail_records.specs.declared.records.Mailbox.{Mailbox};
+ghost use Rattle.mail_records.specs.Edits.{AllFit, AllKeepThread, after_edits};
+ghost use Rattle.mail_records.specs.Histories.{Committed, Entry, FloorsAtMost, History, IsFounded, IsSound, Refused, account_after, blobs_of, content_at, content_of, edits_of, empty_history, end_after, end_of, entry_blobs, entry_edits, grown, grown_by};
+ghost use Rattle.mail_records.specs.States.{Reaches, state_at, state_of};
+ghost use Rattle.mail_records.specs.declared.edits.Commit.{Commit};
+ghost use Rattle.mail_records.specs.declared.edits.Stamp.{Stamp};
+
+/// A history is founded from its beginning on: the empty one is, and entries keep it so. Where its
+/// edits fit, the content at its end is in number order, each number is below its kind's next one,
+/// and each next number is at most the last position plus 1.
+pub fn histories_are_founded()
+    ensures empty { IsFounded empty_history }
+    ensures grown { (h : History) (more : List Entry) → IsFounded h → IsFounded (grown_by h more) }
+    ensures before { (h : History) (count : ℕ) → IsFounded h → IsFounded (account_after h count) }
+    ensures tables { (h : History) → IsFounded h → AreTables (content_of h) }
+    ensures numbered { (h : History) → IsFounded h → AllFit h.base (edits_of h) → AreNumbered
+        (content_of h) }
+    ensures next { (h : History) → IsFounded h → AllFit h.base (edits_of h) → NextAtMost
+        (end_of h + 1) (content_of h) }
+{}
+
+/// A founded history is sound if and only if its edits fit and keep the thread of each email, one
+/// after the other. The empty history is sound; a commit whose edits fit and keep threads, and a
+/// refusal, keep it sound; and it was sound after each of its entries.
+pub fn histories_are_sound()
+    ensures empty { IsSound empty_history }
+    ensures steps { (h : History) → IsFounded h → AllFit h.base (edits_of h)
+        → AllKeepThread h.base (edits_of h) → IsSound h }
+    ensures kept { (h : History) → IsSound h → AllKeepThread h.base (edits_of h) }
+    ensures committed { (h : History) (c : Commit) → IsFounded h → IsSound h → AllFit
+        (content_of h) c.edits → AllKeepThread (content_of h) c.edits → IsSound (grown h
+        (Committed c)) }
+    ensures refused { (h : History) (s : Stamp) → IsSound h → IsSound (grown h (Refused s)) }
+    ensures before { (h : History) (count : ℕ) → IsSound h → IsSound (account_after h count) }
+{}
+
+/// An entry adds its edits and blobs at the end, and the content at a position stays as the history
+/// grows.
+pub fn histories_grow()
+    ensures edits { (h : History) (e : Entry) → edits_of (grown h e) ≡ edits_of h ++ entry_edits e }
+    ensures blobs { (h : History) (e : Entry) → blobs_of (grown h e) ≡ blobs_of h ++ entry_blobs e }
+    ensures end { (h : History) (e : Entry) → end_of (grown h e) ≡ end_of h + length
+        (entry_edits e) }
+    ensures content { (h : History) (e : Entry) → content_of (grown h e) ≡ after_edits
+        (content_of h) (entry_edits e) }
+    ensures at { (h : History) (more : List Entry) (k : ℕ) → k ≤ end_of h → content_at
+        (grown_by h more) k ≡ content_at h k }
+    ensures after { (h : History) (count : ℕ) → content_at h (end_after h count) ≡ content_of
+        (account_after h count) }
+    ensures account { (h : History) (more : List Entry) (count : ℕ) → count ≤ length h.entries
+        → account_after (grown_by h more) count ≡ account_after h count }
+{}
+
+/// The state of a kind is a position from the kind's floor position to the end, and at most the
+/// position that it is asked at; the state at a state is that state. If a kind has the same state
+/// at two positions, its records are the same there (RFC 8620, section 5.1).
+pub fn states_tell_records()
+    ensures reached_at { (h : History) (kind : Kind) (k : ℕ) → FloorsAtMost h.floors h.floor
+        → Reaches h kind (state_at h kind k) }
+    ensures reached { (h : History) (kind : Kind) → FloorsAtMost h.floors h.floor → Reaches h kind
+        (state_of h kind) }
+    ensures most { (h : History) (kind : Kind) (k : ℕ) → FloorsAtMost h.floors h.floor → h.floor
+        ≤ k → state_at h kind k ≤ k }
+    ensures end { (h : History) (kind : Kind) → state_at h kind (end_of h) ≡ state_of h kind }
+    ensures after { (h : History) (kind : Kind) (count : ℕ) → state_at h kind (end_after h count)
+        ≡ state_of (account_after h count) kind }
+    ensures again { (h : History) (kind : Kind) (k : ℕ) → FloorsAtMost h.floors h.floor
+        → state_at h kind (state_at h kind k) ≡ state_at h kind k }
+    ensures same { (h : History) (kind : Kind) (j k : ℕ) → FloorsAtMost h.floors h.floor → j ≤ k
+        → state_at h kind j ≡ state_at h kind k → SameRecords kind (content_at h k)
+        (content_at h j) }
+{}
+
+/// The keys of a part of an order are one list: two lists that rise and have exactly the same keys
+/// of the records are equal. So a list that is shown to be in this order, with these keys, is what
+/// a content lends.
+pub fn keys_tell_lists()
+    ensures mailboxes { (test : Key → Bool) (keys : Mailbox → List Key) (rows : List Mailbox)
+        (xs ys : List Key) → AreKeys test mailbox_number keys rows xs
+        → AreKeys test mailbox_number keys rows ys → xs ≡ ys }
+    ensures emails { (test : Key → Bool) (keys : Email → List Key) (rows : List Email)
+        (xs ys : List Key) → AreKeys test email_number keys rows xs
+        → AreKeys test email_number keys rows ys → xs ≡ ys }
+{}
