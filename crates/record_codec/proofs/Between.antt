@@ -5,14 +5,14 @@ use Rattle.std.proofs.lemmas.Bool.{true≢false, cases_lt, cases_order, ltb-fals
 use Rattle.std.proofs.lemmas.List.{take_at, take-append-drop, length-take, nil_from_length}
 use Rattle.std.proofs.lemmas.Nat.{be_bytes_8, from_be_bytes-to_be_bytes_8}
 use Rattle.std.proofs.Math.Nat.{mul-le-mul_left, mul_comm, mul-suc, pow-succ'}
-use Rattle.record_codec.specs.Places.{AreBytes}
-use Rattle.record_codec.specs.Spelling.{number}
+use Rattle.record_codec.specs.Offsets.{AreBytes}
+use Rattle.record_codec.specs.Encoding.{number}
 use Rattle.record_codec.specs.Widths.{FitsIn64Bits}
-use Rattle.record_codec.specs.Awaiting.{is_outside, left_in_word}
+use Rattle.record_codec.specs.NextBytes.{is_outside, left_in_word}
 use Rattle.record_codec.specs.Reading.{Read}
 use Rattle.record_codec.specs.Readers.{number_at, is_between, number_between}
 use Rattle.record_codec.proofs.OneForm.{OneForm, number_one}
-use Rattle.record_codec.proofs.Exact.{IsInput, bytes_left, bytes_both, Stops, stops_map, stops_later, stops_here, stops_short, Spelled, Exact, ok_is, ok_no_err}
+use Rattle.record_codec.proofs.Exact.{IsInput, bytes_left, bytes_both, Stops, stops_map, stops_later, stops_here, stops_short, Encoded, Exact, ok_is, ok_no_err}
 
 -- ---- bytes by place
 byte_small : (xs : List ℕ) → AreBytes xs → (i : ℕ) → get_or xs i 0 < 256
@@ -74,7 +74,7 @@ number_exact = record {
         let w = xs ++ 0 ∷ more in
         let long : length w ≡ 8 = omega (arith, length-append xs (0 ∷ more), zeros_long (7 - length xs)) in
         let b = word_back w long (bytes_both xs (0 ∷ more) h.bytes (lit< tt, zeros_bytes (7 - length xs))) in
-        subst (λ (k : ℕ). Stops (Spelled FitsIn64Bits number) (Spelled FitsIn64Bits number) xs k) is (stops_short (Spelled FitsIn64Bits number) (Spelled FitsIn64Bits number) xs 0 more (from_be_bytes w64 w, b.1, sym b.0))
+        subst (λ (k : ℕ). Stops (Encoded FitsIn64Bits number) (Encoded FitsIn64Bits number) xs k) is (stops_short (Encoded FitsIn64Bits number) (Encoded FitsIn64Bits number) xs 0 more (from_be_bytes w64 w, b.1, sym b.0))
     | inr ge ↦ absurd (ok_no_err (from_be_bytes w64 (take 8 xs), drop 8 xs) left (rw (le-ltb (length xs) 8 ge) at e))
   ];
 }
@@ -287,7 +287,7 @@ pub record IsWithin (low high n : ℕ) : Type 0 where
 within_word : (low high n : ℕ) → high < 2 ^ 64 → IsWithin low high n → FitsIn64Bits n
 within_word low high n h i = omega (arith, h, i.upto)
 
-lies_spelled : (low high : ℕ) (w : List ℕ) → low ≤ high → high < 2 ^ 64 → Lies false false (number low) (number high) w → Spelled (IsWithin low high) number w
+lies_spelled : (low high : ℕ) (w : List ℕ) → low ≤ high → high < 2 ^ 64 → Lies false false (number low) (number high) w → Encoded (IsWithin low high) number w
 lies_spelled low high w le h i =
     let n = from_be_bytes w64 w in
     let b = word_back w (i.long ∙ number_long low) i.bytes in
@@ -295,7 +295,7 @@ lies_spelled low high w le h i =
     let high' : UpTo (number n) (number high) = rw b.0 (i.high refl) in
     (n, record { from = up_number low n (omega (arith, le, h)) b.1 low'; upto = up_number n high b.1 h high' }, sym b.0)
 
-spelled_lies : (low high : ℕ) (w : List ℕ) → low ≤ high → high < 2 ^ 64 → Spelled (IsWithin low high) number w → Lies false false (number low) (number high) w
+spelled_lies : (low high : ℕ) (w : List ℕ) → low ≤ high → high < 2 ^ 64 → Encoded (IsWithin low high) number w → Lies false false (number low) (number high) w
 spelled_lies low high w le h s =
     let word = within_word low high s.0 h s.1 in
     let i : Lies false false (number low) (number high) (number s.0) = record {
@@ -343,7 +343,7 @@ between_exact low high le h = record {
     by_found xs k n rest false t e = absurd (err_no_ok _ (n, rest) e)
 
     by_fault : (xs : List ℕ) → IsInput xs → (left : ℕ) (t : Bool) → is_between low high xs ≡ t
-        → cond t (Ok (got xs)) (failed (left_in_word false false (to_be_bytes w64 low) (to_be_bytes w64 high) xs)) ≡ Err left → Stops (Spelled (IsWithin low high) number) (Spelled (IsWithin low high) number) xs left
+        → cond t (Ok (got xs)) (failed (left_in_word false false (to_be_bytes w64 low) (to_be_bytes w64 high) xs)) ≡ Err left → Stops (Encoded (IsWithin low high) number) (Encoded (IsWithin low high) number) xs left
     by_fault xs k left true t e = absurd (ok_no_err (got xs) left e)
     by_fault xs k left false t e =
         let o : Open false false (number low) (number high) = record {
@@ -354,6 +354,6 @@ between_exact low high le h = record {
         } in
         let none : (w rest : List ℕ) → xs ≡ w ++ rest → Lies false false (number low) (number high) w → ⊥ = λ w rest f i. true≢false (sym (between_from low high xs w rest h le f i) ∙ t) in
         let s = word_stops false false (number low) (number high) xs k.bytes o none in
-        let m = stops_map (Lies false false (number low) (number high)) (Lies false false (number low) (number high)) (Spelled (IsWithin low high) number) (Spelled (IsWithin low high) number) xs
+        let m = stops_map (Lies false false (number low) (number high)) (Lies false false (number low) (number high)) (Encoded (IsWithin low high) number) (Encoded (IsWithin low high) number) xs
         (left_in_word false false (number low) (number high) xs) (λ w i. lies_spelled low high w le h i) (λ w i. spelled_lies low high w le h i) s in
-        subst (λ (n : ℕ). Stops (Spelled (IsWithin low high) number) (Spelled (IsWithin low high) number) xs n) (err_is _ left e) m
+        subst (λ (n : ℕ). Stops (Encoded (IsWithin low high) number) (Encoded (IsWithin low high) number) xs n) (err_is _ left e) m

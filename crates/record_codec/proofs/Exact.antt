@@ -1,7 +1,7 @@
--- Readers that are exact: what they read is spelled so, and where they stop no spelling goes on.
+-- Readers that are exact: what they read is encoded so, and where they stop no encoding goes on.
 use Rattle.std.proofs.Common.{◌≡◌, ℕ, suc, ◌^◌, ◌<◌, List, [], ◌∷◌, ◌++◌, length, Result, Ok, Err, refl, sym, ap, ap₂, subst, ◌∙◌, ◌⊎◌, inl, inr, append_assoc, length-append, arith}
 use Rattle.std.proofs.lemmas.List.{append-nil}
-use Rattle.record_codec.specs.Places.{AreBytes}
+use Rattle.record_codec.specs.Offsets.{AreBytes}
 use Rattle.record_codec.specs.Reading.{Read, ◌>>=◌, then, both, made}
 use Rattle.record_codec.proofs.OneForm.{OneForm, first}
 
@@ -99,12 +99,12 @@ stops_short B L xs b rest begun = record {
     nothing : (d : ℕ) (more : List ℕ) → [] ≡ d ∷ more → ⊥
     nothing d more e = cc
 
-abbrev pub Spelled : {A : Type 0} → (A → Type 0) → (A → List ℕ) → List ℕ → Type 0
-Spelled {A} P spell w = (a : A) × P a × (w ≡ spell a)
+abbrev pub Encoded : {A : Type 0} → (A → Type 0) → (A → List ℕ) → List ℕ → Type 0
+Encoded {A} P encode w = (a : A) × P a × (w ≡ encode a)
 
-pub record Exact {A : Type 0} (P : A → Type 0) (spell : A → List ℕ) (read : List ℕ → Read A) : Type 0 where
-  pub found : (xs : List ℕ) → IsInput xs → (a : A) (rest : List ℕ) → read xs ≡ Ok (a, rest) → P a × (xs ≡ spell a ++ rest)
-  pub fault : (xs : List ℕ) → IsInput xs → (left : ℕ) → read xs ≡ Err left → Stops (Spelled P spell) (Spelled P spell) xs left
+pub record Exact {A : Type 0} (P : A → Type 0) (encode : A → List ℕ) (read : List ℕ → Read A) : Type 0 where
+  pub found : (xs : List ℕ) → IsInput xs → (a : A) (rest : List ℕ) → read xs ≡ Ok (a, rest) → P a × (xs ≡ encode a ++ rest)
+  pub fault : (xs : List ℕ) → IsInput xs → (left : ℕ) → read xs ≡ Err left → Stops (Encoded P encode) (Encoded P encode) xs left
 
 -- ---- steps that did or did not fail
 pub bind_ok : {A B : Type 0} (r : Result A ℕ) (f : A → Result B ℕ) (y : B) → (r >>= f) ≡ Ok y → (x : A) × (r ≡ Ok x) × (f x ≡ Ok y)
@@ -147,15 +147,15 @@ nothing_more : (z rest : List ℕ) (b : ℕ) → z ++ b ∷ rest ≡ [] → ⊥
 nothing_more [] rest b e = cc
 nothing_more (c ∷ z) rest b e = cc
 
-module _ {A B : Type 0} (P : A → Type 0) (spell : A → List ℕ) (read : List ℕ → Read A) (Q : A → B → Type 0) (spell' : A → B → List ℕ) (read' : A → List ℕ → Read B)
-    (one : OneForm P spell) where
+module _ {A B : Type 0} (P : A → Type 0) (encode : A → List ℕ) (read : List ℕ → Read A) (Q : A → B → Type 0) (encode' : A → B → List ℕ) (read' : A → List ℕ → Read B)
+    (one : OneForm P encode) where
   abbrev Both : A × B → Type 0
   Both p = P p.0 × Q p.0 p.1
 
   abbrev spell_both : A × B → List ℕ
-  spell_both p = spell p.0 ++ spell' p.0 p.1
+  spell_both p = encode p.0 ++ encode' p.0 p.1
 
-  stops_first : (xs : List ℕ) (left : ℕ) → ((a : A) → P a → (b : B) × Q a b) → Stops (Spelled P spell) (Spelled P spell) xs left → Stops (Spelled Both spell_both) (Spelled Both spell_both) xs left
+  stops_first : (xs : List ℕ) (left : ℕ) → ((a : A) → P a → (b : B) × Q a b) → Stops (Encoded P encode) (Encoded P encode) xs left → Stops (Encoded Both spell_both) (Encoded Both spell_both) xs left
   stops_first xs left some s =
       let a = s.begins.0 in
       let other = some a s.begins.1 in
@@ -165,44 +165,44 @@ module _ {A B : Type 0} (P : A → Type 0) (spell : A → List ℕ) (read : List
         parts = s.parts;
         left_is = s.left_is;
         byte = s.byte;
-        rest = s.rest ++ spell' a other.0;
-        begins = ((a, other.0), (s.begins.1, other.1), sym (append_assoc s.front (s.byte ∷ s.rest) (spell' a other.0)) ∙ ap (λ (w : List ℕ). w ++ spell' a other.0) s.begins.2);
-        ends = λ b more ys e l. elim (cut_at s.front (spell l.0.0) (spell' l.0.0 l.0.1) ys b l.2) [
+        rest = s.rest ++ encode' a other.0;
+        begins = ((a, other.0), (s.begins.1, other.1), sym (append_assoc s.front (s.byte ∷ s.rest) (encode' a other.0)) ∙ ap (λ (w : List ℕ). w ++ encode' a other.0) s.begins.2);
+        ends = λ b more ys e l. elim (cut_at s.front (encode l.0.0) (encode' l.0.0 l.0.1) ys b l.2) [
           | inl t ↦ s.ends b more t.0 e (l.0.0, l.1.0, sym t.1)
           | inr t ↦
-              let whole : spell l.0.0 ++ (t.0 ++ s.byte ∷ s.rest) ≡ spell a ++ [] = sym (append_assoc (spell l.0.0) t.0 (s.byte ∷ s.rest)) ∙ ap (λ (w : List ℕ). w ++ s.byte ∷ s.rest) (sym t.1) ∙ s.begins.2 ∙ sym (append-nil (spell a)) in
+              let whole : encode l.0.0 ++ (t.0 ++ s.byte ∷ s.rest) ≡ encode a ++ [] = sym (append_assoc (encode l.0.0) t.0 (s.byte ∷ s.rest)) ∙ ap (λ (w : List ℕ). w ++ s.byte ∷ s.rest) (sym t.1) ∙ s.begins.2 ∙ sym (append-nil (encode a)) in
               nothing_more t.0 s.rest s.byte (one l.0.0 a (t.0 ++ s.byte ∷ s.rest) [] l.1.0 s.begins.1 whole).1
         ];
       }
 
-  stops_second : (xs : List ℕ) (left : ℕ) (a : A) (rest : List ℕ) → P a → xs ≡ spell a ++ rest → Stops (Spelled (Q a) (spell' a)) (Spelled (Q a) (spell' a)) rest left → Stops (Spelled Both spell_both) (Spelled Both spell_both) xs left
+  stops_second : (xs : List ℕ) (left : ℕ) (a : A) (rest : List ℕ) → P a → xs ≡ encode a ++ rest → Stops (Encoded (Q a) (encode' a)) (Encoded (Q a) (encode' a)) rest left → Stops (Encoded Both spell_both) (Encoded Both spell_both) xs left
   stops_second xs left a rest p e s = record {
-    front = spell a ++ s.front;
+    front = encode a ++ s.front;
     back = s.back;
-    parts = e ∙ ap (λ (w : List ℕ). spell a ++ w) s.parts ∙ sym (append_assoc (spell a) s.front s.back);
+    parts = e ∙ ap (λ (w : List ℕ). encode a ++ w) s.parts ∙ sym (append_assoc (encode a) s.front s.back);
     left_is = s.left_is;
     byte = s.byte;
     rest = s.rest;
-    begins = ((a, s.begins.0), (p, s.begins.1), append_assoc (spell a) s.front (s.byte ∷ s.rest) ∙ ap (λ (w : List ℕ). spell a ++ w) s.begins.2);
+    begins = ((a, s.begins.0), (p, s.begins.1), append_assoc (encode a) s.front (s.byte ∷ s.rest) ∙ ap (λ (w : List ℕ). encode a ++ w) s.begins.2);
     ends = λ b more ys f l.
-        let o = one a l.0.0 (s.front ++ b ∷ ys) (spell' l.0.0 l.0.1) p l.1.0 (sym (append_assoc (spell a) s.front (b ∷ ys)) ∙ l.2) in
-        s.ends b more ys f (l.0.1, subst (λ (c : A). Q c l.0.1) (sym o.0) l.1.1, o.1 ∙ ap (λ (c : A). spell' c l.0.1) (sym o.0));
+        let o = one a l.0.0 (s.front ++ b ∷ ys) (encode' l.0.0 l.0.1) p l.1.0 (sym (append_assoc (encode a) s.front (b ∷ ys)) ∙ l.2) in
+        s.ends b more ys f (l.0.1, subst (λ (c : A). Q c l.0.1) (sym o.0) l.1.1, o.1 ∙ ap (λ (c : A). encode' c l.0.1) (sym o.0));
   }
 
-  pub then_one : ((a : A) → P a → OneForm (Q a) (spell' a)) → OneForm Both spell_both
+  pub then_one : ((a : A) → P a → OneForm (Q a) (encode' a)) → OneForm Both spell_both
   then_one two p q x y hp hq e =
-      let f = first P spell one p.0 q.0 (spell' p.0 p.1) (spell' q.0 q.1) x y hp.0 hq.0 e in
-      let g = two p.0 hp.0 p.1 q.1 x y hp.1 (subst (λ (c : A). Q c q.1) (sym f.0) hq.1) (f.1 ∙ ap (λ (c : A). spell' c q.1 ++ y) (sym f.0)) in
+      let f = first P encode one p.0 q.0 (encode' p.0 p.1) (encode' q.0 q.1) x y hp.0 hq.0 e in
+      let g = two p.0 hp.0 p.1 q.1 x y hp.1 (subst (λ (c : A). Q c q.1) (sym f.0) hq.1) (f.1 ∙ ap (λ (c : A). encode' c q.1 ++ y) (sym f.0)) in
       (λ i. (f.0 i, g.0 i), g.1)
 
-  pub then_exact : Exact P spell read → ((a : A) → P a → (b : B) × Q a b) → ((a : A) → P a → length (spell a) < 2 ^ 63 → Exact (Q a) (spell' a) (read' a)) → Exact Both spell_both (then read read')
+  pub then_exact : Exact P encode read → ((a : A) → P a → (b : B) × Q a b) → ((a : A) → P a → length (encode a) < 2 ^ 63 → Exact (Q a) (encode' a) (read' a)) → Exact Both spell_both (then read read')
   then_exact f some g = record {
     found = λ xs h p rest e.
         let b1 = bind_ok (read xs) (λ a. read' a.0 a.1 >>= λ b. Ok ((a.0, b.0), b.1)) (p, rest) e in
         let t1 = f.found xs h b1.0.0 b1.0.1 b1.1 in
         let b2 = bind_ok (read' b1.0.0 b1.0.1) (λ b. Ok ((b1.0.0, b.0), b.1)) (p, rest) b1.2 in
-        let t2 = (g b1.0.0 t1.0 (front_short xs (spell b1.0.0) b1.0.1 h t1.1)).found b1.0.1 (rest_input xs (spell b1.0.0) b1.0.1 h t1.1) b2.0.0 b2.0.1 b2.1 in
-        let whole : xs ≡ (spell b1.0.0 ++ spell' b1.0.0 b2.0.0) ++ b2.0.1 = t1.1 ∙ ap (λ (w : List ℕ). spell b1.0.0 ++ w) t2.1 ∙ sym (append_assoc (spell b1.0.0) (spell' b1.0.0 b2.0.0) b2.0.1) in
+        let t2 = (g b1.0.0 t1.0 (front_short xs (encode b1.0.0) b1.0.1 h t1.1)).found b1.0.1 (rest_input xs (encode b1.0.0) b1.0.1 h t1.1) b2.0.0 b2.0.1 b2.1 in
+        let whole : xs ≡ (encode b1.0.0 ++ encode' b1.0.0 b2.0.0) ++ b2.0.1 = t1.1 ∙ ap (λ (w : List ℕ). encode b1.0.0 ++ w) t2.1 ∙ sym (append_assoc (encode b1.0.0) (encode' b1.0.0 b2.0.0) b2.0.1) in
         let all : (A × B) × List ℕ = ((b1.0.0, b2.0.0), b2.0.1) in
         subst (λ (r : (A × B) × List ℕ). Both r.0 × (xs ≡ spell_both r.0 ++ r.1)) (ok_is all (p, rest) b2.2) ((t1.0, t2.0), whole);
     fault = λ xs h left e.
@@ -210,65 +210,65 @@ module _ {A B : Type 0} (P : A → Type 0) (spell : A → List ℕ) (read : List
           | inl e1 ↦ stops_first xs left some (f.fault xs h left e1)
           | inr b1 ↦
               let t1 = f.found xs h b1.0.0 b1.0.1 b1.1 in
-              let g1 = g b1.0.0 t1.0 (front_short xs (spell b1.0.0) b1.0.1 h t1.1) in
+              let g1 = g b1.0.0 t1.0 (front_short xs (encode b1.0.0) b1.0.1 h t1.1) in
               elim (bind_err (read' b1.0.0 b1.0.1) (λ b. Ok ((b1.0.0, b.0), b.1)) left b1.2) [
-                | inl e2 ↦ stops_second xs left b1.0.0 b1.0.1 t1.0 t1.1 (g1.fault b1.0.1 (rest_input xs (spell b1.0.0) b1.0.1 h t1.1) left e2)
+                | inl e2 ↦ stops_second xs left b1.0.0 b1.0.1 t1.0 t1.1 (g1.fault b1.0.1 (rest_input xs (encode b1.0.0) b1.0.1 h t1.1) left e2)
                 | inr b2 ↦ absurd (ok_no_err ((b1.0.0, b2.0.0), b2.0.1) left b2.2)
               ]
         ];
   }
 
 -- ---- a value that is made of another
-module _ {A B : Type 0} (P : A → Type 0) (spell : A → List ℕ) (read : List ℕ → Read A) (Q : B → Type 0) (spell' : B → List ℕ) (make : A → B)
-    (to : (a : A) → P a → Q (make a) × (spell' (make a) ≡ spell a)) (from : (b : B) → Q b → (a : A) × P a × (make a ≡ b)) where
-  spelled_to : (w : List ℕ) → Spelled P spell w → Spelled Q spell' w
+module _ {A B : Type 0} (P : A → Type 0) (encode : A → List ℕ) (read : List ℕ → Read A) (Q : B → Type 0) (encode' : B → List ℕ) (make : A → B)
+    (to : (a : A) → P a → Q (make a) × (encode' (make a) ≡ encode a)) (from : (b : B) → Q b → (a : A) × P a × (make a ≡ b)) where
+  spelled_to : (w : List ℕ) → Encoded P encode w → Encoded Q encode' w
   spelled_to w s = let t = to s.0 s.1 in (make s.0, t.0, s.2 ∙ sym t.1)
 
-  spelled_from : (w : List ℕ) → Spelled Q spell' w → Spelled P spell w
-  spelled_from w s = let f = from s.0 s.1 in (f.0, f.1, s.2 ∙ ap spell' (sym f.2) ∙ (to f.0 f.1).1)
+  spelled_from : (w : List ℕ) → Encoded Q encode' w → Encoded P encode w
+  spelled_from w s = let f = from s.0 s.1 in (f.0, f.1, s.2 ∙ ap encode' (sym f.2) ∙ (to f.0 f.1).1)
 
-  pub made_one : OneForm P spell → OneForm Q spell'
+  pub made_one : OneForm P encode → OneForm Q encode'
   made_one one b c x y p q e =
       let f = from b p in
       let g = from c q in
-      let left : spell f.0 ++ x ≡ spell' b ++ x = ap (λ (w : List ℕ). w ++ x) (sym (to f.0 f.1).1 ∙ ap spell' f.2) in
-      let right : spell' c ++ y ≡ spell g.0 ++ y = ap (λ (w : List ℕ). w ++ y) (ap spell' (sym g.2) ∙ (to g.0 g.1).1) in
+      let left : encode f.0 ++ x ≡ encode' b ++ x = ap (λ (w : List ℕ). w ++ x) (sym (to f.0 f.1).1 ∙ ap encode' f.2) in
+      let right : encode' c ++ y ≡ encode g.0 ++ y = ap (λ (w : List ℕ). w ++ y) (ap encode' (sym g.2) ∙ (to g.0 g.1).1) in
       let o = one f.0 g.0 x y f.1 g.1 (left ∙ e ∙ right) in
       (sym f.2 ∙ ap make o.0 ∙ g.2, o.1)
 
-  pub made_exact : Exact P spell read → Exact Q spell' (made make read)
+  pub made_exact : Exact P encode read → Exact Q encode' (made make read)
   made_exact f = record {
     found = λ xs h b rest e.
         let b1 = bind_ok (read xs) (λ a. Ok (make a.0, a.1)) (b, rest) e in
         let t1 = f.found xs h b1.0.0 b1.0.1 b1.1 in
         let t = to b1.0.0 t1.0 in
         let all : B × List ℕ = (make b1.0.0, b1.0.1) in
-        subst (λ (r : B × List ℕ). Q r.0 × (xs ≡ spell' r.0 ++ r.1)) (ok_is all (b, rest) b1.2) (t.0, t1.1 ∙ ap (λ (w : List ℕ). w ++ b1.0.1) (sym t.1));
+        subst (λ (r : B × List ℕ). Q r.0 × (xs ≡ encode' r.0 ++ r.1)) (ok_is all (b, rest) b1.2) (t.0, t1.1 ∙ ap (λ (w : List ℕ). w ++ b1.0.1) (sym t.1));
     fault = λ xs h left e.
         elim (bind_err (read xs) (λ a. Ok (make a.0, a.1)) left e) [
-          | inl e1 ↦ stops_map (Spelled P spell) (Spelled P spell) (Spelled Q spell') (Spelled Q spell') xs left spelled_to spelled_from (f.fault xs h left e1)
+          | inl e1 ↦ stops_map (Encoded P encode) (Encoded P encode) (Encoded Q encode') (Encoded Q encode') xs left spelled_to spelled_from (f.fault xs h left e1)
           | inr b1 ↦ absurd (ok_no_err (make b1.0.0, b1.0.1) left b1.2)
         ];
   }
 
--- ---- fields that are alone: no spelling begins another, there is one, and its reader is exact
-pub record Field {A : Type 0} (P : A → Type 0) (spell : A → List ℕ) (read : List ℕ → Read A) : Type 0 where
-  pub one : OneForm P spell
+-- ---- fields that are alone: no encoding begins another, there is one, and its reader is exact
+pub record Field {A : Type 0} (P : A → Type 0) (encode : A → List ℕ) (read : List ℕ → Read A) : Type 0 where
+  pub one : OneForm P encode
   pub some : (a : A) × P a
-  pub exact : Exact P spell read
+  pub exact : Exact P encode read
 
-pub both_field : {A B : Type 0} (P : A → Type 0) (spell : A → List ℕ) (read : List ℕ → Read A) (Q : B → Type 0) (spell' : B → List ℕ) (read' : List ℕ → Read B)
-    → Field P spell read → Field Q spell' read' → Field (λ (p : A × B). P p.0 × Q p.1) (λ p. spell p.0 ++ spell' p.1) (both read read')
-both_field P spell read Q spell' read' f g = record {
-  one = then_one P spell read (λ _. Q) (λ _. spell') (λ _. read') f.one (λ a p. g.one);
+pub both_field : {A B : Type 0} (P : A → Type 0) (encode : A → List ℕ) (read : List ℕ → Read A) (Q : B → Type 0) (encode' : B → List ℕ) (read' : List ℕ → Read B)
+    → Field P encode read → Field Q encode' read' → Field (λ (p : A × B). P p.0 × Q p.1) (λ p. encode p.0 ++ encode' p.1) (both read read')
+both_field P encode read Q encode' read' f g = record {
+  one = then_one P encode read (λ _. Q) (λ _. encode') (λ _. read') f.one (λ a p. g.one);
   some = ((f.some.0, g.some.0), (f.some.1, g.some.1));
-  exact = then_exact P spell read (λ _. Q) (λ _. spell') (λ _. read') f.one f.exact (λ a p. g.some) (λ a p short. g.exact);
+  exact = then_exact P encode read (λ _. Q) (λ _. encode') (λ _. read') f.one f.exact (λ a p. g.some) (λ a p short. g.exact);
 }
 
-pub made_field : {A B : Type 0} (P : A → Type 0) (spell : A → List ℕ) (read : List ℕ → Read A) (Q : B → Type 0) (spell' : B → List ℕ) (make : A → B)
-    → ((a : A) → P a → Q (make a) × (spell' (make a) ≡ spell a)) → ((b : B) → Q b → (a : A) × P a × (make a ≡ b)) → Field P spell read → Field Q spell' (made make read)
-made_field P spell read Q spell' make to from f = record {
-  one = made_one P spell read Q spell' make to from f.one;
+pub made_field : {A B : Type 0} (P : A → Type 0) (encode : A → List ℕ) (read : List ℕ → Read A) (Q : B → Type 0) (encode' : B → List ℕ) (make : A → B)
+    → ((a : A) → P a → Q (make a) × (encode' (make a) ≡ encode a)) → ((b : B) → Q b → (a : A) × P a × (make a ≡ b)) → Field P encode read → Field Q encode' (made make read)
+made_field P encode read Q encode' make to from f = record {
+  one = made_one P encode read Q encode' make to from f.one;
   some = (make f.some.0, (to f.some.0 f.some.1).0);
-  exact = made_exact P spell read Q spell' make to from f.exact;
+  exact = made_exact P encode read Q encode' make to from f.exact;
 }

@@ -6,14 +6,14 @@ use Rattle.std.proofs.lemmas.Int.{ints}
 use Rattle.std.proofs.lemmas.Bool.{true≢false, cases_lt, cases_eq, or_parts, eqb-false, ltb-false, lt-ltb, le-ltb, le-leb, lt-leb, ne_eqb}
 use Rattle.std.proofs.lemmas.List.{take-append-drop, length-take}
 use Rattle.jm_base.specs.declared.identifiers.UtcDate.{UtcDate}
-use Rattle.jm_base.specs.Moments.{IsMoment}
-use Rattle.record_codec.specs.Places.{AreBytes}
-use Rattle.record_codec.specs.Spelling.{number, blob, truth, optional, since_year_one, date}
+use Rattle.jm_base.specs.UtcDates.{IsUtcDate}
+use Rattle.record_codec.specs.Offsets.{AreBytes}
+use Rattle.record_codec.specs.Encoding.{number, blob, truth, optional, since_year_one, date}
 use Rattle.record_codec.specs.Widths.{FitsIn64Bits, LengthFitsIn64Bits}
 use Rattle.record_codec.specs.Reading.{Read, then}
 use Rattle.record_codec.specs.Readers.{number_at, number_between, truth_at, optional_at, tag_at, date_from, date_at, bytes_at, blob_at}
 use Rattle.record_codec.proofs.OneForm.{OneForm, number_one, blob_one, truth_one, optional_one}
-use Rattle.record_codec.proofs.Exact.{IsInput, bytes_left, bytes_both, Stops, stops_later, stops_here, stops_short, Spelled, Exact, Field, ok_is, ok_no_err, bind_ok, bind_err, then_exact, made_exact, made_field}
+use Rattle.record_codec.proofs.Exact.{IsInput, bytes_left, bytes_both, Stops, stops_later, stops_here, stops_short, Encoded, Exact, Field, ok_is, ok_no_err, bind_ok, bind_err, then_exact, made_exact, made_field}
 use Rattle.record_codec.proofs.Items.{exact_same, second_of}
 use Rattle.record_codec.proofs.Between.{IsWithin, number_exact, between_exact, between_one, zeros, zeros_long, zeros_bytes}
 
@@ -53,8 +53,8 @@ bytes_exact n = record {
         let is : 0 ≡ left = failed_is {A = List ℕ} 0 left (rw (lt-leb n (length xs) lt) at e) in
         let more = zeros (n - length xs - 1) in
         let long : length (xs ++ 0 ∷ more) ≡ n = omega (arith, length-append xs (0 ∷ more), zeros_long (n - length xs - 1), lt) in
-        subst (λ (k : ℕ). Stops (Spelled (Of_length n) itself) (Spelled (Of_length n) itself) xs k) is
-        (stops_short (Spelled (Of_length n) itself) (Spelled (Of_length n) itself) xs 0 more (xs ++ 0 ∷ more, (long, bytes_both xs (0 ∷ more) h.bytes (lit< tt, zeros_bytes (n - length xs - 1))), refl))
+        subst (λ (k : ℕ). Stops (Encoded (Of_length n) itself) (Encoded (Of_length n) itself) xs k) is
+        (stops_short (Encoded (Of_length n) itself) (Encoded (Of_length n) itself) xs 0 more (xs ++ 0 ∷ more, (long, bytes_both xs (0 ∷ more) h.bytes (lit< tt, zeros_bytes (n - length xs - 1))), refl))
     | inr ge ↦ absurd (ok_no_err (cut n xs) left (rw (le-leb n (length xs) ge) at e))
   ];
 }
@@ -78,7 +78,7 @@ abbrev pub IsTruth : Bool → Type 0
 IsTruth b = Unit {0}
 
 abbrev Truths : List ℕ → Type 0
-Truths = Spelled IsTruth truth
+Truths = Encoded IsTruth truth
 
 truth_no : (b : ℕ) (ys : List ℕ) → Truths (suc (suc b) ∷ ys) → ⊥
 truth_no b ys (true, p, e) = two_no b ys [] e
@@ -110,12 +110,12 @@ truth_field = record { one = λ a b x y p q e. truth_one a b x y e; some = (fals
 rest_one : (c : ℕ) (xs : List ℕ) → IsInput (c ∷ xs) → IsInput xs
 rest_one c xs h = record { bytes = h.bytes.1; short = let s = h.short in omega (arith, s) }
 
-module _ {A : Type 0} (P : A → Type 0) (spell : A → List ℕ) (read : List ℕ → Read A) (f : Field P spell read) where
+module _ {A : Type 0} (P : A → Type 0) (encode : A → List ℕ) (read : List ℕ → Read A) (f : Field P encode read) where
   abbrev IsOptional : Option A → Type 0
   IsOptional o = ForSome o P
 
   abbrev Options : List ℕ → Type 0
-  Options = Spelled IsOptional (optional spell)
+  Options = Encoded IsOptional (optional encode)
 
   none_has : IsOptional None
   none_has x e = absurd cc
@@ -126,10 +126,10 @@ module _ {A : Type 0} (P : A → Type 0) (spell : A → List ℕ) (read : List �
   nothing : Options (0 ∷ [])
   nothing = (None, none_has, refl)
 
-  something : (w : List ℕ) → Spelled P spell w → Options (1 ∷ w)
+  something : (w : List ℕ) → Encoded P encode w → Options (1 ∷ w)
   something w s = (Some s.0, some_has s.0 s.1, ap (λ (q : List ℕ). 1 ∷ q) s.2)
 
-  back : (w : List ℕ) → Options (1 ∷ w) → Spelled P spell w
+  back : (w : List ℕ) → Options (1 ∷ w) → Encoded P encode w
   back w (None, p, e) = absurd cc
   back w (Some a, p, e) = (a, p a refl, cc)
 
@@ -137,30 +137,30 @@ module _ {A : Type 0} (P : A → Type 0) (spell : A → List ℕ) (read : List �
   option_no b ys (None, p, e) = let h : suc (suc b) ≡ 0 = cc in omega (arith, h)
   option_no b ys (Some a, p, e) = let h : suc (suc b) ≡ 1 = cc in omega (arith, h)
 
-  optional_found : (xs : List ℕ) → IsInput xs → (o : Option A) (rest : List ℕ) → optional_at read xs ≡ Ok (o, rest) → IsOptional o × (xs ≡ optional spell o ++ rest)
+  optional_found : (xs : List ℕ) → IsInput xs → (o : Option A) (rest : List ℕ) → optional_at read xs ≡ Ok (o, rest) → IsOptional o × (xs ≡ optional encode o ++ rest)
   optional_found [] h o rest e = absurd (failed_no 0 (o, rest) e)
   optional_found (zero ∷ xs) h o rest e =
       let got : Option A × List ℕ = (None, xs) in
-      subst (λ (r : Option A × List ℕ). IsOptional r.0 × (0 ∷ xs ≡ optional spell r.0 ++ r.1)) (ok_is got (o, rest) e) (none_has, refl)
+      subst (λ (r : Option A × List ℕ). IsOptional r.0 × (0 ∷ xs ≡ optional encode r.0 ++ r.1)) (ok_is got (o, rest) e) (none_has, refl)
   optional_found (suc zero ∷ xs) h o rest e =
       let b = bind_ok (read xs) (λ a. Ok (Some a.0, a.1)) (o, rest) e in
       let t = f.exact.found xs (rest_one 1 xs h) b.0.0 b.0.1 b.1 in
       let got : Option A × List ℕ = (Some b.0.0, b.0.1) in
-      subst (λ (r : Option A × List ℕ). IsOptional r.0 × (1 ∷ xs ≡ optional spell r.0 ++ r.1)) (ok_is got (o, rest) b.2) (some_has b.0.0 t.0, ap (λ (q : List ℕ). 1 ∷ q) t.1)
+      subst (λ (r : Option A × List ℕ). IsOptional r.0 × (1 ∷ xs ≡ optional encode r.0 ++ r.1)) (ok_is got (o, rest) b.2) (some_has b.0.0 t.0, ap (λ (q : List ℕ). 1 ∷ q) t.1)
   optional_found (suc (suc c) ∷ xs) h o rest e = absurd (failed_no (suc (length xs)) (o, rest) e)
 
   optional_fault : (xs : List ℕ) → IsInput xs → (left : ℕ) → optional_at read xs ≡ Err left → Stops Options Options xs left
   optional_fault [] h left e = subst (λ (k : ℕ). Stops Options Options [] k) (failed_is {A = Option A} 0 left e) (stops_short Options Options [] 0 [] nothing)
   optional_fault (zero ∷ xs) h left e = absurd (ok_no_err (None, xs) left e)
   optional_fault (suc zero ∷ xs) h left e = elim (bind_err (read xs) (λ a. Ok (Some a.0, a.1)) left e) [
-    | inl e1 ↦ stops_later (Spelled P spell) (Spelled P spell) Options Options 1 xs left something back (f.exact.fault xs (rest_one 1 xs h) left e1)
+    | inl e1 ↦ stops_later (Encoded P encode) (Encoded P encode) Options Options 1 xs left something back (f.exact.fault xs (rest_one 1 xs h) left e1)
     | inr b ↦ absurd (ok_no_err (Some b.0.0, b.0.1) left b.2)
   ]
   optional_fault (suc (suc c) ∷ xs) h left e =
       subst (λ (k : ℕ). Stops Options Options (suc (suc c) ∷ xs) k) (failed_is {A = Option A} (suc (length xs)) left e) (stops_here Options Options (suc (suc c)) xs 0 [] nothing (option_no c))
 
-  pub optional_field : Field IsOptional (optional spell) (optional_at read)
-  optional_field = record { one = optional_one P spell f.one; some = (None, none_has); exact = record { found = optional_found; fault = optional_fault } }
+  pub optional_field : Field IsOptional (optional encode) (optional_at read)
+  optional_field = record { one = optional_one P encode f.one; some = (None, none_has); exact = record { found = optional_found; fault = optional_fault } }
 
 -- ---- dates
 date_early : (n : ℕ) → n < 62135596800 → (date_from n).seconds ≡ negsuc (62135596800 - suc n)
@@ -184,7 +184,7 @@ dated n h = elim (cases_lt n 62135596800) [
   | inr ge ↦ subst (Dated n) (sym (date_late n ge)) (moment_late (n - 62135596800) (omega arith), omega arith)
 ]
 
-date_to : (n : ℕ) → IsWithin 0 315537897599 n → IsMoment (date_from n) × (date (date_from n) ≡ number n)
+date_to : (n : ℕ) → IsWithin 0 315537897599 n → IsUtcDate (date_from n) × (date (date_from n) ≡ number n)
 date_to n p = let d = dated n p.upto in (record { not_before = d.0.0; not_after = d.0.1 }, ap number d.1)
 
 seconds_back : (z : ℤ) → negsuc 62135596799 ≤ℤ z → z ≤ℤ pos 253402300799 → (since_year_one z ≤ 315537897599) × ((date_from (since_year_one z)).seconds ≡ z)
@@ -195,11 +195,11 @@ seconds_back (negsuc m) low high =
     let below : m ≤ 62135596799 = leb_yes low.le in
     (omega arith, date_early (62135596799 - m) (omega arith) ∙ ap negsuc (omega arith))
 
-date_back : (d : UtcDate) → IsMoment d → (n : ℕ) × IsWithin 0 315537897599 n × (date_from n ≡ d)
+date_back : (d : UtcDate) → IsUtcDate d → (n : ℕ) × IsWithin 0 315537897599 n × (date_from n ≡ d)
 date_back d m = let b = seconds_back d.seconds m.not_before m.not_after in (since_year_one d.seconds, record { from = omega arith; upto = b.0 }, λ i. record { seconds = b.1 i })
 
-pub date_field : Field IsMoment date date_at
-date_field = made_field (IsWithin 0 315537897599) number (number_between 0 315537897599) IsMoment date date_from date_to date_back
+pub date_field : Field IsUtcDate date date_at
+date_field = made_field (IsWithin 0 315537897599) number (number_between 0 315537897599) IsUtcDate date date_from date_to date_back
     (record { one = between_one 0 315537897599 (lit< tt); some = (0, record { from = lit≤ tt; upto = lit≤ tt }); exact = between_exact 0 315537897599 (lit≤ tt) (lit< tt) })
 
 -- ---- tags
@@ -222,7 +222,7 @@ right_tag : (last b : ℕ) → IsTag last b → is_wrong last b ≡ false
 right_tag last b h = rw (ne_eqb b 0 (λ z. omega (arith, z, h.0)), le-ltb last b h.1) refl
 
 abbrev Tags : ℕ → List ℕ → Type 0
-Tags last = Spelled (IsTag last) tag
+Tags last = Encoded (IsTag last) tag
 
 tag_found : (last b : ℕ) (xs : List ℕ) (t : ℕ) (rest : List ℕ) (wrong : Bool) → is_wrong last b ≡ wrong → cond wrong (failed (suc (length xs))) (Ok (b, xs)) ≡ Ok (t, rest) → IsTag last t × (b ∷ xs ≡ tag t ++ rest)
 tag_found last b xs t rest true w e = absurd (failed_no (suc (length xs)) (t, rest) e)

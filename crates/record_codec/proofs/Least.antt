@@ -1,8 +1,8 @@
 -- The least length of a greater text is the one from which on there are greater ones.
 use Rattle.std.proofs.Common.{◌≡◌, ℕ, zero, suc, ◌+◌, ◌<◌, ◌≤◌, true, ltb, leb, List, [], ◌∷◌, Option, None, Some, refl, sym, ◌∙◌, ◌⊎◌, inl, inr, arith, lit<}
 use Rattle.std.proofs.lemmas.Bool.{cases_lt, cases_eq, ltb-true, lt-ltb, le-ltb, leb-true, le-leb, eq-eqb, ne_eqb, and_parts}
-use Rattle.record_codec.specs.declared.characters.Follow.{Follow}
-use Rattle.record_codec.specs.Awaiting.{after_byte, top_lead, can_rise, turns, rise_cost, less_of, least_length}
+use Rattle.record_codec.specs.declared.utf8.CharacterRest.{CharacterRest}
+use Rattle.record_codec.specs.NextBytes.{after_byte, top_lead, can_rise, turns, rise_cost, less_of, least_length}
 use Rattle.record_codec.proofs.Loops.{less_suc, less_bound, least_bound}
 use Rattle.record_codec.proofs.Utf.{Accepts}
 use Rattle.record_codec.proofs.Turning.{turn_here, turn_later, turn_splits, least_top, two_top, three_top, top_one, top_two, top_three, top_four}
@@ -23,7 +23,7 @@ data Cost (x c : ℕ) : Type 0 where
   four : 239 ≤ x → x < 244 → c ≡ 4 → Cost x c
   none : 244 ≤ x → c ≡ 0 → Cost x c
 
-cost_of : (f : Follow) (x : ℕ) → f.more ≡ 0 → Cost x (rise_cost f x)
+cost_of : (f : CharacterRest) (x : ℕ) → f.more ≡ 0 → Cost x (rise_cost f x)
 cost_of f x z = elim (cases_lt x 127) [
   | inl a ↦ one a (rw (eq-eqb f.more 0 z, lt-ltb x 127 a) refl)
   | inr a ↦ elim (cases_lt x 223) [
@@ -52,7 +52,7 @@ cost_down x c r (three a b e) h = (λ z. omega (arith, e, z), elim (cases_lt 2 (
 cost_down x c r (four a b e) h = (λ z. omega (arith, e, z), elim (cases_lt 3 (suc r)) [ inl lt ↦ omega (arith, e, lt) | inr le ↦ absurd (omega (arith, h, a, top_upto_three (suc r) le)) ])
 cost_down x c r (none a e) h = absurd (omega (arith, h, a, top_upto (suc r)))
 
-cost_rises : (f : Follow) (x r : ℕ) → ¬ (rise_cost f x ≡ 0) → rise_cost f x ≤ suc r → can_rise f (suc r) x ≡ true
+cost_rises : (f : CharacterRest) (x r : ℕ) → ¬ (rise_cost f x ≡ 0) → rise_cost f x ≤ suc r → can_rise f (suc r) x ≡ true
 cost_rises f x r n h = elim (cases_eq f.more 0) [
   | inl z ↦ rw (eq-eqb f.more 0 z) (lt-ltb x (top_lead (suc r)) (cost_up x (rise_cost f x) r (cost_of f x z) n h))
   | inr m ↦ elim (cases_lt x f.high) [
@@ -63,7 +63,7 @@ cost_rises f x r n h = elim (cases_eq f.more 0) [
   ]
 ]
 
-rises_cost : (f : Follow) (x r : ℕ) → can_rise f (suc r) x ≡ true → (¬ (rise_cost f x ≡ 0)) × (rise_cost f x ≤ suc r)
+rises_cost : (f : CharacterRest) (x r : ℕ) → can_rise f (suc r) x ≡ true → (¬ (rise_cost f x ≡ 0)) × (rise_cost f x ≤ suc r)
 rises_cost f x r e = elim (cases_eq f.more 0) [
   | inl z ↦ cost_down x (rise_cost f x) r (cost_of f x z) (ltb-true x (top_lead (suc r)) (rw (eq-eqb f.more 0 z) at e))
   | inr m ↦
@@ -84,7 +84,7 @@ less_low : (c m k : ℕ) → ¬ (c ≡ 0) → c ≤ k → less_of c m ≤ k
 less_low zero m k n h = absurd (n refl)
 less_low (suc c) m k n h = omega (arith, less_suc c m, h)
 
-pub least_turns : (o : Option Follow) (p : List ℕ) (r : ℕ) → Accepts o p → least_length o p ≤ r → 0 < turns o r p
+pub least_turns : (o : Option CharacterRest) (p : List ℕ) (r : ℕ) → Accepts o p → least_length o p ≤ r → 0 < turns o r p
 least_turns None p r a h = absurd a
 least_turns (Some f) p zero a h = absurd (omega (arith, h, (least_bound (Some f) p).0))
 least_turns (Some f) [] (suc r) a h = lit< tt
@@ -93,7 +93,7 @@ least_turns (Some f) (x ∷ p) (suc r) a h = elim (less_cases (rise_cost f x) (l
   | inr here ↦ turn_here (can_rise f (suc r) x) (turns (after_byte f x) r p) (cost_rises f x r here.0 here.1)
 ]
 
-pub turns_least : (o : Option Follow) (p : List ℕ) (r : ℕ) → Accepts o p → 0 < turns o r p → least_length o p ≤ r
+pub turns_least : (o : Option CharacterRest) (p : List ℕ) (r : ℕ) → Accepts o p → 0 < turns o r p → least_length o p ≤ r
 turns_least None p r a h = absurd a
 turns_least (Some f) p zero a h = absurd (omega (arith, h))
 turns_least (Some f) [] (suc r) a h = omega arith

@@ -14,3 +14,4 @@ pub mod Flags
 pub mod Wide
 pub mod Whole
 pub mod Again
+pub mod Lengths

@@ -4,14 +4,14 @@ use Rattle.std.specs.Prelude.{ℤ, pos, negsuc, ◌≤ℤ◌}
 use Rattle.std.specs.List.{AllByRecursion}
 use Rattle.std.proofs.Math.Facts.{leb_yes}
 use Rattle.std.specs.Option.{ForSome}
-use Rattle.jm_base.specs.Moments.{IsMoment}
+use Rattle.jm_base.specs.UtcDates.{IsUtcDate}
 use Rattle.mail_records.specs.declared.records.Summary.{Summary}
 use Rattle.mail_records.specs.declared.records.Email.{Email}
 use Rattle.mail_records.specs.declared.edits.Edit.{Edit}
 use Rattle.mail_records.specs.declared.edits.Edit.TheVariants.{PutMailbox, DropMailbox, PutEmail, DropEmail, PutThread, DropThread}
 use Rattle.mail_records.specs.declared.edits.Commit.{Commit}
 use Rattle.mail_records.specs.Commits.{IsFormedEmail, IsFormedEdit, IsFormed}
-use Rattle.record_codec.specs.Spelling.{number, blob, listed, truth, optional, since_year_one, date, summary, mailbox, email, thread, edit, spelling}
+use Rattle.record_codec.specs.Encoding.{number, blob, listed, truth, optional, since_year_one, date, summary, mailbox, email, thread, edit, encoding}
 use Rattle.record_codec.specs.Widths.{FitsIn64Bits, LengthFitsIn64Bits, AreAll, IsWideSummary, IsWideMailbox, IsWideEmail, IsWideThread, IsWideEdit, IsWide}
 use Rattle.record_codec.proofs.OneForm.{OneForm, first, number_one, blob_one, truth_one, optional_one, listed_one}
 
@@ -30,7 +30,7 @@ moment_one (negsuc m) (negsuc n) p q e =
     let low' : n ≤ 62135596799 = leb_yes q.le in
     ap negsuc (omega (arith, e))
 
-pub date_one : OneForm IsMoment date
+pub date_one : OneForm IsUtcDate date
 date_one a b x y p q e =
     let n = number_one (since_year_one a.seconds) (since_year_one b.seconds) x y (moment_fits a.seconds p.not_before p.not_after) (moment_fits b.seconds q.not_before q.not_after) e in
     let s : a.seconds ≡ b.seconds = moment_one a.seconds b.seconds p.not_before q.not_before n.0 in
@@ -40,7 +40,7 @@ first_truth : (a b : Bool) (r s x y : List ℕ) → (truth a ++ r) ++ x ≡ (tru
 first_truth a b r s x y e = first (λ _. Unit {0}) truth (λ c d u v p q f. truth_one c d u v f) a b r s x y tt tt e
 
 abbrev IsGoodSummary : Summary → Type 0
-IsGoodSummary s = IsWideSummary s × ForSome s.sent IsMoment
+IsGoodSummary s = IsWideSummary s × ForSome s.sent IsUtcDate
 
 texts_one : OneForm (AreAll LengthFitsIn64Bits) (listed blob)
 texts_one = listed_one LengthFitsIn64Bits blob blob_one
@@ -54,7 +54,7 @@ summary_one a b x y p q e =
     let f2 = first LengthFitsIn64Bits blob blob_one a.subject b.subject _ _ x y p.0.subject q.0.subject f1.1 in
     let f3 = first LengthFitsIn64Bits blob blob_one a.from b.from _ _ x y p.0.from q.0.from f2.1 in
     let f4 = first LengthFitsIn64Bits blob blob_one a.to b.to _ _ x y p.0.to q.0.to f3.1 in
-    let f5 = first (λ o. ForSome o IsMoment) (optional date) (optional_one IsMoment date date_one) a.sent b.sent _ _ x y p.1 q.1 f4.1 in
+    let f5 = first (λ o. ForSome o IsUtcDate) (optional date) (optional_one IsUtcDate date date_one) a.sent b.sent _ _ x y p.1 q.1 f4.1 in
     let f6 = truth_one a.attachment b.attachment x y f5.1 in
     (λ i. record { links = f1.0 i; subject = f2.0 i; from = f3.0 i; to = f4.0 i; sent = f5.0 i; attachment = f6.0 i }, f6.1)
 
@@ -83,7 +83,7 @@ email_one a b x y p q e =
     let f4 = first (AreAll FitsIn64Bits) (listed number) numbers_one a.mailboxes b.mailboxes _ _ x y p.0.mailboxes q.0.mailboxes f3.1 in
     let f5 = first (AreAll LengthFitsIn64Bits) (listed blob) texts_one a.keywords b.keywords _ _ x y p.0.keywords q.0.keywords f4.1 in
     let f6 = first FitsIn64Bits number number_one a.size b.size _ _ x y p.0.size q.0.size f5.1 in
-    let f7 = first IsMoment date date_one a.received b.received _ _ x y p.1.received q.1.received f6.1 in
+    let f7 = first IsUtcDate date date_one a.received b.received _ _ x y p.1.received q.1.received f6.1 in
     let f8 = summary_one a.summary b.summary x y (p.0.summary, p.1.sent) (q.0.summary, q.1.sent) f7.1 in
     (λ i. record { number = f1.0 i; thread = f2.0 i; blob = f3.0 i; mailboxes = f4.0 i; keywords = f5.0 i; size = f6.0 i; received = f7.0 i; summary = f8.0 i }, f8.1)
 
@@ -133,7 +133,7 @@ both_all P Q (x ∷ xs) p q = ((p.0, q.0), both_all P Q xs p.1 q.1)
 abbrev IsGood : Commit → Type 0
 IsGood c = IsWide c × IsFormed c
 
-pub commit_one : OneForm IsGood spelling
+pub commit_one : OneForm IsGood encoding
 commit_one a b x y p q e =
     let f1 = first FitsIn64Bits number number_one a.stamp.pass b.stamp.pass _ _ x y p.0.pass q.0.pass (behind _ _ _ _ e) in
     let f2 = first FitsIn64Bits number number_one a.stamp.serial b.stamp.serial _ _ x y p.0.serial q.0.serial f1.1 in

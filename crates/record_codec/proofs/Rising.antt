@@ -5,7 +5,7 @@ use Rattle.std.specs.List.Sorted.{IsStrictlySortedBy}
 use Rattle.std.specs.Str.{IsUtf8, is_utf8}
 use Rattle.std.specs.declared.cmp.Ordering.{Ordering}
 use Rattle.std.specs.declared.cmp.Ordering.TheVariants.{Less, Equal, Greater}
-use Rattle.record_codec.specs.declared.texts.Awaited.{Awaited}
+use Rattle.record_codec.specs.declared.read_texts.TextRest.{TextRest}
 use Rattle.std.specs.Ordering.{nat_cmp, is_lt}
 use Rattle.std.specs.Cmp.Lexicographic.{slice_cmp}
 use Rattle.std.proofs.lemmas.Bool.{true≢false, cases_eq, cases_order, leb-true, le-leb, lt-ltb, le-ltb, eq-eqb, ne_eqb, and_parts, and_from}
@@ -13,13 +13,13 @@ use Rattle.std.proofs.lemmas.Cmp.{nat_list_cmp_total}
 use Rattle.std.proofs.lemmas.List.{append-nil, take_at, take-append-drop, length-take}
 use Rattle.std.proofs.lemmas.Str.{IsUtf8-nil, is_utf8-from_IsUtf8, IsUtf8-from_is_utf8}
 use Rattle.mail_records.specs.Commits.{NumbersRise, TextsRise}
-use Rattle.record_codec.specs.Spelling.{number, blob, listed}
+use Rattle.record_codec.specs.Encoding.{number, blob, listed}
 use Rattle.record_codec.specs.Widths.{FitsIn64Bits, LengthFitsIn64Bits, AreAll}
-use Rattle.record_codec.specs.Awaiting.{start, least_length, left_in_text, at_first}
+use Rattle.record_codec.specs.NextBytes.{start, least_length, left_in_text, at_first}
 use Rattle.record_codec.specs.Reading.{Read, then}
 use Rattle.record_codec.specs.Readers.{greatest, number_between, is_above, is_text_above, is_content, content_at, least_room, text_at, rising_number, number_after, next_number, rising_text, next_text, rising_numbers_at, rising_texts_at}
 use Rattle.record_codec.proofs.OneForm.{OneForm, number_one, blob_one, listed_one}
-use Rattle.record_codec.proofs.Exact.{IsInput, Stops, stops_map, Spelled, Exact, Field, ok_is, ok_no_err, then_exact, made_exact}
+use Rattle.record_codec.proofs.Exact.{IsInput, Stops, stops_map, Encoded, Exact, Field, ok_is, ok_no_err, then_exact, made_exact}
 use Rattle.record_codec.proofs.Items.{exact_same, same_values, second_of, Chain, Listed, items_exact, listed_exact}
 use Rattle.record_codec.proofs.Between.{IsWithin, number_exact, between_exact, between_one}
 use Rattle.record_codec.proofs.Loops.{least_bound}
@@ -29,8 +29,8 @@ use Rattle.record_codec.proofs.Contents.{Awaits, Live, Roomy, live_some, text_st
 use Rattle.record_codec.proofs.Least.{least_turns, turns_least}
 use Rattle.record_codec.proofs.Room.{IsAbove, Texts, Some_texts, room}
 
-one_weaker : {A : Type 0} (P Q : A → Type 0) (spell : A → List ℕ) → ((a : A) → P a → Q a) → OneForm Q spell → OneForm P spell
-one_weaker P Q spell h one a b x y p q e = one a b x y (h a p) (h b q) e
+one_weaker : {A : Type 0} (P Q : A → Type 0) (encode : A → List ℕ) → ((a : A) → P a → Q a) → OneForm Q encode → OneForm P encode
+one_weaker P Q encode h one a b x y p q e = one a b x y (h a p) (h b q) e
 
 all_map : {A : Type 0} (P Q : A → Type 0) (xs : List A) → ((a : A) → P a → Q a) → AllByRecursion P xs → AllByRecursion Q xs
 all_map P Q [] f h = tt
@@ -171,7 +171,7 @@ pub record Bound_for (s : Bool × List ℕ) (n : ℕ) : Type 0 where
 abbrev Of_length : Bool × List ℕ → ℕ → ℕ → List ℕ → Type 0
 Of_length s left n t = (length t ≡ n) × Next_text s left t
 
-abbrev beginning : Bool × List ℕ → ℕ → Awaited
+abbrev beginning : Bool × List ℕ → ℕ → TextRest
 beginning s n = at_first n s.0 s.1
 
 live_first : (s : Bool × List ℕ) (left n : ℕ) → Bound_for s left → least_room s.0 s.1 ≤ n → Live (beginning s n) s.1
@@ -266,12 +266,12 @@ content_found s left n xs t rest true b k i e is =
 content_found s left n xs t rest false b k i e is = absurd (err_no_ok _ (t, rest) is)
 
 content_fault : (s : Bool × List ℕ) (left n : ℕ) (xs : List ℕ) (back : ℕ) (yes : Bool) → Bound_for s left → least_room s.0 s.1 ≤ n → n ≤ greatest → IsInput xs → is_content n s.0 s.1 xs ≡ yes
-    → cond yes (Ok (content n xs)) (failed (stuck_at s n xs)) ≡ Err back → Stops (Spelled (Of_length s left n) itself) (Spelled (Of_length s left n) itself) xs back
+    → cond yes (Ok (content n xs)) (failed (stuck_at s n xs)) ≡ Err back → Stops (Encoded (Of_length s left n) itself) (Encoded (Of_length s left n) itself) xs back
 content_fault s left n xs back true b h k i e is = absurd (ok_no_err (content n xs) back is)
 content_fault s left n xs back false b h k i e is =
     let stops = text_stops xs (beginning s n) s.1 (2 ^ 63 + 4) (live_first s left n b h) (omega (arith, b.short)) (omega (arith, i.short)) (λ w rest f a. true≢false (sym (content_is s n xs w rest f a) ∙ e)) in
-    subst (λ (q : ℕ). Stops (Spelled (Of_length s left n) itself) (Spelled (Of_length s left n) itself) xs q) (err_is (stuck_at s n xs) back is)
-    (stops_map (Roomy (beginning s n) s.1 (2 ^ 63 + 4)) (Awaits (beginning s n) s.1) (Spelled (Of_length s left n) itself) (Spelled (Of_length s left n) itself) xs (stuck_at s n xs)
+    subst (λ (q : ℕ). Stops (Encoded (Of_length s left n) itself) (Encoded (Of_length s left n) itself) xs q) (err_is (stuck_at s n xs) back is)
+    (stops_map (Roomy (beginning s n) s.1 (2 ^ 63 + 4)) (Awaits (beginning s n) s.1) (Encoded (Of_length s left n) itself) (Encoded (Of_length s left n) itself) xs (stuck_at s n xs)
     (λ w r. (w, roomy_text s left n w k b.count r, refl))
     (λ w p. subst (Awaits (beginning s n) s.1) (sym p.2) (awaits_text s n p.0 p.1.0 p.1.1.is)) stops)
 

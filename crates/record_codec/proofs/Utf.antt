@@ -7,8 +7,8 @@ use Rattle.std.specs.Cmp.Lexicographic.{slice_cmp}
 use Rattle.std.proofs.lemmas.Bool.{cases_lt, cases_eq, cases_order, ltb-true, lt-ltb, le-ltb, leb-true, le-leb, lt-leb, eq-eqb, ne_eqb, and_parts}
 use Rattle.std.proofs.lemmas.Str.{IsUtf8-append, IsUtf8-nil, IsUtf8-from_ascii, IsUtf8-encode, encode_ascii}
 use Rattle.std.specs.Char.{IsScalar, encode_utf8}
-use Rattle.record_codec.specs.declared.characters.Follow.{Follow}
-use Rattle.record_codec.specs.Awaiting.{start, follow, after_lead, after_byte}
+use Rattle.record_codec.specs.declared.utf8.CharacterRest.{CharacterRest}
+use Rattle.record_codec.specs.NextBytes.{start, follow, after_lead, after_byte}
 
 -- ---- the order of texts
 abbrev pub Less_than : List ℕ → List ℕ → Type 0
@@ -44,7 +44,7 @@ less_nil [] e = cc
 less_nil (x ∷ p) e = cc
 
 -- ---- characters
-abbrev pub Accepts : Option Follow → List ℕ → Type 0
+abbrev pub Accepts : Option CharacterRest → List ℕ → Type 0
 Accepts None w = ⊥
 Accepts (Some f) [] = f.more ≡ 0
 Accepts (Some f) (b ∷ w) = Accepts (after_byte f b) w
@@ -91,13 +91,13 @@ lead_of b = elim (cases_lt b 128) [
   ]
 ]
 
-pub lead_is : (f : Follow) (b : ℕ) → f.more ≡ 0 → after_byte f b ≡ after_lead b
+pub lead_is : (f : CharacterRest) (b : ℕ) → f.more ≡ 0 → after_byte f b ≡ after_lead b
 lead_is f b e = rw (eq-eqb f.more 0 e) refl
 
-pub mid_yes : (f : Follow) (b : ℕ) → ¬ (f.more ≡ 0) → f.low ≤ b → b ≤ f.high → after_byte f b ≡ Some (follow (f.more - 1) 128 191)
+pub mid_yes : (f : CharacterRest) (b : ℕ) → ¬ (f.more ≡ 0) → f.low ≤ b → b ≤ f.high → after_byte f b ≡ Some (follow (f.more - 1) 128 191)
 mid_yes f b n l h = rw (ne_eqb f.more 0 n, le-leb f.low b l, le-leb b f.high h) refl
 
-pub mid_no : (f : Follow) (b : ℕ) (w : List ℕ) → ¬ (f.more ≡ 0) → Accepts (after_byte f b) w → (f.low ≤ b) × ((b ≤ f.high) × Accepts (Some (follow (f.more - 1) 128 191)) w)
+pub mid_no : (f : CharacterRest) (b : ℕ) (w : List ℕ) → ¬ (f.more ≡ 0) → Accepts (after_byte f b) w → (f.low ≤ b) × ((b ≤ f.high) × Accepts (Some (follow (f.more - 1) 128 191)) w)
 mid_no f b w n a = elim (cases_lt b f.low) [
   | inl lt ↦ absurd (rw (ne_eqb f.more 0 n, lt-leb f.low b lt) at a)
   | inr ge ↦ elim (cases_lt f.high b) [
@@ -214,15 +214,15 @@ after_four n a l h w more le p q lo hi low cut acc =
     subst (λ (v : List ℕ). IsUtf8 (a ∷ v)) (sym whole) (IsUtf8-append (a ∷ r.0 ∷ s.0 ∷ t.0 ∷ []) t.1 char (more t.1 (omega (arith, le, ap length whole)) t.3.1.1))
 
 after_kind : (n a : ℕ) (w : List ℕ) → ToUtf8 n → length w ≤ n → Lead a → Accepts (after_lead a) w → IsUtf8 (a ∷ w)
-after_kind n a w more le (one h e) acc = IsUtf8-append (a ∷ []) w (one_ascii a h) (more w le (subst (λ (o : Option Follow). Accepts o w) e acc))
-after_kind n a w more le (two h k e) acc = after_two n a w more le h k (subst (λ (o : Option Follow). Accepts o w) e acc)
-after_kind n a w more le (three_low h e) acc = after_three n a 160 191 w more le (omega (arith, h)) (omega (arith, h)) (lit≤ tt) (lit≤ tt) (λ _. lit≤ tt) (λ i. absurd (omega (arith, h, i))) (subst (λ (o : Option Follow). Accepts o w) e acc)
-after_kind n a w more le (three_cut h e) acc = after_three n a 128 159 w more le (omega (arith, h)) (omega (arith, h)) (lit≤ tt) (lit≤ tt) (λ i. absurd (omega (arith, h, i))) (λ _. lit≤ tt) (subst (λ (o : Option Follow). Accepts o w) e acc)
-after_kind n a w more le (three h k m e) acc = after_three n a 128 191 w more le (omega (arith, h)) k (lit≤ tt) (lit≤ tt) (λ i. absurd (omega (arith, h, i))) (λ i. absurd (m i)) (subst (λ (o : Option Follow). Accepts o w) e acc)
-after_kind n a w more le (four_low h e) acc = after_four n a 144 191 w more le (omega (arith, h)) (omega (arith, h)) (lit≤ tt) (lit≤ tt) (λ _. lit≤ tt) (λ i. absurd (omega (arith, h, i))) (subst (λ (o : Option Follow). Accepts o w) e acc)
-after_kind n a w more le (four h k e) acc = after_four n a 128 191 w more le (omega (arith, h)) (omega (arith, k)) (lit≤ tt) (lit≤ tt) (λ i. absurd (omega (arith, h, i))) (λ i. absurd (omega (arith, k, i))) (subst (λ (o : Option Follow). Accepts o w) e acc)
-after_kind n a w more le (four_high h e) acc = after_four n a 128 143 w more le (omega (arith, h)) (omega (arith, h)) (lit≤ tt) (lit≤ tt) (λ i. absurd (omega (arith, h, i))) (λ _. lit≤ tt) (subst (λ (o : Option Follow). Accepts o w) e acc)
-after_kind n a w more le (never h k e) acc = absurd (subst (λ (o : Option Follow). Accepts o w) e acc)
+after_kind n a w more le (one h e) acc = IsUtf8-append (a ∷ []) w (one_ascii a h) (more w le (subst (λ (o : Option CharacterRest). Accepts o w) e acc))
+after_kind n a w more le (two h k e) acc = after_two n a w more le h k (subst (λ (o : Option CharacterRest). Accepts o w) e acc)
+after_kind n a w more le (three_low h e) acc = after_three n a 160 191 w more le (omega (arith, h)) (omega (arith, h)) (lit≤ tt) (lit≤ tt) (λ _. lit≤ tt) (λ i. absurd (omega (arith, h, i))) (subst (λ (o : Option CharacterRest). Accepts o w) e acc)
+after_kind n a w more le (three_cut h e) acc = after_three n a 128 159 w more le (omega (arith, h)) (omega (arith, h)) (lit≤ tt) (lit≤ tt) (λ i. absurd (omega (arith, h, i))) (λ _. lit≤ tt) (subst (λ (o : Option CharacterRest). Accepts o w) e acc)
+after_kind n a w more le (three h k m e) acc = after_three n a 128 191 w more le (omega (arith, h)) k (lit≤ tt) (lit≤ tt) (λ i. absurd (omega (arith, h, i))) (λ i. absurd (m i)) (subst (λ (o : Option CharacterRest). Accepts o w) e acc)
+after_kind n a w more le (four_low h e) acc = after_four n a 144 191 w more le (omega (arith, h)) (omega (arith, h)) (lit≤ tt) (lit≤ tt) (λ _. lit≤ tt) (λ i. absurd (omega (arith, h, i))) (subst (λ (o : Option CharacterRest). Accepts o w) e acc)
+after_kind n a w more le (four h k e) acc = after_four n a 128 191 w more le (omega (arith, h)) (omega (arith, k)) (lit≤ tt) (lit≤ tt) (λ i. absurd (omega (arith, h, i))) (λ i. absurd (omega (arith, k, i))) (subst (λ (o : Option CharacterRest). Accepts o w) e acc)
+after_kind n a w more le (four_high h e) acc = after_four n a 128 143 w more le (omega (arith, h)) (omega (arith, h)) (lit≤ tt) (lit≤ tt) (λ i. absurd (omega (arith, h, i))) (λ _. lit≤ tt) (subst (λ (o : Option CharacterRest). Accepts o w) e acc)
+after_kind n a w more le (never h k e) acc = absurd (subst (λ (o : Option CharacterRest). Accepts o w) e acc)
 
 to_utf8_in : (n : ℕ) → ToUtf8 n
 to_utf8_in n [] le acc = IsUtf8-nil

@@ -5,7 +5,7 @@ use Rattle.std.specs.Option.{ForSome}
 use Rattle.std.specs.Str.{IsUtf8}
 use Rattle.std.proofs.lemmas.Bool.{cases_eq}
 use Rattle.std.proofs.lemmas.List.{append-nil, take_at}
-use Rattle.jm_base.specs.Moments.{IsMoment}
+use Rattle.jm_base.specs.UtcDates.{IsUtcDate}
 use Rattle.mail_records.specs.declared.records.Summary.{Summary}
 use Rattle.mail_records.specs.declared.records.Mailbox.{Mailbox}
 use Rattle.mail_records.specs.declared.records.Email.{Email}
@@ -14,12 +14,12 @@ use Rattle.mail_records.specs.declared.edits.Edit.{Edit}
 use Rattle.mail_records.specs.declared.edits.Edit.TheVariants.{PutMailbox, DropMailbox, PutEmail, DropEmail, PutThread, DropThread}
 use Rattle.mail_records.specs.declared.edits.Commit.{Commit}
 use Rattle.mail_records.specs.Commits.{TextsRise, IsFormedEmail, IsFormedEdit}
-use Rattle.record_codec.specs.Spelling.{number, blob, listed, truth, optional, date, summary, mailbox, email, thread, edit, spelling}
+use Rattle.record_codec.specs.Encoding.{number, blob, listed, truth, optional, date, summary, mailbox, email, thread, edit, encoding}
 use Rattle.record_codec.specs.Widths.{FitsIn64Bits, LengthFitsIn64Bits, AreAll, IsWideSummary, IsWideMailbox, IsWideEmail, IsWideThread, IsWideEdit}
-use Rattle.record_codec.specs.Places.{AreBytes, HasTextsInSummary, HasTextsInMailbox, HasTextsInEdit, HasSpelling, IsSpelled, IsPlace}
+use Rattle.record_codec.specs.Offsets.{AreBytes, HasTextsInSummary, HasTextsInMailbox, HasTextsInEdit, HasEncoding, IsEncodingOf, IsFaultOffset}
 use Rattle.record_codec.specs.Reading.{Read, then, both, made}
 use Rattle.record_codec.specs.Readers.{number_at, optional_at, tag_at, date_at, blob_at, text_at, numbers_at, blobs_at, summary_from, summary_at, mailbox_from, mailbox_at, email_from, email_at, thread_from, thread_at, put_mailbox_at, put_email_at, put_thread_at, drop_mailbox_at, drop_email_at, drop_thread_at, edit_body, edit_at, edits_at, commit_from, commit_at}
-use Rattle.record_codec.proofs.Exact.{IsInput, Spelled, Field, then_one, then_exact, made_one, made_exact, both_field, made_field}
+use Rattle.record_codec.proofs.Exact.{IsInput, Encoded, Field, then_one, then_exact, made_one, made_exact, both_field, made_field}
 use Rattle.record_codec.proofs.Items.{exact_same, second_of, list_field}
 use Rattle.record_codec.proofs.Between.{number_exact}
 use Rattle.record_codec.proofs.Rising.{IsText, rising_numbers_field, rising_texts_field, text_field}
@@ -35,8 +35,8 @@ number_option = optional_field FitsIn64Bits number number_at number_field
 text_option : Field (Has IsText) (optional blob) (optional_at text_at)
 text_option = optional_field IsText blob text_at text_field
 
-date_option : Field (Has IsMoment) (optional date) (optional_at date_at)
-date_option = optional_field IsMoment date date_at date_field
+date_option : Field (Has IsUtcDate) (optional date) (optional_at date_at)
+date_option = optional_field IsUtcDate date date_at date_field
 
 numbers_field : Field (AreAll FitsIn64Bits) (listed number) numbers_at
 numbers_field = list_field FitsIn64Bits number number_at number_exact number_field
@@ -45,19 +45,19 @@ blobs_field : Field (AreAll IsBlob) (listed blob) blobs_at
 blobs_field = list_field IsBlob blob blob_at number_exact blob_field
 
 -- two fields in a row, which the types tell
-pair : {A B : Type 0} {P : A → Type 0} {spell : A → List ℕ} {read : List ℕ → Read A} {Q : B → Type 0} {spell' : B → List ℕ} {read' : List ℕ → Read B}
-    → Field P spell read → Field Q spell' read' → Field (λ (p : A × B). P p.0 × Q p.1) (λ p. spell p.0 ++ spell' p.1) (both read read')
-pair {A} {B} {P} {spell} {read} {Q} {spell'} {read'} f g = both_field P spell read Q spell' read' f g
+pair : {A B : Type 0} {P : A → Type 0} {encode : A → List ℕ} {read : List ℕ → Read A} {Q : B → Type 0} {encode' : B → List ℕ} {read' : List ℕ → Read B}
+    → Field P encode read → Field Q encode' read' → Field (λ (p : A × B). P p.0 × Q p.1) (λ p. encode p.0 ++ encode' p.1) (both read read')
+pair {A} {B} {P} {encode} {read} {Q} {encode'} {read'} f g = both_field P encode read Q encode' read' f g
 
-make : {A B : Type 0} {P : A → Type 0} {spell : A → List ℕ} {read : List ℕ → Read A} (Q : B → Type 0) (spell' : B → List ℕ) (making : A → B)
-    → ((a : A) → P a → Q (making a) × (spell' (making a) ≡ spell a)) → ((b : B) → Q b → (a : A) × P a × (making a ≡ b)) → Field P spell read → Field Q spell' (made making read)
-make {A} {B} {P} {spell} {read} Q spell' making to from f = made_field P spell read Q spell' making to from f
+make : {A B : Type 0} {P : A → Type 0} {encode : A → List ℕ} {read : List ℕ → Read A} (Q : B → Type 0) (encode' : B → List ℕ) (making : A → B)
+    → ((a : A) → P a → Q (making a) × (encode' (making a) ≡ encode a)) → ((b : B) → Q b → (a : A) × P a × (making a ≡ b)) → Field P encode read → Field Q encode' (made making read)
+make {A} {B} {P} {encode} {read} Q encode' making to from f = made_field P encode read Q encode' making to from f
 
 -- ---- summaries
 pub record SummaryFits (s : Summary) : Type 0 where
   pub wide : IsWideSummary s
   pub links : TextsRise s.links
-  pub sent : ForSome s.sent IsMoment
+  pub sent : ForSome s.sent IsUtcDate
   pub texts : HasTextsInSummary s
 
 summary_field : Field SummaryFits summary summary_at
@@ -177,13 +177,13 @@ EditFits (DropEmail n t) = FitsIn64Bits n × FitsIn64Bits t
 EditFits (PutThread item was) = IsWideThread item
 EditFits (DropThread n) = FitsIn64Bits n
 
-abbrev tag_of : Edit → ℕ
-tag_of (PutMailbox item was counts) = 1
-tag_of (DropMailbox n) = 2
-tag_of (PutEmail item was) = 3
-tag_of (DropEmail n t) = 4
-tag_of (PutThread item was) = 5
-tag_of (DropThread n) = 6
+abbrev read_tag : Edit → ℕ
+read_tag (PutMailbox item was counts) = 1
+read_tag (DropMailbox n) = 2
+read_tag (PutEmail item was) = 3
+read_tag (DropEmail n t) = 4
+read_tag (PutThread item was) = 5
+read_tag (DropThread n) = 6
 
 abbrev body : Edit → List ℕ
 body (PutMailbox item was counts) = mailbox item ++ (truth was ++ truth counts)
@@ -194,7 +194,7 @@ body (PutThread item was) = thread item ++ truth was
 body (DropThread n) = number n
 
 abbrev Tagged : ℕ → Edit → Type 0
-Tagged t e = (tag_of e ≡ t) × EditFits e
+Tagged t e = (read_tag e ≡ t) × EditFits e
 
 put_mailbox_field : Field (Tagged 1) body put_mailbox_at
 put_mailbox_field = make (Tagged 1) body (λ p. PutMailbox p.0 p.1.0 p.1.1) (λ p h. ((refl, h.0), refl)) from (pair mailbox_field (pair truth_field truth_field))
@@ -283,7 +283,7 @@ body_field t h = elim (cases_eq t 1) [
   ]
 ]
 
-tag_fits : (e : Edit) → IsTag 6 (tag_of e)
+tag_fits : (e : Edit) → IsTag 6 (read_tag e)
 tag_fits (PutMailbox item was counts) = (lit≤ tt, lit≤ tt)
 tag_fits (DropMailbox n) = (lit≤ tt, lit≤ tt)
 tag_fits (PutEmail item was) = (lit≤ tt, lit≤ tt)
@@ -291,7 +291,7 @@ tag_fits (DropEmail n t) = (lit≤ tt, lit≤ tt)
 tag_fits (PutThread item was) = (lit≤ tt, lit≤ tt)
 tag_fits (DropThread n) = (lit≤ tt, lit≤ tt)
 
-edit_is : (e : Edit) → edit e ≡ tag_of e ∷ body e
+edit_is : (e : Edit) → edit e ≡ read_tag e ∷ body e
 edit_is (PutMailbox item was counts) = refl
 edit_is (DropMailbox n) = refl
 edit_is (PutEmail item was) = refl
@@ -303,7 +303,7 @@ edit_field : Field EditFits edit edit_at
 edit_field =
     let tags = tag_field 6 (lit≤ tt) in
     let to : (p : ℕ × Edit) → IsTag 6 p.0 × Tagged p.0 p.1 → EditFits p.1 × (edit p.1 ≡ tag p.0 ++ body p.1) = λ p h. (h.1.1, edit_is p.1 ∙ ap (λ (t : ℕ). t ∷ body p.1) h.1.0) in
-    let from : (e : Edit) → EditFits e → (p : ℕ × Edit) × (IsTag 6 p.0 × Tagged p.0 p.1) × (p.1 ≡ e) = λ e h. ((tag_of e, e), (tag_fits e, (refl, h)), refl) in
+    let from : (e : Edit) → EditFits e → (p : ℕ × Edit) × (IsTag 6 p.0 × Tagged p.0 p.1) × (p.1 ≡ e) = λ e h. ((read_tag e, e), (tag_fits e, (refl, h)), refl) in
     let one = then_one (IsTag 6) tag (tag_at 6) Tagged (λ t. body) edit_body tags.one (λ t h. (body_field t h).one) in
     let pairs = then_exact (IsTag 6) tag (tag_at 6) Tagged (λ t. body) edit_body tags.one tags.exact (λ t h. (body_field t h).some) (λ t h short. (body_field t h).exact) in
     record {
@@ -323,8 +323,8 @@ pub record CommitFits (c : Commit) : Type 0 where
   pub blobs : AreAll IsBlob c.blobs
   pub edits : AreAll EditFits c.edits
 
-pub commit_field : Field CommitFits spelling commit_at
-commit_field = make CommitFits spelling commit_from
+pub commit_field : Field CommitFits encoding commit_at
+commit_field = make CommitFits encoding commit_from
     (λ p h. let one : 1 ≡ p.0 = omega (arith, h.0.0, h.0.1) in
     (record { pass = h.1.0; serial = h.1.1.0; blobs = h.1.1.1.0; edits = h.1.1.1.1 }, ap (λ (t : ℕ). t ∷ (number p.1.0 ++ (number p.1.1.0 ++ (listed blob p.1.1.1.0 ++ listed edit p.1.1.1.1)))) one))
     (λ c h. ((1, (c.stamp.pass, (c.stamp.serial, (c.blobs, c.edits)))), ((lit≤ tt, lit≤ tt), (h.pass, (h.serial, (h.blobs, h.edits)))), refl))
@@ -371,8 +371,8 @@ edit_fits (DropEmail n t) h = h.0
 edit_fits (PutThread item was) h = h.0
 edit_fits (DropThread n) h = h.0
 
-has_spelling : (c : Commit) → CommitFits c → HasSpelling c
-has_spelling c h = record {
+has_encoding : (c : Commit) → CommitFits c → HasEncoding c
+has_encoding c h = record {
   wide = record {
     pass = h.pass;
     serial = h.serial;
@@ -384,7 +384,7 @@ has_spelling c h = record {
   blobs = all_map IsBlob AreBytes c.blobs (λ b k. k.1) h.blobs.1;
 }
 
-commit_fits : (c : Commit) → HasSpelling c → CommitFits c
+commit_fits : (c : Commit) → HasEncoding c → CommitFits c
 commit_fits c h = record {
   pass = h.wide.pass;
   serial = h.wide.serial;
@@ -397,10 +397,10 @@ commit_fits c h = record {
 }
 
 abbrev Commits : List ℕ → Type 0
-Commits = Spelled CommitFits spelling
+Commits = Encoded CommitFits encoding
 
-spelled : (w : List ℕ) (c : Commit) → IsSpelled w c → Commits w
-spelled w c s = (c, commit_fits c s.has, s.is)
+encoded : (w : List ℕ) (c : Commit) → IsEncodingOf w c → Commits w
+encoded w c s = (c, commit_fits c s.has, s.is)
 
 -- ---- the place
 place_of : (xs front back : List ℕ) → xs ≡ front ++ back → length xs - length back ≡ length front
@@ -419,56 +419,56 @@ behind_some : (xs front back : List ℕ) → xs ≡ front ++ back → length fro
 behind_some xs front [] e h = absurd (omega (arith, h, ap length e, length-append front []))
 behind_some xs front (b ∷ more) e h = (b, more, refl)
 
-pub stuck_place : (xs : List ℕ) (left : ℕ) → IsInput xs → commit_at xs ≡ Err left → (left ≤ length xs) × IsPlace xs (length xs - left)
+pub stuck_place : (xs : List ℕ) (left : ℕ) → IsInput xs → commit_at xs ≡ Err left → (left ≤ length xs) × IsFaultOffset xs (length xs - left)
 stuck_place xs left h e =
     let s = commit_field.exact.fault xs h left e in
     let long : length xs - left ≡ length s.front = ap (λ (n : ℕ). length xs - n) (sym s.left_is) ∙ place_of xs s.front s.back s.parts in
     let front : take (length s.front) xs ≡ s.front = ap (take (length s.front)) s.parts ∙ take_at s.front s.back (length s.front) refl in
-    let there : IsPlace xs (length s.front) = record {
+    let there : IsFaultOffset xs (length s.front) = record {
       within = omega (arith, ap length s.parts, length-append s.front s.back);
-      begins = (s.begins.0, s.byte ∷ s.rest, record { has = has_spelling s.begins.0 s.begins.1; is = ap (λ (w : List ℕ). w ++ s.byte ∷ s.rest) front ∙ s.begins.2 });
+      begins = (s.begins.0, s.byte ∷ s.rest, record { has = has_encoding s.begins.0 s.begins.1; is = ap (λ (w : List ℕ). w ++ s.byte ∷ s.rest) front ∙ s.begins.2 });
       goes_no_further = λ inside begun.
           let b = behind_some xs s.front s.back s.parts inside in
           let same : take (suc (length s.front)) xs ++ begun.1 ≡ s.front ++ b.0 ∷ begun.1 = ap (λ (w : List ℕ). w ++ begun.1) (next_front xs s.front s.back b.0 b.1 s.parts b.2) ∙ append_assoc s.front (b.0 ∷ []) begun.1 in
-          let c = spelled (take (suc (length s.front)) xs ++ begun.1) begun.0 begun.2 in
+          let c = encoded (take (suc (length s.front)) xs ++ begun.1) begun.0 begun.2 in
           s.ends b.0 b.1 begun.1 b.2 (subst Commits same c);
-      is_none = λ c q. none xs s.front s.back s.byte s.rest s.parts s.begins (spelled xs c q) (λ b more f k. s.ends b more more f k);
+      is_none = λ c q. none xs s.front s.back s.byte s.rest s.parts s.begins (encoded xs c q) (λ b more f k. s.ends b more more f k);
     } in
-    (omega (arith, s.left_is, ap length s.parts, length-append s.front s.back), subst (IsPlace xs) (sym long) there)
+    (omega (arith, s.left_is, ap length s.parts, length-append s.front s.back), subst (IsFaultOffset xs) (sym long) there)
   where
     none : (xs front back : List ℕ) (byte : ℕ) (rest : List ℕ) → xs ≡ front ++ back → Commits (front ++ byte ∷ rest) → Commits xs → ((b : ℕ) (more : List ℕ) → back ≡ b ∷ more → ¬ Commits (front ++ b ∷ more)) → ⊥
     none xs front [] byte rest e begun c never =
-        let same : spelling c.0 ++ (byte ∷ rest) ≡ spelling begun.0 ++ [] = ap (λ (w : List ℕ). w ++ byte ∷ rest) (sym c.2 ∙ e ∙ append-nil front) ∙ begun.2 ∙ sym (append-nil (spelling begun.0)) in
+        let same : encoding c.0 ++ (byte ∷ rest) ≡ encoding begun.0 ++ [] = ap (λ (w : List ℕ). w ++ byte ∷ rest) (sym c.2 ∙ e ∙ append-nil front) ∙ begun.2 ∙ sym (append-nil (encoding begun.0)) in
         nothing_behind byte rest (commit_field.one c.0 begun.0 (byte ∷ rest) [] c.1 begun.1 same).1
     none xs front (b ∷ more) byte rest e begun c never = never b more refl (subst Commits e c)
 
-pub whole_read : (xs : List ℕ) (c : Commit) (rest : List ℕ) → IsInput xs → commit_at xs ≡ Ok (c, rest) → length rest ≡ 0 → IsSpelled xs c
-whole_read xs c [] h e n = let f = commit_field.exact.found xs h c [] e in record { has = has_spelling c f.0; is = f.1 ∙ append-nil (spelling c) }
+pub whole_read : (xs : List ℕ) (c : Commit) (rest : List ℕ) → IsInput xs → commit_at xs ≡ Ok (c, rest) → length rest ≡ 0 → IsEncodingOf xs c
+whole_read xs c [] h e n = let f = commit_field.exact.found xs h c [] e in record { has = has_encoding c f.0; is = f.1 ∙ append-nil (encoding c) }
 whole_read xs c (b ∷ rest) h e n = absurd (omega (arith, n))
 
-pub over_place : (xs : List ℕ) (c : Commit) (rest : List ℕ) → IsInput xs → commit_at xs ≡ Ok (c, rest) → ¬ (length rest ≡ 0) → (length rest ≤ length xs) × IsPlace xs (length xs - length rest)
+pub over_place : (xs : List ℕ) (c : Commit) (rest : List ℕ) → IsInput xs → commit_at xs ≡ Ok (c, rest) → ¬ (length rest ≡ 0) → (length rest ≤ length xs) × IsFaultOffset xs (length xs - length rest)
 over_place xs c rest h e n =
     let f = commit_field.exact.found xs h c rest e in
-    let s = spelling c in
+    let s = encoding c in
     let long : length xs - length rest ≡ length s = place_of xs s rest f.1 in
     let front : take (length s) xs ≡ s = ap (take (length s)) f.1 ∙ take_at s rest (length s) refl in
     let further : (b : ℕ) (more ys : List ℕ) → rest ≡ b ∷ more → ¬ Commits (s ++ b ∷ ys) = λ b more ys g k.
-    let same : s ++ b ∷ ys ≡ spelling k.0 ++ [] = k.2 ∙ sym (append-nil (spelling k.0)) in
+    let same : s ++ b ∷ ys ≡ encoding k.0 ++ [] = k.2 ∙ sym (append-nil (encoding k.0)) in
     nothing_behind b ys (commit_field.one c k.0 (b ∷ ys) [] f.0 k.1 same).1 in
-    let there : IsPlace xs (length s) = record {
+    let there : IsFaultOffset xs (length s) = record {
       within = omega (arith, ap length f.1, length-append s rest);
-      begins = (c, [], record { has = has_spelling c f.0; is = append-nil (take (length s) xs) ∙ front });
+      begins = (c, [], record { has = has_encoding c f.0; is = append-nil (take (length s) xs) ∙ front });
       goes_no_further = λ inside begun.
           let b = behind_some xs s rest f.1 inside in
           let same : take (suc (length s)) xs ++ begun.1 ≡ s ++ b.0 ∷ begun.1 = ap (λ (w : List ℕ). w ++ begun.1) (next_front xs s rest b.0 b.1 f.1 b.2) ∙ append_assoc s (b.0 ∷ []) begun.1 in
-          let k = spelled (take (suc (length s)) xs ++ begun.1) begun.0 begun.2 in
+          let k = encoded (take (suc (length s)) xs ++ begun.1) begun.0 begun.2 in
           further b.0 b.1 begun.1 b.2 (subst Commits same k);
       is_none = λ d q.
           let inside : length s < length xs = omega (arith, n, ap length f.1, length-append s rest) in
           let b = behind_some xs s rest f.1 inside in
-          further b.0 b.1 b.1 b.2 (subst Commits (f.1 ∙ ap (λ (w : List ℕ). s ++ w) b.2) (spelled xs d q));
+          further b.0 b.1 b.1 b.2 (subst Commits (f.1 ∙ ap (λ (w : List ℕ). s ++ w) b.2) (encoded xs d q));
     } in
-    (omega (arith, ap length f.1, length-append s rest), subst (IsPlace xs) (sym long) there)
+    (omega (arith, ap length f.1, length-append s rest), subst (IsFaultOffset xs) (sym long) there)
 
 -- the bytes of a slice
 pub input_of : (xs : List ℕ) → ((i : ℕ) → get_or xs i 0 < 256) → length xs < 2 ^ 63 → IsInput xs

@@ -1,8 +1,8 @@
 -- What holds of each item of a list in memory, by a loop over the items.
-use Rattle.std.proofs.Common.{◌≡◌, ℕ, zero, suc, ◌+◌, ◌^◌, ◌<◌, ◌≤◌, List, [], ◌∷◌, length, get_or, take, sym, subst, add-one, arith}
+use Rattle.std.proofs.Common.{◌≡◌, ℕ, zero, suc, ◌+◌, ◌^◌, ◌<◌, ◌≤◌, List, [], ◌∷◌, length, get_or, take, subst, add-one, arith}
 use Rattle.std.specs.List.{AllByRecursion}
 use Rattle.record_codec.specs.Widths.{FitsIn64Bits}
-use Rattle.record_codec.specs.Places.{AreBytes}
+use Rattle.record_codec.specs.Offsets.{AreBytes}
 
 one_more : {A : Type 0} (P : A → Type 0) (xs : List A) (i : ℕ) (x : A) → i < length xs → x ≡ get_or xs i x → P x → AllByRecursion P (take i xs) → AllByRecursion P (take (suc i) xs)
 one_more P [] i x lt is p h = absurd (omega (arith, lt))

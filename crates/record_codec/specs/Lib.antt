@@ -1,6 +1,7 @@
-pub mod Spelling
+pub mod Encoding
+pub mod Sizes
 pub mod Widths
-pub mod Places
-pub mod Awaiting
+pub mod Offsets
+pub mod NextBytes
 pub mod Reading
 pub mod Readers

@@ -12,7 +12,7 @@ use Rattle.mail_records.specs.declared.records.Thread.{Thread}
 use Rattle.mail_records.specs.declared.edits.Edit.{Edit}
 use Rattle.mail_records.specs.declared.edits.Edit.TheVariants.{PutMailbox, DropMailbox, PutEmail, DropEmail, PutThread, DropThread}
 use Rattle.mail_records.specs.declared.edits.Commit.{Commit}
-use Rattle.record_codec.specs.Awaiting.{left_in_word, start, least_length, left_in_text, at_first}
+use Rattle.record_codec.specs.NextBytes.{left_in_word, start, least_length, left_in_text, at_first}
 use Rattle.record_codec.specs.Reading.{Read, ◌>>=◌, both, made, items_at}
 
 abbrev pub greatest : ℕ

@@ -1,10 +1,10 @@
--- Reading of fields, by which the readers are told. What is read so is a value's one spelling, and where it stops no
--- spelling goes on (proofs/Whole.antt).
+-- Reading of fields, by which the readers are told. What is read so is a value's one encoding, and where it stops no
+-- encoding goes on (proofs/Whole.antt).
 use Rattle.std.specs.Prelude.{◌≡◌, ℕ, zero, suc, List, [], ◌∷◌, Result, Ok, Err, ⊤}
 use Rattle.record_codec.specs.declared.faults.Misread.{Misread}
 use Rattle.record_codec.specs.declared.faults.Misread.TheVariants as faults
 
--- a value and the bytes behind it, or how many bytes are left where nothing goes on
+-- a value and the bytes after it, or how many bytes are left where nothing goes on
 abbrev pub Read : Type 0 → Type 0
 Read A = Result (A × List ℕ) ℕ
 

@@ -1,24 +1,24 @@
-// Why bytes are not read.
+// The errors of decoding.
 ghost use Rattle.std.specs.Prelude.{◌≡◌};
 ghost use Rattle.record_codec.specs.declared.faults.Misread.TheVariants.{NoMemory as OutOfMemory};
 
 use jm_base::NoMemory as MemoryFault;
 use std::alloc::{AllocError, AllocFailed};
 
-/// Why bytes were not read as a commit.
+/// Why bytes were not decoded as a commit.
 #[derive(Clone, Copy, Debug, PartialEq, Eq)]
 pub enum CodecFault {
-    /// The bytes are no commit's spelling. The number is the place, counted from 0, of the first byte at which no
-    /// commit goes on as the bytes do: their length where they stop early.
+    /// The bytes are no commit's encoding. The number is the byte offset of the first byte at which no
+    /// commit's encoding goes on as the bytes do: their length where they end early.
     NotACommit(u64),
-    /// There was no memory for the commit; nothing is said of the bytes.
+    /// An allocation failed; nothing is said of the bytes.
     NoMemory,
 }
 
-/// Why a field was not read.
+/// Why a field was not decoded.
 #[derive(Clone, Copy, Debug, PartialEq, Eq)]
 pub enum Misread {
-    /// No field goes on as the bytes do where so many are left.
+    /// No encoding of the field goes on as the bytes do where so many bytes are left.
     Stuck(usize),
     NoMemory,
 }

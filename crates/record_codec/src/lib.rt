@@ -1,26 +1,29 @@
-//! Commits as bytes: each commit that is formed has one spelling, and no spelling begins another.
+//! Commits as bytes: each commit that is formed has one encoding, and no encoding is a prefix of
+//! another.
 #![tactic(auto)]
 
-mod characters;
-mod edits;
 mod faults;
-mod fields;
 mod laws;
-mod lists;
 mod memory;
+mod read_commit;
+mod read_fields;
+mod read_lists;
+mod read_records;
+mod read_texts;
+mod sizes;
 #[cfg(test)]
-mod places;
-mod reading;
-mod records;
-mod stored;
+mod test_rows;
 #[cfg(test)]
 mod tests;
-mod texts;
-mod words;
-mod writing;
+mod utf8;
+mod write_commit;
+mod write_edits;
+mod write_fields;
+mod write_records;
 
 pub use faults::CodecFault;
-pub use laws::{one_spelling, read_back, spelled_once};
-pub use memory::has_spelling;
-pub use reading::decode;
-pub use writing::encode;
+pub use laws::{edits_take_their_bytes, encoded_once, one_encoding, read_back};
+pub use memory::has_encoding;
+pub use read_commit::decode;
+pub use sizes::edit_bytes;
+pub use write_commit::encode;

@@ -4,7 +4,7 @@ ghost use Rattle.std.specs.Option.{ForSome};
 ghost use Rattle.std.specs.Str.{IsUtf8};
 ghost use Rattle.mail_records.specs.Commits.{IsFormed};
 ghost use Rattle.record_codec.specs.Widths.{FitsIn64Bits, LengthFitsIn64Bits, AreAll, IsWideSummary, IsWideMailbox, IsWideEmail, IsWideThread, IsWideEdit};
-ghost use Rattle.record_codec.specs.Places.{AreBytes, HasTextsInSummary, HasTextsInMailbox, HasTextsInEmail, HasTextsInEdit, HasSpelling};
+ghost use Rattle.record_codec.specs.Offsets.{AreBytes, HasTextsInSummary, HasTextsInMailbox, HasTextsInEmail, HasTextsInEdit, HasEncoding};
 
 use jm_base::{Bytes, Text};
 use mail_records::{Commit, Edit, Email, Mailbox, Summary, Thread};
@@ -148,11 +148,11 @@ fn edits_fit(edits: &[Edit]) -> usize
     edits.len()
 }
 
-/// A commit in memory that is formed has a spelling: its numbers and lengths are of 64 bits, its texts UTF-8 and its
+/// A commit in memory that is formed has an encoding: its numbers and lengths are of 64 bits, its strings UTF-8 and its
 /// blobs bytes, since no other can be made.
-pub fn has_spelling(commit: &Commit)
+pub fn has_encoding(commit: &Commit)
     requires { IsFormed commit.now }
-    ensures { HasSpelling commit.now }
+    ensures { HasEncoding commit.now }
 {
     number_fits(commit.stamp.pass);
     number_fits(commit.stamp.serial);

@@ -1,7 +1,7 @@
 ghost use Rattle.std.specs.Prelude.{IfOk};
 ghost use Rattle.mail_records.specs.Commits.{IsFormed};
 
-use crate::places::{READ, REFUSED};
+use crate::test_rows::{READ, REFUSED};
 use crate::{CodecFault, decode, encode};
 use jm_base::{Blobs, Bytes, NoMemory, Texts};
 use mail_records::{Commit, Edit, Edits, Email, Mailbox, Stamp, Summary};
@@ -43,7 +43,7 @@ fn digit(byte: u8) -> u8 {
     }
 }
 
-fn put_word(out: &mut Vec<u8>, word: &[u8]) -> Result<(), NoMemory> {
+fn write_word(out: &mut Vec<u8>, word: &[u8]) -> Result<(), NoMemory> {
     if let [b'#', digits @ ..] = word {
         let mut number: u64 = 0;
         for byte in digits {
@@ -63,7 +63,7 @@ fn put_word(out: &mut Vec<u8>, word: &[u8]) -> Result<(), NoMemory> {
 fn bytes_of(alloc: Global, words: &str) -> Result<Vec<u8>, NoMemory> {
     let mut out = Vec::new(alloc);
     for word in words.split(' ') {
-        put_word(&mut out, word.as_bytes())?;
+        write_word(&mut out, word.as_bytes())?;
     }
     Ok(out)
 }
@@ -99,7 +99,7 @@ fn spellings_are_read_and_written_again(rt: HostRuntime) -> Result<(), Fail> {
         let bytes = bytes_of(rt.alloc(), words)?;
         let again = there_and_back(rt.alloc(), &bytes)
             .ok()
-            .ok_or("it is a spelling")?;
+            .ok_or("it is an encoding")?;
         assert_eq!(rt; again.as_slice(), bytes.as_slice());
     }
     Ok(())
@@ -190,7 +190,7 @@ fn fields_stand_in_their_order(rt: HostRuntime) -> Result<(), Fail> {
         alloc,
         "01 #3 #4 #0 #3 01 #11 #1 61 01 #12 01 #1 62 #13 01 #14 #15 #16 #17 00 01 03 #21 #22 #23 #1 #24 #1 #1 63 #25 #63713520026 #1 #1 64 #1 65 #1 66 #1 67 01 #63713520027 00 01 04 #31 #32",
     )?;
-    let commit = decode(alloc, &bytes).ok().ok_or("it is a spelling")?;
+    let commit = decode(alloc, &bytes).ok().ok_or("it is an encoding")?;
     assert_eq!(rt; commit.stamp, Stamp { pass: 3, serial: 4 });
     let mut told = String::new(alloc);
     for edit in commit.edits.as_slice() {

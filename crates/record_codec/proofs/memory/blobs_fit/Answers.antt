@@ -1,7 +1,7 @@
-use Rattle.std.proofs.Common.{subst, arith}
+use Rattle.std.proofs.Common.{subst}
 use Rattle.record_codec.specs.Widths.{LengthFitsIn64Bits}
-use Rattle.record_codec.specs.Places.{AreBytes}
-use Rattle.record_codec.proofs.Wide.{all_more, all_done}
+use Rattle.record_codec.specs.Offsets.{AreBytes}
+use Rattle.record_codec.proofs.Wide.{all_more}
 use Rattle.record_codec.proofs.memory.blobs_fit.Goals as goal
 
 pub loop-blob-preserved : goal.loop-blob-preserved

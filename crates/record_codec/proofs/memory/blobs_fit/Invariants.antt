@@ -1,7 +1,7 @@
 use Rattle.std.proofs.Common.{take}
 use Rattle.std.specs.List.{AllByRecursion}
 use Rattle.record_codec.specs.Widths.{LengthFitsIn64Bits}
-use Rattle.record_codec.specs.Places.{AreBytes}
+use Rattle.record_codec.specs.Offsets.{AreBytes}
 use Rattle.record_codec.proofs.memory.blobs_fit.Given as goal
 
 abbrev pub invariant-loop-blob : goal.invariant-loop-blob

@@ -1,7 +1,6 @@
-use Rattle.std.proofs.Common.{arith}
 use Rattle.record_codec.specs.Widths.{IsWideEdit}
-use Rattle.record_codec.specs.Places.{HasTextsInEdit}
-use Rattle.record_codec.proofs.Wide.{all_more, all_done}
+use Rattle.record_codec.specs.Offsets.{HasTextsInEdit}
+use Rattle.record_codec.proofs.Wide.{all_more}
 use Rattle.record_codec.proofs.memory.edits_fit.Goals as goal
 
 pub loop-edit-preserved : goal.loop-edit-preserved

@@ -1,7 +1,7 @@
 use Rattle.std.proofs.Common.{take}
 use Rattle.std.specs.List.{AllByRecursion}
 use Rattle.record_codec.specs.Widths.{IsWideEdit}
-use Rattle.record_codec.specs.Places.{HasTextsInEdit}
+use Rattle.record_codec.specs.Offsets.{HasTextsInEdit}
 use Rattle.record_codec.proofs.memory.edits_fit.Given as goal
 
 abbrev pub invariant-loop-edit : goal.invariant-loop-edit

@@ -1,7 +1,6 @@
-use Rattle.std.proofs.Common.{arith}
 use Rattle.std.specs.Str.{IsUtf8}
 use Rattle.record_codec.specs.Widths.{LengthFitsIn64Bits}
-use Rattle.record_codec.proofs.Wide.{all_more, all_done}
+use Rattle.record_codec.proofs.Wide.{all_more}
 use Rattle.record_codec.proofs.memory.texts_fit.Goals as goal
 
 pub loop-text-preserved : goal.loop-text-preserved

@@ -1,7 +1,0 @@
-use Rattle.std.proofs.Common.{◌≡◌, ◌++◌, length, take}
-use Rattle.std.specs.List.{flat_map}
-use Rattle.record_codec.specs.Spelling.{number, blob}
-use Rattle.record_codec.proofs.fields.put_blobs.Given as goal
-
-abbrev pub invariant-loop-bytes : goal.invariant-loop-bytes
-invariant-loop-bytes l = l.out.items ≡ l.fn.out.items ++ (number (length l.blobs) ++ flat_map blob (take l.bytes-index l.blobs))
