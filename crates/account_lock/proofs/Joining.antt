@@ -4,7 +4,8 @@ use Rattle.atomic_table.specs.Seated.{TableId}
 use Rattle.mail_records.specs.Histories.{Entry}
 use Rattle.account_lock.specs.Entries.{StartsWith}
 use Rattle.account_lock.specs.Views.{View, joined, ended_with}
-use Rattle.account_lock.specs.Passes.{PassFacts, facts_of, taken_in}
+use Rattle.account_lock.specs.Views.{PassFacts, facts_of}
+use Rattle.account_lock.specs.Passes.{taken_in}
 use Rattle.account_lock.proofs.Entries.{then_longer}
 
 -- it has seen the longer list

@@ -8,18 +8,19 @@ use lib.ListN.{get_elem?}
 use Rattle.atomic_table.specs.Table.{State, Splits, Joins, opening}
 use Rattle.atomic_table.proofs.Lists.{at_set, set_else, at_longer, at_last}
 use Rattle.mail_records.specs.Histories.{Entry}
+use Rattle.account_lock.specs.declared.limits.TheConstants.{MAX_NAMES}
 use Rattle.account_lock.specs.Entries.{under, StartsWith}
 use Rattle.account_lock.specs.Views.{Ended, Origin, View, HasName, one_given, newcomer, joined, ended_with, spent, rooted}
 use Rattle.account_lock.specs.Rule.{Fits, IsKept, Knows, weight}
 use Rattle.account_lock.proofs.Places.{not_true, zero_or, same_at, set_at, views_stay, pairs_stay, waiting_set, waiting_append, at_end, at_append, at_after, nothing_there, names_set, names_append, names_two, has_some, cover_stays}
 use Rattle.account_lock.proofs.Entries.{then_whole, then_starts, then_other}
 
-module _ {Y : Type 0} (shows : Y → List Entry) (origin : Y → Origin) where
+module _ {Y : Type 0} (shows : Y → List Entry) (origin : Y → Origin) (built : Y) where
   abbrev St : Type 0
   St = State (Option Y) View
 
   abbrev Rule : St → Type 0
-  Rule = IsKept shows origin
+  Rule = IsKept shows origin built
 
   -- a name that a view has was given
   given_name : (s : St) (r : Rule s) (j n : ℕ) (d : View) → get_elem? s.views j ≡ some d → HasName d n → n ≤ r.given
@@ -30,7 +31,7 @@ module _ {Y : Type 0} (shows : Y → List Entry) (origin : Y → Origin) where
   sorted : (vs : List View) (v w : View) (j : ℕ) (d : View) → get_elem? (vs ++ w ∷ []) j ≡ some d → (get_elem? vs j ≡ some d) ⊎ ((j ≡ length vs) × (w ≡ d))
   sorted vs v w j d e = at_end vs w d j e
 
-  pub splits : (me : ℕ) (v : View) → v.root ≡ true → v.given < 2 ^ 53 → Splits Rule me v (one_given v) (newcomer v)
+  pub splits : (me : ℕ) (v : View) → v.root ≡ true → v.given < MAX_NAMES → Splits Rule me v (one_given v) (newcomer v)
   splits me v root room s r at =
       let f = r.each me v at in
       let top = f.root root in
@@ -120,6 +121,7 @@ module _ {Y : Type 0} (shows : Y → List Entry) (origin : Y → Origin) where
         home = λ free. r.home (λ j d at_j. dite (ℕ_discrete j me)
             (λ e. ap (λ (x : View). x.turn) (same_at s.views me d v (subst (λ (k : ℕ). get_elem? s.views k ≡ some d) e at_j) at) ∙ free me l (at_longer vs (w ∷ []) me l (set_at s.views me v l at)))
             (λ other. free j d (at_longer vs (w ∷ []) j d (set_else s.views me j l other ∙ at_j))));
+        untouched = λ none_given. absurd (omega arith);
         counted = let names = names_set s.views me v l at in let more = names_append vs (w ∷ []) in let all = r.counted in let g = top.2 in omega arith;
         covered = λ n p q. dite (ℕ_discrete n (r.given + 1))
             (λ e. (length vs, w, at_last vs w (length vs) refl, inl (let g = top.2 in omega arith)))
@@ -257,6 +259,7 @@ module _ {Y : Type 0} (shows : Y → List Entry) (origin : Y → Origin) where
             (λ e. ap (λ (x : View). x.turn) (same_at s.views me d v (subst (λ (i : ℕ). get_elem? s.views i ≡ some d) e at_k) at)
             ∙ free me j (set_else one other me spent (λ q. apart (sym q)) ∙ set_at s.views me v j at))
             (λ elsewhere. free k d (set_else one other k spent differs ∙ (set_else s.views me k j elsewhere ∙ at_k)))));
+        untouched = r.untouched;
         counted = let n1 = names_set s.views me v j at in let n2 = names_set one other w spent at_other in let all = r.counted in let long = length-append v.ended (ended_with w) in omega arith;
         covered = λ n p q. let c = r.covered n p q in dite (ℕ_discrete c.0 other)
             (λ e. (me, j, set_else one other me spent (λ x. apart (sym x)) ∙ set_at s.views me v j at, second_name n (subst (λ (x : View). HasName x n) (same_at s.views other c.1 w (subst (λ (k : ℕ). get_elem? s.views k ≡ some c.1) e c.2) at') c.3)))
@@ -267,8 +270,8 @@ module _ {Y : Type 0} (shows : Y → List Entry) (origin : Y → Origin) where
       }
 
   -- the rule at the start
-  pub opens : (y : Y) (n : Origin) → shows y ≡ [] → origin y ≡ n → Rule (opening (0 ∷ 0 ∷ 0 ∷ []) (Some y ∷ []) (rooted n))
-  opens y n none_yet same =
+  pub opens : (y : Y) (n : Origin) → shows y ≡ [] → origin y ≡ n → built ≡ y → Rule (opening (0 ∷ 0 ∷ 0 ∷ []) (Some y ∷ []) (rooted n))
+  opens y n none_yet same is_built =
       let one : (j : ℕ) (d : View) → get_elem? (rooted n ∷ []) j ≡ some d → (j ≡ 0) × (rooted n ≡ d) = at_one (rooted n) in record {
         drawn = 0;
         served = 0;
@@ -297,6 +300,7 @@ module _ {Y : Type 0} (shows : Y → List Entry) (origin : Y → Origin) where
         apart = λ i j a b at_i at_j x y z. (one i a at_i).0 ∙ sym (one j b at_j).0;
         named = λ i j m a b at_i at_j x y z. (one i a at_i).0 ∙ sym (one j b at_j).0;
         home = λ _. (y, refl, none_yet, same);
+        untouched = λ _. ap (λ (x : Y). some (some (Some x))) (sym is_built);
         counted = refl;
         covered = λ m p q. absurd (omega arith);
         strangers = λ m _. refl;
@@ -321,7 +325,7 @@ module _ {Y : Type 0} (shows : Y → List Entry) (origin : Y → Origin) where
   -- where every name but the root's has ended, the value is at home, and each entry has one of these names
   pub ends : (s : St) (me : ℕ) (v : View) → Rule s → get_elem? s.views me ≡ some v → v.root ≡ true
       → ((n : ℕ) → 0 < n → n ≤ v.given → (i : ℕ) × (e : Ended) × (get_elem? v.ended i ≡ some e) × (e.name ≡ n))
-      → (y : Y) × (get_elem? s.homes 0 ≡ some (some (Some y))) × StartsWith (shows y) v.seen × Knows v (shows y) × ((n : ℕ) → (n ≡ 0) ⊎ (v.given < n) → under n (shows y) ≡ []) × (origin y ≡ v.origin)
+      → (y : Y) × (get_elem? s.homes 0 ≡ some (some (Some y))) × StartsWith (shows y) v.seen × Knows v (shows y) × ((n : ℕ) → (n ≡ 0) ⊎ (v.given < n) → under n (shows y) ≡ []) × (origin y ≡ v.origin) × (v.given ≡ 0 → y ≡ built)
   ends s me v r at root all =
       let f = r.each me v at in
       let top = f.root root in
@@ -346,4 +350,8 @@ module _ {Y : Type 0} (shows : Y → List Entry) (origin : Y → Origin) where
         subst (Knows v) (sym h.2) f.knows,
         (λ n out. ap (under n) h.2 ∙ r.strangers n (⊎_elim (λ (z : n ≡ 0). inl z) (λ (z : v.given < n). inr (omega arith)) out)),
         h.3 ∙ sym (f.origin (inl root)),
+        (λ none_given. same_value (sym h.1 ∙ r.untouched (sym c ∙ none_given))),
       )
+    where
+      same_value : {x z : Y} → some (some (Some x)) ≡ some (some (Some z)) → x ≡ z
+      same_value e = cc e

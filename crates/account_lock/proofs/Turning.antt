@@ -16,12 +16,12 @@ use Rattle.account_lock.specs.Steps.{unchanged, looked_back, drew, tried, watche
 use Rattle.account_lock.proofs.Places.{not_true, same_at, set_at, zero_or, views_stay, pairs_stay, waiting_set, waiting_le, names_set, names_one, cover_stays}
 use Rattle.account_lock.proofs.Entries.{under_stays, starts_here, starts_longer, starts_trans}
 
-module _ {Y : Type 0} (shows : Y → List Entry) (origin : Y → Origin) where
+module _ {Y : Type 0} (shows : Y → List Entry) (origin : Y → Origin) (built : Y) where
   abbrev St : Type 0
   St = State (Option Y) View
 
   abbrev Rule : St → Type 0
-  Rule = IsKept shows origin
+  Rule = IsKept shows origin built
 
   abbrev AllFree : List View → Type 0
   AllFree vs = (j : ℕ) (v : View) → get_elem? vs j ≡ some v → v.turn ≡ false
@@ -84,6 +84,7 @@ module _ {Y : Type 0} (shows : Y → List Entry) (origin : Y → Origin) where
         apart = r.apart;
         named = r.named;
         home = r.home;
+        untouched = r.untouched;
         counted = r.counted;
         covered = r.covered;
         strangers = r.strangers;
@@ -146,6 +147,7 @@ module _ {Y : Type 0} (shows : Y → List Entry) (origin : Y → Origin) where
           apart = tickets_stay s r me w (λ j b other at_j t. let u = (r.each j b at_j).ticket t.1 in let e = t.2 in omega arith);
           named = names_stay s r me v w at (λ n h. h);
           home = λ free. r.home (free_before s.views me v w at refl free);
+          untouched = r.untouched;
           counted = let names = names_set s.views me v w at in let all = r.counted in omega arith;
           covered = λ n p q. cover_stays s.views me v w at (λ m h. h) n (r.covered n p q);
           strangers = r.strangers;
@@ -241,6 +243,7 @@ module _ {Y : Type 0} (shows : Y → List Entry) (origin : Y → Origin) where
           apart = tickets_stay s r me w (λ j b other at_j t. other (r.apart j me b v at_j at t.1 waits (sym t.2)));
           named = names_stay s r me v w at (λ n x. x);
           home = λ none_has. let t = none_has me w (set_at s.views me v w at) in absurd (cc t);
+          untouched = λ none_given. let some_name = named_if s r me v at waits in let b = f.name in absurd (omega arith);
           counted = let names = names_set s.views me v w at in let all = r.counted in omega arith;
           covered = λ n p q. cover_stays s.views me v w at (λ m h. h) n (r.covered n p q);
           strangers = r.strangers;
@@ -304,6 +307,7 @@ module _ {Y : Type 0} (shows : Y → List Entry) (origin : Y → Origin) where
         apart = tickets_stay s r me w (λ j x other at_j t. other (r.apart j me x v at_j at t.1 t.0 (sym t.2)));
         named = names_stay s r me v w at (λ n x. x);
         home = λ none_has. let t = none_has me w (set_at s.views me v w at) in absurd (cc (t, turn));
+        untouched = λ none_given. let some_name = named_if s r me v at (f.turn turn).0 in let b = f.name in absurd (omega arith);
         counted = let names = names_set s.views me v w at in let all = r.counted in omega arith;
         covered = λ n p q. cover_stays s.views me v w at (λ m h. h) n (r.covered n p q);
         strangers = r.strangers;
@@ -382,6 +386,7 @@ module _ {Y : Type 0} (shows : Y → List Entry) (origin : Y → Origin) where
           apart = tickets_stay s r me w (λ j b other at_j t. absurd (cc (t.0)));
           named = names_stay s r me v w at (λ n x. x);
           home = λ _. (y, set_here s.homes 0 (some (Some y)) one_slot', refl, same ∙ f.origin (inr some_name));
+          untouched = λ none_given. let b = f.name in absurd (omega arith);
           counted = let names = names_set s.views me v w at in let all = r.counted in omega arith;
           covered = λ n p q. cover_stays s.views me v w at (λ m h. h) n (r.covered n p q);
           strangers = λ n out. stays n (λ e. let b = f.name in ⊎_elim (λ (z : n ≡ 0). absurd (omega arith)) (λ (z : r.given < n). absurd (omega arith)) out) ∙ r.strangers n out;

@@ -1,4 +1,4 @@
--- Lists of entries: those that stand under one name, and beginnings of a list.
+-- Lists of entries: those under one name, and prefixes of a list.
 use Rattle.std.specs.Prelude.{◌≡◌, ℕ, ◌==◌, List, [], ◌∷◌, ◌++◌, if◌then◌else◌}
 use Rattle.mail_records.specs.Histories.{Entry, entry_pass}
 
@@ -20,7 +20,7 @@ StartsWith log seen = (rest : List Entry) × (log ≡ seen ++ rest)
 abbrev pub ExtendsUnder : ℕ → List Entry → List Entry → Type 0
 ExtendsUnder n seen log = (more : List Entry) × (log ≡ seen ++ more) × AreUnder n more
 
--- of two beginnings of one list the longer one
+-- of two prefixes of one list the longer one
 abbrev pub longer_of : List Entry → List Entry → List Entry
 longer_of [] ys = ys
 longer_of (x ∷ xs) [] = x ∷ xs

@@ -1,12 +1,15 @@
-//! A lock round the value of one account. Whoever shares the account takes turns, and each turn sees all that earlier turns added.
+//! A lock around the value of one account. Whoever shares the account takes turns, and each turn
+//! sees all that earlier turns added.
 //!
-//! It is a ticket lock: one word counts the tickets that were drawn, another shows the ticket that is served, a third over which turn a
-//! thread parked last, and the value lies in a slot that only the holder of the served ticket touches. Each thread has a [`Pass`], under whose name its entries stand in the value's history.
-//! The contracts say what the holder of a pass may know of that history: it never gets shorter, and the entries under the pass's own name,
-//! and under the names of passes that were joined with it, are exactly those that were given under them.
+//! It is a ticket lock: one word counts the tickets that were drawn, another shows the ticket that
+//! is served, a third over which turn a thread parked last, and the value is in a slot that only
+//! the holder of the served ticket touches. Each thread has a [`Pass`], under whose name its
+//! entries are in the value's history. The contracts say what the holder of a pass may know of that
+//! history: it never gets shorter, and the entries under the pass's own name, and under the names
+//! of passes that were joined with it, are exactly those that were given under them.
 #![tactic(auto)]
 
-mod diary;
+mod limits;
 mod lock;
 mod rule;
 mod standing;
@@ -15,7 +18,7 @@ mod steps;
 mod tests;
 mod view;
 
-pub use diary::{Diary, enter_in_turn};
+pub use limits::MAX_NAMES;
 pub use lock::{AccountLock, Pass};
 pub use rule::Turns;
 pub use standing::Standing;

@@ -3,6 +3,7 @@ ghost use Rattle.std.specs.Prelude.{◌≡◌, ◌<◌, ◌^◌, ◌+◌, ◌∷
 ghost use Rattle.account_lock.specs.Entries.{under, StartsWith, ExtendsUnder};
 ghost use Rattle.account_lock.specs.Passes.{KeepsEnded, IsLast, HasEndedAll, HasNoOthers, root_of, split_off, taken_in};
 
+use crate::limits::MAX_NAMES;
 use crate::rule::{Naming, Turns};
 use crate::standing::Standing;
 use crate::steps::{await_turn, draw_ticket, lay_back, lift, look_back};
@@ -15,30 +16,37 @@ use std::mem;
 use std::snapshot::Snapshot;
 use std::sync::Wait;
 
-/// A lock round the value of one account. Contracts see which lock it is.
+/// A lock around the value of one account. Contracts see which lock it is, and the value that it
+/// was built around.
 ///
-/// Nothing is promised of waiting: not that a turn comes, nor that a parked thread wakes. A pass that is dropped while its holder has the
-/// value keeps the turn for ever, and every other `take` waits for ever.
+/// Nothing is promised about waiting: not that a turn comes, nor that a parked thread wakes. A pass
+/// that is dropped while its holder has the value keeps the turn forever, and every other `take`
+/// waits forever.
 #[derive(Drop)]
 pub struct AccountLock<B: Standing> {
     pub(crate) table: Table<Option<Box<B>>, PassView, Snapshot<Box<B>>, Turns<B>, Global>,
 }
 
 impl<B: Standing> Model for AccountLock<B> {
-    ghost use Rattle.atomic_table.specs.Seated.{TableId};
+    ghost use Rattle.account_lock.specs.Views.{LockFacts};
     ghost use Rattle.account_lock.specs.Steps.{IsLockTable};
 
-    ghost Value = { TableId };
+    ghost Value = { LockFacts B };
 
-    ghost view = { λ l. l.table.shared.table_id };
+    ghost view = { λ l. record {
+      id = l.table.shared.table_id;
+      built = l.table.shared.key.value.value;
+    } };
 
     ghost invariant = { λ l. IsLockTable l.table.shared.table_id };
 }
 
-/// The right to take turns at one lock, under a name. Contracts see its lock, its name, what its holder has seen, the entries that it
-/// gave, and the names that ended with it, each with its entries.
+/// The right to take turns at one lock, under a name. Contracts see its lock, its name, what its
+/// holder has seen, the entries that were given under it, and the names that ended with it, each
+/// with its entries.
 ///
-/// The first pass of a lock is its root. It takes no turns: it gives the names, and at the end it closes the lock.
+/// The first pass of a lock is its root. It takes no turns: it gives the names, and at the end it
+/// closes the lock.
 #[derive(Drop)]
 pub struct Pass {
     name: u64,
@@ -47,7 +55,7 @@ pub struct Pass {
 }
 
 impl Model for Pass {
-    ghost use Rattle.account_lock.specs.Passes.{PassFacts, facts, IsSettled};
+    ghost use Rattle.account_lock.specs.Views.{PassFacts, facts, IsSettled};
 
     ghost Value = { PassFacts };
 
@@ -56,7 +64,7 @@ impl Model for Pass {
     ghost invariant = { λ p. IsSettled p.name p.given p.badge.views };
 }
 
-// A list of one slot with the value in it.
+// Returns a list of one slot with the value in it, or the value if memory runs out.
 fn one_slot<B: Standing>(alloc: Global, value: Box<B>) -> Result<Vec<Option<Box<B>>>, Box<B>>
     ensures ok { IfOk result (λ v. v.items ≡ Some value ∷ []) }
     ensures err { IfErr result (λ b. b ≡ value) }
@@ -72,10 +80,13 @@ fn one_slot<B: Standing>(alloc: Global, value: Box<B>) -> Result<Vec<Option<Box<
 }
 
 impl<B: Standing> AccountLock<B> {
-    /// The lock, with its root. The value has no entry since its start. Where no memory is left, the value comes back.
+    /// Returns the lock and its root. The value has no entry since its start. If memory runs out,
+    /// the value comes back.
     pub fn build(alloc: Global, value: Box<B>) -> Result<(AccountLock<B>, Pass), Box<B>>
         requires { B.entries value.value ≡ [] }
-        ensures ok { IfOk result (λ r. r.1 ≡ root_of r.0 (B.before value.value) (B.opening value.value)) }
+        ensures built { IfOk result (λ r. r.0.built ≡ value.value) }
+        ensures root { IfOk result (λ r. r.1 ≡ root_of r.0.id (B.before value.value)
+            (B.opening value.value)) }
         ensures err { IfErr result (λ b. b ≡ value) }
     {
         let about = Snapshot::of(&value);
@@ -96,10 +107,11 @@ impl<B: Standing> AccountLock<B> {
         }
     }
 
-    /// Waits for the turn, and takes the value. Its entries begin with those that the pass has seen; under the pass's own name stand
-    /// exactly those that it gave, and under each ended name exactly those kept with it.
+    /// Waits for the turn, and returns the value. Its entries begin with those that the pass has
+    /// seen. Under the pass's own name they are exactly those that were given under it, and under
+    /// each ended name exactly those kept with that name.
     pub fn take<R: Wait>(&self, rt: &R, pass: &mut Pass) -> Box<B>
-        requires lock { pass.old.lock ≡ self.now }
+        requires lock { pass.old.lock ≡ self.now.id }
         requires free { (pass.old.root ≡ false) × (pass.old.holds ≡ false) }
         ensures pass { pass.new ≡ record pass.old { holds = true; seen = B.entries result.value } }
         ensures seen { StartsWith (B.entries result.value) pass.old.seen }
@@ -109,42 +121,47 @@ impl<B: Standing> AccountLock<B> {
         ensures opening { B.opening result.value ≡ pass.old.opening }
     {
         let words = &self.table.shared;
-        let mut place = mem::replace(&mut pass.badge, Badge::blank()).into_seat::<Option<Box<B>>>();
-        let ticket = draw_ticket(rt, words, &mut place);
-        await_turn(rt, words, &mut place, ticket);
-        let value = lift(words, &mut place);
-        pass.badge = place.into_badge();
+        let mut seat = mem::replace(&mut pass.badge, Badge::blank()).into_seat::<Option<Box<B>>>();
+        let ticket = draw_ticket(rt, words, &mut seat);
+        await_turn(rt, words, &mut seat, ticket);
+        let value = lift(words, &mut seat);
+        pass.badge = seat.into_badge();
         value
     }
 
-    /// Gives the value back, and passes the turn on. Its entries are those that were taken, and after them entries under this pass's
-    /// name alone.
+    /// Gives the value back, and passes the turn on. Its entries are those that were taken, and
+    /// after them entries under this pass's name alone.
     pub fn give(&self, pass: &mut Pass, value: Box<B>)
-        requires lock { pass.old.lock ≡ self.now }
+        requires lock { pass.old.lock ≡ self.now.id }
         requires holds { pass.old.holds ≡ true }
         requires entries { ExtendsUnder pass.old.name pass.old.seen (B.entries value.value) }
         requires before { B.before value.value ≡ pass.old.before }
         requires opening { B.opening value.value ≡ pass.old.opening }
-        ensures { pass.new ≡ record pass.old { holds = false; seen = B.entries value.value; own = under pass.old.name (B.entries value.value) } }
+        ensures { pass.new ≡ record pass.old {
+          holds = false;
+          seen = B.entries value.value;
+          own = under pass.old.name (B.entries value.value);
+        } }
     {
         let words = &self.table.shared;
-        let mut place = mem::replace(&mut pass.badge, Badge::blank()).into_seat::<Option<Box<B>>>();
-        lay_back(words, &mut place, value);
-        pass.badge = place.into_badge();
+        let mut seat = mem::replace(&mut pass.badge, Badge::blank()).into_seat::<Option<Box<B>>>();
+        lay_back(words, &mut seat, value);
+        pass.badge = seat.into_badge();
     }
 
-    /// A pass with the next name, which has seen what the root has seen. It takes no memory and never refuses.
+    /// Returns a pass with the next name, which has seen what the root has seen. It takes no memory
+    /// and never fails.
     pub fn split(&self, pass: &mut Pass) -> Result<Pass, NoMemory>
-        requires lock { pass.old.lock ≡ self.now }
-        requires root { (pass.old.root ≡ true) × (pass.old.given < 2 ^ 53) }
+        requires lock { pass.old.lock ≡ self.now.id }
+        requires root { (pass.old.root ≡ true) × (pass.old.given < MAX_NAMES) }
         ensures root { pass.new ≡ record pass.old { given = pass.old.given + 1 } }
         ensures new { result ≡ Ok (split_off pass.old) }
     {
         let words = &self.table.shared;
-        let mut place = mem::replace(&mut pass.badge, Badge::blank()).into_seat::<Option<Box<B>>>();
-        let new = words.split_seat::<Naming>(&mut place);
+        let mut seat = mem::replace(&mut pass.badge, Badge::blank()).into_seat::<Option<Box<B>>>();
+        let new = words.split_seat::<Naming>(&mut seat);
         pass.given += 1;
-        pass.badge = place.into_badge();
+        pass.badge = seat.into_badge();
         Ok(Pass {
             name: pass.given,
             given: 0,
@@ -152,10 +169,11 @@ impl<B: Standing> AccountLock<B> {
         })
     }
 
-    /// Ends `other`, and adds to the pass's ended names its name with the entries that it gave, and its ended names. The pass has then
-    /// seen the longer of what the two have seen. Where its holder has the value, that is what it had seen, so the value can be given as before.
+    /// Ends `other`, and adds its name with its entries, and its ended names, to the ended names of
+    /// `pass`. The pass has then seen the longer of what the two have seen. If its holder has the
+    /// value, that is what it had seen, so the value can be given as before.
     pub fn join(&self, pass: &mut Pass, other: Pass)
-        requires lock { (pass.old.lock ≡ self.now) × (other.lock ≡ self.now) }
+        requires lock { (pass.old.lock ≡ self.now.id) × (other.lock ≡ self.now.id) }
         requires other { (other.root ≡ false) × (other.holds ≡ false) }
         ensures pass { pass.new ≡ taken_in pass.old other }
         ensures seen { StartsWith pass.new.seen pass.old.seen }
@@ -165,16 +183,18 @@ impl<B: Standing> AccountLock<B> {
     {
         let words = &self.table.shared;
         let Pass { badge, .. } = other;
-        let mut place = mem::replace(&mut pass.badge, Badge::blank()).into_seat::<Option<Box<B>>>();
-        words.join_seat::<Naming>(&mut place, badge.into_seat::<Option<Box<B>>>());
-        look_back(words, &mut place);
-        pass.badge = place.into_badge();
+        let mut seat = mem::replace(&mut pass.badge, Badge::blank()).into_seat::<Option<Box<B>>>();
+        words.join_seat::<Naming>(&mut seat, badge.into_seat::<Option<Box<B>>>());
+        look_back(words, &mut seat);
+        pass.badge = seat.into_badge();
     }
 
-    /// The value, once each pass that the root split off was joined, with the root or with one that was. Then each name that was given has
-    /// ended. Each entry of the value is under an ended name, and under each ended name stand exactly the entries kept with it.
+    /// Returns the value, after each pass that the root split off was joined with the root, or with
+    /// one that was. So each name that was given has ended. Each entry of the value is under an
+    /// ended name, and under each ended name are exactly the entries kept with it. If no name was
+    /// given, it is the value that the lock was built around.
     pub fn close(self, pass: Pass) -> Box<B>
-        requires lock { pass.lock ≡ self }
+        requires lock { pass.lock ≡ self.id }
         requires root { (pass.root ≡ true) × IsLast pass }
         ensures seen { StartsWith (B.entries result.value) pass.seen }
         ensures ended { KeepsEnded pass (B.entries result.value) }
@@ -182,6 +202,7 @@ impl<B: Standing> AccountLock<B> {
         ensures names { HasNoOthers pass (B.entries result.value) }
         ensures before { B.before result.value ≡ pass.before }
         ensures opening { B.opening result.value ≡ pass.opening }
+        ensures built { pass.given ≡ 0 → result.value ≡ self.built }
     {
         let AccountLock { table } = self;
         let Pass { badge, .. } = pass;
@@ -193,7 +214,7 @@ impl<B: Standing> AccountLock<B> {
 }
 
 impl Pass {
-    /// Its name in the lock, which is 0 for the root.
+    /// Returns its name in the lock, which is 0 for the root.
     pub fn name(&self) -> u64
         ensures { result ≡ self.now.name }
     {

@@ -1,14 +1,15 @@
 // The rule of the table under a lock, and what each of its steps tells the thread that makes it.
 //
-// The rule is a fact about the words, the slot and the views of all passes. The table keeps it between any two steps, and each step
-// is proved to keep it. So a thread can rely on it whatever the others do.
+// The rule is a fact about the words, the slot and the views of all passes. The table keeps it
+// between any two steps, and each step is proved to keep it. So a thread can rely on it whatever
+// the others do.
 use crate::standing::Standing;
 use crate::view::PassView;
 use atomic_table::{Join, Play, Seat, Shared, Split, TableRule};
 use std::marker::PhantomData;
 use std::snapshot::Snapshot;
 
-/// The rule of a lock round a `B`. No value of it is made.
+/// The rule of a lock around a `B`. No value of it is made.
 pub struct Turns<B> {
     of: PhantomData<B>,
 }
@@ -17,16 +18,20 @@ impl<B: Standing> TableRule<Option<Box<B>>, PassView, Snapshot<Box<B>>> for Turn
     ghost use Rattle.account_lock.specs.Rule.{IsKept};
     ghost use Rattle.account_lock.specs.Views.{rooted};
 
-    ghost holds = { λ _. IsKept (λ b. B.entries b.value) (λ b. record { before = B.before b.value; opening = B.opening b.value }) };
+    ghost holds = { λ key. IsKept (λ b. B.entries b.value)
+        (λ b. record { before = B.before b.value; opening = B.opening b.value }) key.value };
 
-    ghost first = { λ key. rooted record { before = B.before key.value.value; opening = B.opening key.value.value } };
+    ghost first = { λ key. rooted record {
+      before = B.before key.value.value;
+      opening = B.opening key.value.value;
+    } };
 }
 
 /// The words and the slot of a lock, as threads share them.
 pub(crate) type Words<B> = Shared<Option<Box<B>>, PassView, Snapshot<Box<B>>, Turns<B>>;
 
 /// What one thread makes its steps with: its view, and the slot while that is in its hands.
-pub(crate) type Place<B> = Seat<Option<Box<B>>, PassView>;
+pub(crate) type LockSeat<B> = Seat<Option<Box<B>>, PassView>;
 
 // A ticket is drawn.
 pub(crate) struct DrawTicket<B> {
@@ -39,7 +44,7 @@ impl<B: Standing> Play<Option<Box<B>>, PassView> for DrawTicket<B> {
     ghost then = { λ _. drew };
 }
 
-// A ticket is drawn where the ticket word shows the number that was expected.
+// A ticket is drawn if the ticket word shows the number that was expected.
 pub(crate) struct TryTicket<B> {
     of: PhantomData<B>,
 }
@@ -50,7 +55,8 @@ impl<B: Standing> Play<Option<Box<B>>, PassView> for TryTicket<B> {
     ghost then = { λ s. tried s.first };
 }
 
-// The serving word is watched. Where it shows the ticket, the turn has come and the slot is in hand.
+// The serving word is watched. If it shows the ticket, the turn has come and the thread has the
+// slot.
 pub(crate) struct WatchServing<B> {
     of: PhantomData<B>,
 }
@@ -58,10 +64,13 @@ pub(crate) struct WatchServing<B> {
 impl<B: Standing> Play<Option<Box<B>>, PassView> for WatchServing<B> {
     ghost use Rattle.account_lock.specs.Steps.{watched};
 
-    ghost then = { λ _. watched (λ b. B.entries b.value) (λ b. record { before = B.before b.value; opening = B.opening b.value }) };
+    ghost then = { λ _. watched (λ b. B.entries b.value) (λ b. record {
+      before = B.before b.value;
+      opening = B.opening b.value;
+    }) };
 }
 
-// The slot goes home empty, while the value is with the caller.
+// The slot is given back to the table empty, while the caller has the value.
 pub(crate) struct LeaveEmpty<B> {
     of: PhantomData<B>,
 }
@@ -72,7 +81,7 @@ impl<B: Standing> Play<Option<Box<B>>, PassView> for LeaveEmpty<B> {
     ghost then = { λ _. left_empty };
 }
 
-// The empty slot is taken again, for the value to be laid in.
+// The empty slot is taken again, so that the value can be put into it.
 pub(crate) struct TakeEmpty<B> {
     of: PhantomData<B>,
 }
@@ -83,7 +92,7 @@ impl<B: Standing> Play<Option<Box<B>>, PassView> for TakeEmpty<B> {
     ghost then = { λ _. took_empty };
 }
 
-// The value goes home, and the turn to the next ticket.
+// The value is given back to the table, and the turn passes to the next ticket.
 pub(crate) struct PassTurn<B> {
     of: PhantomData<B>,
 }
@@ -94,7 +103,7 @@ impl<B: Standing> Play<Option<Box<B>>, PassView> for PassTurn<B> {
     ghost then = { λ _. passed_on (λ b. B.entries b.value) };
 }
 
-// It is noted over which turn a thread parks, and nothing else changes.
+// The parked word is raised to the turn over which a thread parks, and nothing else changes.
 pub(crate) struct MarkParked;
 
 impl<B: Standing> Play<Option<Box<B>>, PassView> for MarkParked {

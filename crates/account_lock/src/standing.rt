@@ -1,11 +1,13 @@
-// What the lock has to know of the value behind it.
+// What the lock has to know of the value that it guards.
 
-/// A value with a history. It has no calls: the lock only moves the value, and says in its contracts what the value shows.
+/// A value with a history. The trait has no calls: the lock only moves the value, and its contracts
+/// speak of these members.
 pub trait Standing: Drop {
     ghost use Rattle.std.specs.Prelude.{List, ℕ};
     ghost use Rattle.mail_records.specs.Histories.{Entry, History};
 
-    /// The entries since the value's start, in order. The pass in an entry's stamp is the name of a pass of the lock.
+    /// The entries since the value's start, in order. The pass in an entry's stamp is the name of a
+    /// pass of the lock.
     ghost entries: { Self → List Entry };
 
     /// How many entries there were before its start.

@@ -4,7 +4,7 @@ ghost use Rattle.account_lock.specs.Entries.{StartsWith, ExtendsUnder, under};
 ghost use Rattle.account_lock.specs.Steps.{IsLockTable, Got, drew};
 
 use crate::rule::{
-    DrawTicket, LeaveEmpty, LookBack, MarkParked, PassTurn, Place, TakeEmpty, TryTicket,
+    DrawTicket, LeaveEmpty, LockSeat, LookBack, MarkParked, PassTurn, TakeEmpty, TryTicket,
     WatchServing, Words,
 };
 use crate::standing::Standing;
@@ -12,7 +12,7 @@ use std::hint;
 use std::sync::Wait;
 
 // The word that counts the tickets drawn.
-const TICKET: usize = 0;
+pub(crate) const TICKET: usize = 0;
 
 // The word that shows the ticket which is served.
 pub(crate) const SERVING: usize = 1;
@@ -21,143 +21,165 @@ pub(crate) const SERVING: usize = 1;
 pub(crate) const PARKED: usize = 2;
 
 // How often a waiter looks at the words before it parks.
-const LOOKS: u32 = 1000;
+const LOOKS_BEFORE_PARKING: u32 = 1000;
 
-// How often it looks before it draws a ticket of a lock that isn't free. It has then parked three times.
-const PATIENCE: u32 = 3 * (LOOKS + 1);
+// How often it looks before it draws a ticket though the lock isn't free. It has then parked three
+// times.
+const LOOKS_BEFORE_DRAWING: u32 = 3 * (LOOKS_BEFORE_PARKING + 1);
 
-// Draws a ticket, and answers what the ticket word showed. It is drawn where the lock looks free, so that threads that don't run mostly
-// hold none, and those that run needn't wait for them. Who has parked some times without finding it free draws in any case, and so has
-// a place in the order.
+// Draws a ticket, and returns what the ticket word showed. It is drawn while the lock looks free,
+// so that threads that don't run mostly hold none, and those that run needn't wait for them. A
+// thread that has parked some times without finding the lock free draws in any case, and so has its
+// turn in the order of tickets.
 pub(crate) fn draw_ticket<B: Standing, R: Wait>(
     rt: &R,
     words: &Words<B>,
-    place: &mut Place<B>,
+    seat: &mut LockSeat<B>,
 ) -> u64
-    requires table { (place.old.table_id ≡ words.now.table_id) × IsLockTable words.now.table_id }
-    requires ready { (place.old.me.0.waits ≡ false) × (0 < place.old.me.0.name) }
-    ensures table { place.new.table_id ≡ place.old.table_id }
-    ensures ticket { drew place.old.me result place.new.me }
+    requires table { (seat.old.table_id ≡ words.now.table_id) × IsLockTable words.now.table_id }
+    requires ready { (seat.old.me.0.waits ≡ false) × (0 < seat.old.me.0.name) }
+    ensures table { seat.new.table_id ≡ seat.old.table_id }
+    ensures ticket { drew seat.old.me result seat.new.me }
 {
     let mut looks = 0;
-    for _ in 0..PATIENCE {
+    for _ in 0..LOOKS_BEFORE_DRAWING {
         let found = words.peek(SERVING);
-        if words.peek(TICKET) == found && try_ticket(words, place, found) {
+        if words.peek(TICKET) == found && try_ticket(words, seat, found) {
             return found;
         }
-        looks = look_again(rt, words, place, found, looks);
+        looks = look_again(rt, words, seat, found, looks);
     }
-    words.fetch_add::<DrawTicket<B>>(place, TICKET, 1)
+    words.fetch_add::<DrawTicket<B>>(seat, TICKET, 1)
 }
 
-// Draws the ticket with this number, where the ticket word still shows it.
-fn try_ticket<B: Standing>(words: &Words<B>, place: &mut Place<B>, found: u64) -> bool
-    requires table { (place.old.table_id ≡ words.now.table_id) × IsLockTable words.now.table_id }
-    requires ready { (place.old.me.0.waits ≡ false) × (0 < place.old.me.0.name) }
-    ensures table { place.new.table_id ≡ place.old.table_id }
-    ensures drawn { result ≡ true → drew place.old.me found place.new.me }
-    ensures not { result ≡ false → place.new.me ≡ place.old.me }
+// Draws the ticket with this number if the ticket word still shows it, and returns whether it did.
+fn try_ticket<B: Standing>(words: &Words<B>, seat: &mut LockSeat<B>, found: u64) -> bool
+    requires table { (seat.old.table_id ≡ words.now.table_id) × IsLockTable words.now.table_id }
+    requires ready { (seat.old.me.0.waits ≡ false) × (0 < seat.old.me.0.name) }
+    ensures table { seat.new.table_id ≡ seat.old.table_id }
+    ensures drawn { result ≡ true → drew seat.old.me found seat.new.me }
+    ensures not { result ≡ false → seat.new.me ≡ seat.old.me }
 {
     let next = found.wrapping_add(1);
-    words.compare_exchange::<TryTicket<B>>(place, TICKET, found, next) == found
+    words.compare_exchange::<TryTicket<B>>(seat, TICKET, found, next) == found
 }
 
-// Waits until the ticket is served. The slot is then in hand, with the value in it.
+// Waits until the ticket is served. The thread then has the slot, with the value in it.
 pub(crate) fn await_turn<B: Standing, R: Wait>(
     rt: &R,
     words: &Words<B>,
-    place: &mut Place<B>,
+    seat: &mut LockSeat<B>,
     ticket: u64,
 )
-    requires table { (place.old.table_id ≡ words.now.table_id) × IsLockTable words.now.table_id }
-    requires ready { (place.old.me.0.waits ≡ true) × (place.old.me.0.turn ≡ false) × (ticket ≡ place.old.me.0.ticket % 2 ^ 64) }
-    ensures table { place.new.table_id ≡ place.old.table_id }
-    ensures got { Got (λ b. B.entries b.value) (λ b. record { before = B.before b.value; opening = B.opening b.value }) place.old.me place.new.me }
+    requires table { (seat.old.table_id ≡ words.now.table_id) × IsLockTable words.now.table_id }
+    requires ready { (seat.old.me.0.waits ≡ true) × (seat.old.me.0.turn ≡ false)
+        × (ticket ≡ seat.old.me.0.ticket % 2 ^ 64) }
+    ensures table { seat.new.table_id ≡ seat.old.table_id }
+    ensures got { Got (λ b. B.entries b.value) (λ b. record {
+      before = B.before b.value;
+      opening = B.opening b.value;
+    }) seat.old.me seat.new.me }
 {
     let mut looks = 0;
     for _ in rt.forever() {
-        let found = words.load::<WatchServing<B>>(place, SERVING);
+        let found = words.load::<WatchServing<B>>(seat, SERVING);
         if found == ticket {
             return;
         }
-        looks = look_again(rt, words, place, found, looks);
+        looks = look_again(rt, words, seat, found, looks);
     }
     unreachable!()
 }
 
-// Goes on to the next look, and answers how many there were. A waiter looks some thousand times, since most turns are short, and then
-// parks until somebody passes a turn on.
+// Goes on to the next look, and returns how many there were. A waiter looks a thousand times, since
+// most turns are short, and then parks until somebody passes a turn on.
 fn look_again<B: Standing, R: Wait>(
     rt: &R,
     words: &Words<B>,
-    place: &mut Place<B>,
+    seat: &mut LockSeat<B>,
     found: u64,
     looks: u32,
 ) -> u32
-    requires table { (place.old.table_id ≡ words.now.table_id) × IsLockTable words.now.table_id }
-    ensures { (place.new.table_id ≡ place.old.table_id) × (place.new.me ≡ place.old.me) }
+    requires table { (seat.old.table_id ≡ words.now.table_id) × IsLockTable words.now.table_id }
+    ensures { (seat.new.table_id ≡ seat.old.table_id) × (seat.new.me ≡ seat.old.me) }
 {
-    if looks < LOOKS {
+    if looks < LOOKS_BEFORE_PARKING {
         hint::spin_loop();
         return looks + 1;
     }
-    park(rt, words, place, found);
+    park(rt, words, seat, found);
     0
 }
 
-// Parks while the serving word is as it was found, until somebody passes that turn on. It first notes over which turn it parks. Whoever
-// passes that turn on finds the note, or else passed it on before, and then the thread doesn't park.
-fn park<B: Standing, R: Wait>(rt: &R, words: &Words<B>, place: &mut Place<B>, found: u64)
-    requires table { (place.old.table_id ≡ words.now.table_id) × IsLockTable words.now.table_id }
-    ensures { (place.new.table_id ≡ place.old.table_id) × (place.new.me ≡ place.old.me) }
+// Parks while the serving word is as it was found, until somebody passes that turn on. It first
+// writes over which turn it parks into the parked word. Whoever passes that turn on finds it there,
+// or else passed the turn on before, and then the thread doesn't park.
+fn park<B: Standing, R: Wait>(rt: &R, words: &Words<B>, seat: &mut LockSeat<B>, found: u64)
+    requires table { (seat.old.table_id ≡ words.now.table_id) × IsLockTable words.now.table_id }
+    ensures { (seat.new.table_id ≡ seat.old.table_id) × (seat.new.me ≡ seat.old.me) }
 {
-    words.fetch_max::<MarkParked>(place, PARKED, found.wrapping_add(1));
+    words.fetch_max::<MarkParked>(seat, PARKED, found.wrapping_add(1));
     words.park(rt, SERVING, (found % (1 << 32)) as u32);
 }
 
 // Takes the value out of the slot, once the turn has come.
-pub(crate) fn lift<B: Standing>(words: &Words<B>, place: &mut Place<B>) -> Box<B>
-    requires table { (place.old.table_id ≡ words.now.table_id) × IsLockTable words.now.table_id }
-    requires ready { (place.old.me.0.turn ≡ true) × ((y : _) × (place.old.me.1 ≡ (0, Some y) ∷ [])) }
-    ensures table { place.new.table_id ≡ place.old.table_id }
-    ensures value { place.old.me.1 ≡ (0, Some result) ∷ [] }
-    ensures view { place.new.me ≡ (record place.old.me.0 { away = true }, []) }
+pub(crate) fn lift<B: Standing>(words: &Words<B>, seat: &mut LockSeat<B>) -> Box<B>
+    requires table { (seat.old.table_id ≡ words.now.table_id) × IsLockTable words.now.table_id }
+    requires ready { (seat.old.me.0.turn ≡ true) × ((y : _) × (seat.old.me.1 ≡ (0, Some y) ∷ [])) }
+    ensures table { seat.new.table_id ≡ seat.old.table_id }
+    ensures value { seat.old.me.1 ≡ (0, Some result) ∷ [] }
+    ensures view { seat.new.me ≡ (record seat.old.me.0 { away = true }, []) }
 {
-    let value = words.exchange(place, 0, None).unwrap();
-    // This load does nothing but let the rule hold with the slot empty at home: a pass keeps no slot between its calls.
-    words.load::<LeaveEmpty<B>>(place, SERVING);
+    let value = words.exchange(seat, 0, None).unwrap();
+    // This load only gives the empty slot back to the table, as the rule asks: a pass has no slot
+    // between its calls.
+    words.load::<LeaveEmpty<B>>(seat, SERVING);
     value
 }
 
-// Lays the value back into the slot, and passes the turn on. Parked threads are woken, all of them, since only one has the next ticket.
-pub(crate) fn lay_back<B: Standing>(words: &Words<B>, place: &mut Place<B>, value: Box<B>)
-    requires table { (place.old.table_id ≡ words.now.table_id) × IsLockTable words.now.table_id }
-    requires ready { (place.old.me.0.away ≡ true) × (place.old.me.0.turn ≡ true) × (place.old.me.1 ≡ []) }
-    requires value { ExtendsUnder place.old.me.0.name place.old.me.0.seen (B.entries value.value) }
-    requires origin { record { before = B.before value.value; opening = B.opening value.value } ≡ place.old.me.0.origin }
-    ensures table { place.new.table_id ≡ place.old.table_id }
-    ensures view { place.new.me ≡ (record place.old.me.0 { away = false; waits = false; turn = false; seen = B.entries value.value; own = under place.old.me.0.name (B.entries value.value) }, []) }
+// Puts the value back into the slot, and passes the turn on. All parked threads are woken, since
+// only one has the next ticket.
+pub(crate) fn lay_back<B: Standing>(words: &Words<B>, seat: &mut LockSeat<B>, value: Box<B>)
+    requires table { (seat.old.table_id ≡ words.now.table_id) × IsLockTable words.now.table_id }
+    requires ready { (seat.old.me.0.away ≡ true) × (seat.old.me.0.turn ≡ true)
+        × (seat.old.me.1 ≡ []) }
+    requires value { ExtendsUnder seat.old.me.0.name seat.old.me.0.seen (B.entries value.value) }
+    requires origin { record {
+      before = B.before value.value;
+      opening = B.opening value.value;
+    } ≡ seat.old.me.0.origin }
+    ensures table { seat.new.table_id ≡ seat.old.table_id }
+    ensures view { seat.new.me ≡ (
+      record seat.old.me.0 {
+        away = false;
+        waits = false;
+        turn = false;
+        seen = B.entries value.value;
+        own = under seat.old.me.0.name (B.entries value.value);
+      },
+      [],
+    ) }
 {
-    // So does this one, the other way: the empty slot is the place's again.
-    words.load::<TakeEmpty<B>>(place, SERVING);
-    let empty = words.exchange(place, 0, Some(value));
+    // This load only takes the empty slot from the table again.
+    words.load::<TakeEmpty<B>>(seat, SERVING);
+    let empty = words.exchange(seat, 0, Some(value));
     match empty {
         None => {}
         Some(_) => unreachable!(),
     }
-    let served = words.fetch_add::<PassTurn<B>>(place, SERVING, 1);
+    let served = words.fetch_add::<PassTurn<B>>(seat, SERVING, 1);
     if words.peek(PARKED) > served {
         words.wake_all(SERVING);
     }
 }
 
-// Looks at a word once a pass was joined, for what the rule says then.
-pub(crate) fn look_back<B: Standing>(words: &Words<B>, place: &mut Place<B>)
-    requires table { (place.old.table_id ≡ words.now.table_id) × IsLockTable words.now.table_id }
-    ensures place { (place.new.table_id ≡ place.old.table_id) × (place.new.me ≡ place.old.me) }
-    ensures heard { StartsWith place.old.me.0.seen place.old.me.0.heard }
-    ensures count { place.old.me.0.root ≡ true → length place.old.me.0.ended ≤ place.old.me.0.given }
+// Loads a word after a pass was joined, to learn what the rule says then.
+pub(crate) fn look_back<B: Standing>(words: &Words<B>, seat: &mut LockSeat<B>)
+    requires table { (seat.old.table_id ≡ words.now.table_id) × IsLockTable words.now.table_id }
+    ensures seat { (seat.new.table_id ≡ seat.old.table_id) × (seat.new.me ≡ seat.old.me) }
+    ensures heard { StartsWith seat.old.me.0.seen seat.old.me.0.heard }
+    ensures count { seat.old.me.0.root ≡ true → length seat.old.me.0.ended ≤ seat.old.me.0.given }
 {
-    // What it shows isn't used: the rule holds at the load, and that is what is learnt.
-    words.load::<LookBack>(place, SERVING);
+    // The number isn't used: the rule holds at the load, and that is what is learnt.
+    words.load::<LookBack>(seat, SERVING);
 }

@@ -1,10 +1,14 @@
 // Threads that take turns at a small value, a waiter that parks, and passes that are joined.
 ghost use Rattle.std.specs.Prelude.{◌≡◌, ◌+◌, ◌<◌, ◌^◌, [], true, false, length, IfOk, IfSome, OnOk, ◌++◌, ◌∷◌};
 
-use crate::steps::{PARKED, SERVING};
-use crate::{AccountLock, Diary, Pass, enter_in_turn};
+mod diary;
+
+use crate::steps::{PARKED, SERVING, TICKET};
+use crate::{AccountLock, Pass};
+use diary::{Diary, enter_in_turn};
 use jm_base::NoMemory;
 use mail_records::Stamp;
+use std::alloc::Global;
 use std::sync::Wait;
 use std::sync::atomic::{AtomicBool, Ordering};
 use std::test::*;
@@ -23,7 +27,7 @@ fn turns<R: Wait>(
     mut pass: Pass,
     count: u64,
 ) -> Result<Pass, NoMemory>
-    requires lock { pass.lock ≡ lock.now }
+    requires lock { pass.lock ≡ lock.now.id }
     requires free { (pass.root ≡ false) × (pass.holds ≡ false) }
     ensures { IfOk result (λ p. p ≡ record pass { seen = p.seen; own = p.own }) }
 {
@@ -40,19 +44,21 @@ fn two_at_once<R: Threads + Wait + Sync>(
     first: Pass,
     second: Pass,
 ) -> Result<(Pass, Pass), NoMemory>
-    requires lock { (first.lock ≡ lock.now) × (second.lock ≡ lock.now) }
-    requires free { (first.root ≡ false) × (first.holds ≡ false) × (second.root ≡ false) × (second.holds ≡ false) }
+    requires lock { (first.lock ≡ lock.now.id) × (second.lock ≡ lock.now.id) }
+    requires free { (first.root ≡ false) × (first.holds ≡ false) × (second.root ≡ false)
+        × (second.holds ≡ false) }
     ensures first { IfOk result (λ r. r.0 ≡ record first { seen = r.0.seen; own = r.0.own }) }
     ensures second { IfOk result (λ r. r.1 ≡ record second { seen = r.1.seen; own = r.1.own }) }
 {
     let (a, b) = join(
         rt,
         || -> Result<Pass, NoMemory>
-            requires { (first.lock ≡ lock.now) × (first.root ≡ false) × (first.holds ≡ false) }
+            requires { (first.lock ≡ lock.now.id) × (first.root ≡ false) × (first.holds ≡ false) }
             ensures { IfOk result (λ p. p ≡ record first { seen = p.seen; own = p.own }) }
         { turns(rt, lock, first, TURNS) },
         || -> Result<Pass, NoMemory>
-            requires { (second.lock ≡ lock.now) × (second.root ≡ false) × (second.holds ≡ false) }
+            requires { (second.lock ≡ lock.now.id) × (second.root ≡ false)
+                × (second.holds ≡ false) }
             ensures { IfOk result (λ p. p ≡ record second { seen = p.seen; own = p.own }) }
         { turns(rt, lock, second, TURNS) },
     );
@@ -61,7 +67,7 @@ fn two_at_once<R: Threads + Wait + Sync>(
 
 // Joins a pass with which no other name ended.
 fn end(lock: &AccountLock<Diary>, root: &mut Pass, other: Pass)
-    requires lock { (root.old.lock ≡ lock.now) × (other.lock ≡ lock.now) }
+    requires lock { (root.old.lock ≡ lock.now.id) × (other.lock ≡ lock.now.id) }
     requires other { (other.root ≡ false) × (other.holds ≡ false) × (other.ended ≡ []) }
     ensures root { root.new ≡ record root.old { seen = root.new.seen; ended = root.new.ended } }
     ensures ended { length root.new.ended ≡ length root.old.ended + 1 }
@@ -75,7 +81,7 @@ fn by_four<R: Threads + Wait + Sync>(
     lock: AccountLock<Diary>,
     mut root: Pass,
 ) -> Result<Box<Diary>, NoMemory>
-    requires lock { root.lock ≡ lock }
+    requires lock { root.lock ≡ lock.id }
     requires root { (root.root ≡ true) × (root.given ≡ 0) × (root.ended ≡ []) }
 {
     let (Ok(a), Ok(b), Ok(c), Ok(d)) = (
@@ -89,12 +95,16 @@ fn by_four<R: Threads + Wait + Sync>(
     let (low, high) = join(
         rt,
         || -> Result<(Pass, Pass), NoMemory>
-            requires { (a.lock ≡ lock) × (a.root ≡ false) × (a.holds ≡ false) × (b.lock ≡ lock) × (b.root ≡ false) × (b.holds ≡ false) }
-            ensures { IfOk result (λ r. (r.0 ≡ record a { seen = r.0.seen; own = r.0.own }) × (r.1 ≡ record b { seen = r.1.seen; own = r.1.own })) }
+            requires { (a.lock ≡ lock.id) × (a.root ≡ false) × (a.holds ≡ false)
+                × (b.lock ≡ lock.id) × (b.root ≡ false) × (b.holds ≡ false) }
+            ensures { IfOk result (λ r. (r.0 ≡ record a { seen = r.0.seen; own = r.0.own })
+                × (r.1 ≡ record b { seen = r.1.seen; own = r.1.own })) }
         { two_at_once(rt, &lock, a, b) },
         || -> Result<(Pass, Pass), NoMemory>
-            requires { (c.lock ≡ lock) × (c.root ≡ false) × (c.holds ≡ false) × (d.lock ≡ lock) × (d.root ≡ false) × (d.holds ≡ false) }
-            ensures { IfOk result (λ r. (r.0 ≡ record c { seen = r.0.seen; own = r.0.own }) × (r.1 ≡ record d { seen = r.1.seen; own = r.1.own })) }
+            requires { (c.lock ≡ lock.id) × (c.root ≡ false) × (c.holds ≡ false)
+                × (d.lock ≡ lock.id) × (d.root ≡ false) × (d.holds ≡ false) }
+            ensures { IfOk result (λ r. (r.0 ≡ record c { seen = r.0.seen; own = r.0.own })
+                × (r.1 ≡ record d { seen = r.1.seen; own = r.1.own })) }
         { two_at_once(rt, &lock, c, d) },
     );
     let (a, b) = low?;
@@ -149,22 +159,41 @@ fn look_for_parked<R: Clock>(rt: &R, lock: &AccountLock<Diary>) -> bool {
     false
 }
 
-// Takes the turn, keeps it until the other thread is parked, and looks whether that one then has its turn. At last it wakes who still
-// sleeps, so that the test ends where nobody else did.
+// Wakes who sleeps each millisecond until the other thread has drawn a ticket, and then lets that one fall asleep with it. Gives up after
+// many looks.
+fn look_for_ticket<R: Clock>(rt: &R, lock: &AccountLock<Diary>) -> bool {
+    for _ in 0..LOOKS {
+        if lock.table.shared.peek(TICKET) == 2 {
+            sleep(rt, Duration::from_millis(50));
+            return true;
+        }
+        lock.table.shared.wake_all(SERVING);
+        sleep(rt, Duration::from_millis(1));
+    }
+    false
+}
+
+// Takes the turn, keeps it until the other thread is parked, with a ticket or without one, and looks whether that one then has its turn.
+// At last it wakes who still sleeps, so that the test ends if nobody else did.
 fn hold<R: Wait + Clock>(
     rt: &R,
     lock: &AccountLock<Diary>,
     mut pass: Pass,
+    with_ticket: bool,
     held: &AtomicBool,
     done: &AtomicBool,
 ) -> Option<Pass>
-    requires lock { pass.lock ≡ lock.now }
+    requires lock { pass.lock ≡ lock.now.id }
     requires free { (pass.root ≡ false) × (pass.holds ≡ false) }
     ensures { IfSome result (λ p. p ≡ record pass { seen = p.seen; own = p.own }) }
 {
     let diary = lock.take(rt, &mut pass);
     held.store(true, Ordering::SeqCst);
-    let parked = look_for_parked(rt, lock);
+    let parked = if with_ticket {
+        look_for_ticket(rt, lock)
+    } else {
+        look_for_parked(rt, lock)
+    };
     lock.give(&mut pass, diary);
     let woken = look_for(rt, done);
     lock.table.shared.wake_all(SERVING);
@@ -182,7 +211,7 @@ fn come<R: Wait + Clock>(
     held: &AtomicBool,
     done: &AtomicBool,
 ) -> Option<Pass>
-    requires lock { pass.lock ≡ lock.now }
+    requires lock { pass.lock ≡ lock.now.id }
     requires free { (pass.root ≡ false) × (pass.holds ≡ false) }
     ensures { IfSome result (λ p. p ≡ record pass { seen = p.seen; own = p.own }) }
 {
@@ -195,13 +224,14 @@ fn come<R: Wait + Clock>(
     None
 }
 
-// One thread holds the diary while the other parks. Answers the diary, where the other did, and was woken.
+// One thread holds the diary while the other parks. Returns the diary if the other one did, and was woken.
 fn hold_and_come<R: Threads + Wait + Clock + Sync>(
     rt: &R,
     lock: AccountLock<Diary>,
     mut root: Pass,
+    with_ticket: bool,
 ) -> Option<Box<Diary>>
-    requires lock { root.lock ≡ lock }
+    requires lock { root.lock ≡ lock.id }
     requires root { (root.root ≡ true) × (root.given ≡ 0) × (root.ended ≡ []) }
 {
     let (Ok(first), Ok(second)) = (lock.split(&mut root), lock.split(&mut root)) else {
@@ -212,11 +242,11 @@ fn hold_and_come<R: Threads + Wait + Clock + Sync>(
     let (one, two) = join(
         rt,
         || -> Option<Pass>
-            requires { (first.lock ≡ lock) × (first.root ≡ false) × (first.holds ≡ false) }
+            requires { (first.lock ≡ lock.id) × (first.root ≡ false) × (first.holds ≡ false) }
             ensures { IfSome result (λ p. p ≡ record first { seen = p.seen; own = p.own }) }
-        { hold(rt, &lock, first, &held, &done) },
+        { hold(rt, &lock, first, with_ticket, &held, &done) },
         || -> Option<Pass>
-            requires { (second.lock ≡ lock) × (second.root ≡ false) × (second.holds ≡ false) }
+            requires { (second.lock ≡ lock.id) × (second.root ≡ false) × (second.holds ≡ false) }
             ensures { IfSome result (λ p. p ≡ record second { seen = p.seen; own = p.own }) }
         { come(rt, &lock, second, &held, &done) },
     );
@@ -225,28 +255,49 @@ fn hold_and_come<R: Threads + Wait + Clock + Sync>(
     Some(lock.close(root))
 }
 
-#[test]
-fn a_waiter_that_parks_is_woken(rt: HostRuntime) -> Result<(), Fail> {
-    let alloc = rt.alloc();
+// Returns the diary after one thread parked while the other had it, and was woken.
+fn parked_diary<R: Threads + Wait + Clock + Sync>(
+    rt: &R,
+    alloc: Global,
+    with_ticket: bool,
+) -> Result<Option<Box<Diary>>, Fail> {
     let diary = Box::new(alloc, Diary::new(alloc))?;
     let Ok((lock, root)) = AccountLock::build(alloc, diary) else {
         return Err(Fail::from(std::alloc::AllocError));
     };
-    let diary = hold_and_come(&rt, lock, root);
-    assert!(rt; diary.is_some(), "the waiter didn't park, or wasn't woken");
-    if let Some(diary) = diary {
-        let stamp = Stamp { pass: 2, serial: 7 };
-        assert_eq!(rt; diary.stamps(), [stamp].as_slice());
-    }
+    Ok(hold_and_come(rt, lock, root, with_ticket))
+}
+
+#[test]
+fn a_waiter_that_parks_is_woken(rt: HostRuntime) -> Result<(), Fail> {
+    let stamp = Stamp { pass: 2, serial: 7 };
+    let Some(diary) = parked_diary(&rt, rt.alloc(), false)? else {
+        return Err("the waiter didn't park, or wasn't woken")?;
+    };
+    assert_eq!(rt; diary.stamps(), [stamp].as_slice());
+    Ok(())
+}
+
+#[test]
+fn a_waiter_that_parks_with_its_ticket_is_woken(rt: HostRuntime) -> Result<(), Fail> {
+    let stamp = Stamp { pass: 2, serial: 7 };
+    let Some(diary) = parked_diary(&rt, rt.alloc(), true)? else {
+        return Err("the waiter drew no ticket, or wasn't woken")?;
+    };
+    assert_eq!(rt; diary.stamps(), [stamp].as_slice());
     Ok(())
 }
 
 // A pass takes the diary, joins another while it has it, and gives it back.
 fn join_in_turn<R: Wait>(rt: &R, lock: &AccountLock<Diary>, pass: &mut Pass, other: Pass)
-    requires lock { (pass.old.lock ≡ lock.now) × (other.lock ≡ lock.now) }
+    requires lock { (pass.old.lock ≡ lock.now.id) × (other.lock ≡ lock.now.id) }
     requires free { (pass.old.root ≡ false) × (pass.old.holds ≡ false) }
     requires other { (other.root ≡ false) × (other.holds ≡ false) × (other.ended ≡ []) }
-    ensures pass { pass.new ≡ record pass.old { seen = pass.new.seen; own = pass.new.own; ended = pass.new.ended } }
+    ensures pass { pass.new ≡ record pass.old {
+      seen = pass.new.seen;
+      own = pass.new.own;
+      ended = pass.new.ended;
+    } }
     ensures ended { length pass.new.ended ≡ length pass.old.ended + 1 }
 {
     let diary = lock.take(rt, pass);
@@ -260,7 +311,7 @@ fn one_through_another<R: Wait>(
     lock: AccountLock<Diary>,
     mut root: Pass,
 ) -> Result<Box<Diary>, NoMemory>
-    requires lock { root.lock ≡ lock }
+    requires lock { root.lock ≡ lock.id }
     requires root { (root.root ≡ true) × (root.given ≡ 0) × (root.ended ≡ []) }
 {
     let mut first = lock.split(&mut root)?;
@@ -287,5 +338,25 @@ fn a_pass_ends_through_another(rt: HostRuntime) -> Result<(), Fail> {
         Stamp { pass: 1, serial: 7 },
     ];
     assert_eq!(rt; diary.stamps(), wanted.as_slice());
+    Ok(())
+}
+
+// Closes a lock of which no name was given, and returns the value that it was built around.
+fn close_unused(lock: AccountLock<Diary>, root: Pass) -> Box<Diary>
+    requires lock { root.lock ≡ lock.id }
+    requires root { (root.root ≡ true) × (root.given ≡ 0) × (root.ended ≡ []) }
+    ensures { result.value ≡ lock.built }
+{
+    lock.close(root)
+}
+
+#[test]
+fn a_lock_without_names_gives_back_what_was_built(rt: HostRuntime) -> Result<(), Fail> {
+    let alloc = rt.alloc();
+    let diary = Box::new(alloc, Diary::new(alloc))?;
+    let Ok((lock, root)) = AccountLock::build(alloc, diary) else {
+        return Err(Fail::from(std::alloc::AllocError));
+    };
+    assert!(rt; close_unused(lock, root).stamps().is_empty());
     Ok(())
 }

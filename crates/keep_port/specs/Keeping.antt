@@ -1,52 +1,66 @@
--- What a keeper keeps after a call, what a crash may leave then, and when a fault may be answered.
+-- What a call makes of a keeper's content, what a crash may leave after it, and when a fault may be
+-- answered.
+--
+-- A keeper's content is a base or none, and rows. Contracts know it as an `Option`: `None` if the
+-- keeper cannot say what its content is, as after a fault of its disk.
 use Rattle.std.specs.Prelude.{◌≡◌, ◌↔◌, ℕ, Result, Ok, Err, List, [], ◌∷◌, ◌++◌, Option, Some, None, ◌⊎◌}
 use Rattle.jm_edge.specs.Causes.{Rose}
 use Rattle.jm_edge.specs.declared.fault.EdgeFault.{EdgeFault}
 use Rattle.jm_edge.specs.declared.fault.EdgeFault.TheVariants.{Failed, NoMemory}
 use Rattle.keep_port.specs.declared.kept.Kept.{Kept}
 
--- the count of faults rose where the call failed, and else it is as it was
+-- the count of faults rose if the call failed, and else it is as it was
 abbrev pub IsCounted : {T : Type 0} → ℕ → ℕ → Result T EdgeFault → Type 0
 IsCounted before now (Err Failed) = Rose before now
 IsCounted before now (Err NoMemory) = now ≡ before
 IsCounted before now (Ok _) = now ≡ before
 
--- this is what is kept, where that is told
-abbrev pub IsTold : Option Kept → Kept → Type 0
-IsTold told k = (t : Kept) → told ≡ Some t → k ≡ t
+-- this is the content, if the content is known
+abbrev pub IsContent : Option Kept → Kept → Type 0
+IsContent known k = (t : Kept) → known ≡ Some t → k ≡ t
 
--- with a row more at the end
+-- the content is unknown now, or exactly this
+abbrev pub IsUnknownOr : Option Kept → Option Kept → Type 0
+IsUnknownOr next now = (k : Kept) → now ≡ Some k → next ≡ Some k
+
+-- the content with one more row at its end
 abbrev pub with_row : List ℕ → Kept → Kept
 with_row row k = record { base = k.base; rows = k.rows ++ row ∷ [] }
 
--- the same, where it is told what is kept
+-- the content with one more row at its end, if the content is known
 abbrev pub with_row_if : List ℕ → Option Kept → Option Kept
 with_row_if row None = None
 with_row_if row (Some k) = Some (with_row row k)
 
--- this whole in its place, where it is told what is kept
-abbrev pub whole_if : Kept → Option Kept → Option Kept
-whole_if whole None = None
-whole_if whole (Some k) = Some whole
+-- the content after a call that makes `next` of the content `old`: an error leaves the content as
+-- it was
+abbrev pub content_after : {T : Type 0} → Result T EdgeFault → Option Kept → Option Kept
+    → Option Kept
+content_after (Ok _) next old = next
+content_after (Err _) next old = old
 
--- what is kept after a call that would make it `next`: a refusal leaves it as it was
-abbrev pub kept_after : {T : Type 0} → Result T EdgeFault → Option Kept → Option Kept → Option Kept
-kept_after (Ok _) next old = next
-kept_after (Err _) next old = old
+-- The content after a `load`, which changes nothing. A content that was unknown is known by what an
+-- Ok returned.
+abbrev pub content_loaded : Result Kept EdgeFault → Option Kept → Option Kept
+content_loaded (Ok k) None = Some k
+content_loaded (Ok k) (Some old) = Some old
+content_loaded (Err _) old = old
 
--- What a crash may leave after a call that would make `next` of what is kept: after Ok that alone, and after a refusal
--- also what it might have left before.
-abbrev pub MayLeave : {T : Type 0} → Result T EdgeFault → Option Kept → (Kept → Type 0) → (Kept → Type 0) → Type 0
+-- What a crash may leave after a call that makes `next` of the content: after Ok nothing but that;
+-- after an error nothing but that and what it might have left before.
+abbrev pub MayLeave : {T : Type 0} → Result T EdgeFault → Option Kept → (Kept → Type 0) → (Kept
+    → Type 0) → Type 0
 MayLeave (Ok _) next old new = (k : Kept) → new k → next ≡ Some k
 MayLeave (Err _) next old new = (k : Kept) → new k → old k ⊎ (next ≡ Some k)
 
--- And what it must count with then, so that no keeper that tells leaves a case out: after Ok that one, after a call that failed
--- what it might have left before and also `next`, after want of memory what it might have left before.
-abbrev pub MustLeave : {T : Type 0} → Result T EdgeFault → Option Kept → (Kept → Type 0) → (Kept → Type 0) → Type 0
+-- What a crash may leave at least after such a call: after Ok `next`; after a fault `next` and what
+-- it might have left before; if memory ran out what it might have left before.
+abbrev pub MustLeave : {T : Type 0} → Result T EdgeFault → Option Kept → (Kept → Type 0) → (Kept
+    → Type 0) → Type 0
 MustLeave (Ok _) next old new = (k : Kept) → next ≡ Some k → new k
 MustLeave (Err Failed) next old new = (k : Kept) → old k ⊎ (next ≡ Some k) → new k
 MustLeave (Err NoMemory) next old new = (k : Kept) → old k → new k
 
--- a crash leaves what is kept, and may leave nothing else
-abbrev pub IsClean : Option Kept → (Kept → Type 0) → Type 0
-IsClean kept image = (k : Kept) → image k ↔ (kept ≡ Some k)
+-- a crash leaves the content, and nothing else
+abbrev pub LeavesContent : Option Kept → (Kept → Type 0) → Type 0
+LeavesContent known image = (k : Kept) → image k ↔ (known ≡ Some k)

@@ -14,7 +14,7 @@ pub struct Calls {
 impl Calls {
     ghost use Rattle.keep_port.specs.Memory.{not_called, fails_next, passed, failed};
 
-    /// No call was made yet.
+    /// Returns the counts before the first call.
     pub fn new(fails: Numbers) -> Calls
         ensures { result ≡ not_called fails }
     {
@@ -25,7 +25,7 @@ impl Calls {
         }
     }
 
-    /// Whether the next call is one of those that fail.
+    /// Returns whether the next call is one of those that fail.
     pub fn fails_next(&self) -> bool
         ensures { result ≡ fails_next self.now }
     {

@@ -1,10 +1,11 @@
-// What a keeper keeps.
+// The content of a keeper.
 ghost use Rattle.std.specs.Prelude.{◌≡◌, IfOk, Some, None, []};
 
 use jm_base::{Bytes, NoMemory, Rows};
 use std::alloc::Global;
 
-/// What a keeper keeps: a base, where it has one, and the rows after it, oldest first. Each row is one encoded commit.
+/// The content of a keeper: a base or none, and the rows after it, oldest first. Each row is one
+/// encoded commit.
 #[derive(Drop)]
 pub struct Kept {
     pub base: Option<Bytes>,
@@ -12,7 +13,7 @@ pub struct Kept {
 }
 
 impl Kept {
-    /// No base and no rows. It takes no memory.
+    /// Returns the content with no base and no rows. It takes no memory.
     pub fn new(alloc: Global) -> Kept
         ensures base { result.base ≡ None }
         ensures rows { result.rows ≡ [] }
@@ -23,7 +24,7 @@ impl Kept {
         }
     }
 
-    /// The same base and rows, in memory of their own.
+    /// Returns an equal content in memory of its own. Fails if memory runs out.
     pub fn copy(&self, alloc: Global) -> Result<Kept, NoMemory>
         ensures { IfOk result (λ k. k ≡ self.now) }
     {

@@ -1,7 +1,7 @@
-// A keeper in memory, with lists of the calls that are to fail.
-ghost use Rattle.std.specs.Prelude.{◌≡◌, Some, IfOk};
+// A keeper in memory, with lists of the calls that fail.
+ghost use Rattle.std.specs.Prelude.{◌≡◌, ◌⊎◌, Some, IfOk};
 ghost use Rattle.keep_port.specs.declared.kept.Kept.{Kept};
-ghost use Rattle.keep_port.specs.Keeping.{IsCounted, IsTold, kept_after, with_row_if, whole_if, MayLeave, MustLeave};
+ghost use Rattle.keep_port.specs.Keeping.{IsCounted, IsContent, IsUnknownOr, content_after, content_loaded, with_row_if, MayLeave, MustLeave};
 
 use crate::calls::Calls;
 use crate::{Keeper, Kept};
@@ -9,11 +9,13 @@ use jm_base::{Bytes, Numbers, Rows, Sequence};
 use jm_edge::EdgeFault;
 use std::alloc::Global;
 
-/// Keeps rows in memory. It tells what it keeps, and what a crash may leave: what is kept, the same and the row of one
-/// refused `append`, or the whole of one refused `replace`, of those since the last call of either that was not refused.
+/// Keeps rows in memory. Its content is always known, and so is what a crash may leave: exactly the
+/// content; the content with the row of one refused `append`; and what one refused `replace` was to
+/// keep. Refused are the calls since the last `append` or `replace` that returned `Ok`.
 ///
-/// The listed calls fail, counted from 1 for `load`, `append` and `replace` apart. A call that finds no memory changes
-/// nothing, and is not counted: where it was a listed one, the next of its kind is. At first a crash leaves what is kept.
+/// The listed calls fail, counted from 1 separately for `load`, `append` and `replace`. A call that
+/// runs out of memory changes nothing and is not counted: if it was a listed one, the next call of
+/// its kind fails.
 #[derive(Drop)]
 pub struct MemoryKeeper {
     kept: Kept,
@@ -25,21 +27,22 @@ pub struct MemoryKeeper {
 }
 
 impl MemoryKeeper {
-    ghost use Rattle.keep_port.specs.Keeping.{IsClean};
+    ghost use Rattle.keep_port.specs.Keeping.{LeavesContent};
     ghost use Rattle.keep_port.specs.Memory.{opened, may_be_left};
     ghost use Rattle.std.specs.Prelude.{[]};
 
-    /// A keeper that keeps this and never fails.
+    /// Returns a keeper of this content that never fails.
     pub fn new(alloc: Global, kept: Kept) -> MemoryKeeper
         ensures opened { result ≡ opened kept [] [] [] }
-        ensures clean { IsClean (Some result.kept) (may_be_left result) }
+        ensures clean { LeavesContent (Some result.kept) (may_be_left result) }
     {
         let none = Numbers::new(alloc);
         MemoryKeeper::failing(alloc, kept, none, Numbers::new(alloc), Numbers::new(alloc))
     }
 
     #[tactic(auto, using(crate::proofs::Left::nothing_refused, crate::proofs::Left::kept_is_left))]
-    /// A keeper that keeps this, and fails at the listed calls of `load`, `append` and `replace`.
+    /// Returns a keeper of this content that fails at the listed calls of `load`, `append` and
+    /// `replace`.
     pub fn failing(
         alloc: Global,
         kept: Kept,
@@ -48,7 +51,7 @@ impl MemoryKeeper {
         replaces: Numbers,
     ) -> MemoryKeeper
         ensures opened { result ≡ opened kept loads appends replaces }
-        ensures clean { IsClean (Some result.kept) (may_be_left result) }
+        ensures clean { LeavesContent (Some result.kept) (may_be_left result) }
     {
         MemoryKeeper {
             kept,
@@ -60,7 +63,7 @@ impl MemoryKeeper {
         }
     }
 
-    /// Lends what is kept.
+    /// Lends the content.
     pub fn kept(&self) -> &Kept
         ensures { result.now ≡ self.now.kept }
     {
@@ -83,9 +86,11 @@ impl Keeper for MemoryKeeper {
 
     fn load(&mut self, alloc: Global) -> Result<Kept, EdgeFault>
         ensures does { Loads self.old self.new result }
-        ensures loaded { IfOk result (IsTold (Some self.old.kept)) }
-        ensures kept { Some self.new.kept ≡ Some self.old.kept }
-        ensures image { (k : Kept) → may_be_left self.new k → may_be_left self.old k }
+        ensures loaded { IfOk result (IsContent (Some self.new.kept)) }
+        ensures kept { IsUnknownOr (content_loaded result (Some self.old.kept))
+            (Some self.new.kept) }
+        ensures image { (k : Kept) → may_be_left self.new k → may_be_left self.old k
+            ⊎ (Some self.new.kept ≡ Some k) }
         ensures cases { (k : Kept) → may_be_left self.old k → may_be_left self.new k }
         ensures cause { IsCounted self.old.loads.faults self.new.loads.faults result }
         ensures append_count { self.new.appends.faults ≡ self.old.appends.faults }
@@ -104,9 +109,12 @@ impl Keeper for MemoryKeeper {
 
     fn append(&mut self, alloc: Global, row: &[u8]) -> Result<(), EdgeFault>
         ensures does { Appends row.now self.old self.new result }
-        ensures kept { Some self.new.kept ≡ kept_after result (with_row_if row.now (Some self.old.kept)) (Some self.old.kept) }
-        ensures image { MayLeave result (with_row_if row.now (Some self.old.kept)) (may_be_left self.old) (may_be_left self.new) }
-        ensures cases { MustLeave result (with_row_if row.now (Some self.old.kept)) (may_be_left self.old) (may_be_left self.new) }
+        ensures kept { IsUnknownOr (content_after result (with_row_if row.now
+            (Some self.old.kept)) (Some self.old.kept)) (Some self.new.kept) }
+        ensures image { MayLeave result (with_row_if row.now (Some self.old.kept))
+            (may_be_left self.old) (may_be_left self.new) }
+        ensures cases { MustLeave result (with_row_if row.now (Some self.old.kept))
+            (may_be_left self.old) (may_be_left self.new) }
         ensures cause { IsCounted self.old.appends.faults self.new.appends.faults result }
         ensures load_count { self.new.loads.faults ≡ self.old.loads.faults }
         ensures replace_count { self.new.replaces.faults ≡ self.old.replaces.faults }
@@ -132,9 +140,12 @@ impl Keeper for MemoryKeeper {
 
     fn replace(&mut self, alloc: Global, whole: &Kept) -> Result<(), EdgeFault>
         ensures does { Replaces whole.now self.old self.new result }
-        ensures kept { Some self.new.kept ≡ kept_after result (whole_if whole.now (Some self.old.kept)) (Some self.old.kept) }
-        ensures image { MayLeave result (whole_if whole.now (Some self.old.kept)) (may_be_left self.old) (may_be_left self.new) }
-        ensures cases { MustLeave result (whole_if whole.now (Some self.old.kept)) (may_be_left self.old) (may_be_left self.new) }
+        ensures kept { IsUnknownOr (content_after result (Some whole.now) (Some self.old.kept))
+            (Some self.new.kept) }
+        ensures image { MayLeave result (Some whole.now) (may_be_left self.old)
+            (may_be_left self.new) }
+        ensures cases { MustLeave result (Some whole.now) (may_be_left self.old)
+            (may_be_left self.new) }
         ensures cause { IsCounted self.old.replaces.faults self.new.replaces.faults result }
         ensures load_count { self.new.loads.faults ≡ self.old.loads.faults }
         ensures append_count { self.new.appends.faults ≡ self.old.appends.faults }

@@ -1,4 +1,4 @@
-// A database that is open, or is to be opened at a path.
+// A database that is open, or that is opened by the first call.
 ghost use Rattle.std.specs.Prelude.{◌≡◌, None, IfErr};
 
 use crate::database;
@@ -8,9 +8,9 @@ use std::alloc::Global;
 
 const CANNOT_OPEN: Error = Error::SqliteFailure(ErrorCode::CannotOpen);
 
-/// What opens a database over a store.
+/// Opens a database over a store.
 pub trait Opens<S: Alter + Drop>: Drop {
-    /// Opens the database, or makes it. What opens none refuses each time.
+    /// Opens the database, or creates it. A value that opens none fails each time.
     fn open(&self) -> Result<Connection<S>, Error>;
 }
 
@@ -22,7 +22,7 @@ pub struct AtPath {
 }
 
 impl AtPath {
-    /// What opens the file at this path.
+    /// Returns what opens the file at this path.
     pub fn new(rt: &HostRuntime, path: Text) -> AtPath
         ensures { result ≡ record { rt = rt.now; path = path } }
     {
@@ -49,7 +49,7 @@ impl<S: Alter + Drop> Opens<S> for Adopted {
 /// Where the database is.
 #[derive(Drop)]
 pub enum Place<S: Alter + Drop, O: Opens<S>> {
-    /// To be opened so, and not opened yet.
+    /// Not opened yet, and to be opened by this.
     At(O),
     /// Open.
     Open(Connection<S>),
@@ -80,7 +80,7 @@ impl<S: Alter + Drop, O: Opens<S>> Place<S, O> {
     }
 }
 
-/// The database, and the last place of its commits, once its tables were made or checked.
+/// The database, and the last place of its commits, if its tables were created or checked.
 #[derive(Drop)]
 pub struct Access<S: Alter + Drop, O: Opens<S>> {
     place: Place<S, O>,
@@ -88,7 +88,8 @@ pub struct Access<S: Alter + Drop, O: Opens<S>> {
 }
 
 impl<S: Alter + Drop, O: Opens<S>> Access<S, O> {
-    /// What is at this place, neither made nor checked yet.
+    /// Returns the access to this database, of which the tables are neither created nor checked
+    /// yet.
     pub fn new(place: Place<S, O>) -> Access<S, O>
         ensures place { result.place ≡ place }
         ensures last { result.last ≡ None }
@@ -96,7 +97,8 @@ impl<S: Alter + Drop, O: Opens<S>> Access<S, O> {
         Access { place, last: None }
     }
 
-    /// The rows that are there, in order. Where it is refused, the next call looks at the tables again.
+    /// Returns the rows in the order of their places. After an error the next call checks the
+    /// tables again.
     pub fn load(&mut self, alloc: Global) -> Result<Rows, Error>
         ensures forgets { IfErr result (λ _. self.new.last ≡ None) }
     {
@@ -106,21 +108,21 @@ impl<S: Alter + Drop, O: Opens<S>> Access<S, O> {
         Ok(rows)
     }
 
-    /// Puts a row behind those that are there.
+    /// Adds a row after the others.
     pub fn append(&mut self, alloc: Global, row: &[u8]) -> Result<(), Error> {
         let place = self.place.append(alloc, self.last, row)?;
         self.last = Some(place);
         Ok(())
     }
 
-    /// Puts these rows in the place of those that are there.
+    /// Keeps these rows in place of the ones before.
     pub fn replace(&mut self, alloc: Global, rows: &[Bytes]) -> Result<(), Error> {
         let place = self.place.replace(alloc, self.last, rows)?;
         self.last = Some(place);
         Ok(())
     }
 
-    /// Runs statements on the connection, and says whether one is open and ran them.
+    /// Runs statements on the connection, and returns whether one is open and ran them.
     #[cfg(test)]
     pub fn run(&mut self, text: &str) -> bool {
         match &mut self.place {

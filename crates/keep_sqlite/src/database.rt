@@ -1,10 +1,11 @@
-// The three calls on an open database, each in one transaction. What fails in it is rolled back where it is dropped.
+// The three calls on an open database, each in one transaction. A transaction that fails is rolled
+// back when it is dropped.
 use crate::tables;
 use jm_base::{Bytes, Rows};
 use sqlite::{Alter, Connection, Error, ErrorCode, Transaction};
 use std::alloc::Global;
 
-/// The rows, in order.
+/// Returns the rows in the order of their places.
 pub fn load<S: Alter>(alloc: Global, connection: &mut Connection<S>) -> Result<Rows, Error> {
     let mut tx = begin(connection)?;
     let rows = tables::rows(alloc, &mut tx)?;
@@ -12,7 +13,7 @@ pub fn load<S: Alter>(alloc: Global, connection: &mut Connection<S>) -> Result<R
     Ok(Rows::from_vec(rows))
 }
 
-/// Puts a row behind those that are there, and answers its place. `last` is the last place, where it is known.
+/// Adds a row after the others, and returns its place. `last` is the last place, if it is known.
 pub fn append<S: Alter>(
     alloc: Global,
     connection: &mut Connection<S>,
@@ -26,7 +27,7 @@ pub fn append<S: Alter>(
     Ok(place)
 }
 
-/// Puts these rows in the place of those that are there, and answers the last place.
+/// Keeps these rows in place of the ones before, and returns the last place.
 pub fn replace<S: Alter>(
     alloc: Global,
     connection: &mut Connection<S>,
@@ -47,7 +48,7 @@ fn begin<S: Alter>(connection: &mut Connection<S>) -> Result<Transaction<'_, S>,
     Ok(connection.transaction())
 }
 
-// the tables are made or checked where the last place is not known yet
+// the tables are created or checked if the last place is not known yet
 fn last_place<S: Alter>(
     alloc: Global,
     tx: &mut Transaction<'_, S>,

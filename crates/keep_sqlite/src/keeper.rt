@@ -1,6 +1,8 @@
-// A keeper of rows in a database, with its faults counted. What the database holds is not told.
-ghost use Rattle.std.specs.Prelude.{◌≡◌, None, IsSome, IfOk, IfErr};
-ghost use Rattle.keep_port.specs.Keeping.{IsCounted, IsTold, kept_after, whole_if, MayLeave, MustLeave};
+// A keeper of rows in a database, which counts its faults. Contracts do not know what the database
+// holds.
+ghost use Rattle.std.specs.Prelude.{◌≡◌, ◌⊎◌, None, Some, IsSome, IfOk, IfErr};
+ghost use Rattle.keep_port.specs.Keeping.{IsCounted, IsContent, IsUnknownOr, content_after, content_loaded, MayLeave};
+ghost use Rattle.keep_port.specs.declared.kept.Kept.{Kept};
 ghost use Rattle.keep_sqlite.specs.Answers.{Answers};
 
 use crate::access::{Access, Adopted, AtPath, Opens, Place};
@@ -13,13 +15,17 @@ use std::alloc::Global;
 #[cfg(test)]
 mod tests;
 
-// a base is of no format that is written
+// there is no format with a base yet
 const BASE: Error = Error::SqliteFailure(ErrorCode::NotADatabase);
 
-/// Keeps rows in a database over a store: a file's that is to be opened at a path, or any that is open and was adopted.
+/// Keeps rows in a database over a store: a file that the first call opens, or a connection that
+/// was adopted.
 ///
-/// Each call is one transaction. A refusal changes no row, and but for want of memory it raises the count of its call by one. Once the
-/// store has shut the database after a fault of the disk, each later call is refused.
+/// Each call is one transaction. An error changes no row, and raises the count of its call by one
+/// unless memory ran out. After the store has shut the database because of a fault of the disk,
+/// each later call fails.
+///
+/// Contracts know nothing of the content yet, nor of what a crash may leave.
 #[derive(Drop)]
 pub struct SqliteKeeper<S: Alter + Drop, O: Opens<S>> {
     access: Access<S, O>,
@@ -29,8 +35,8 @@ pub struct SqliteKeeper<S: Alter + Drop, O: Opens<S>> {
 }
 
 impl SqliteKeeper<FileStore<File>, AtPath> {
-    /// A keeper of the file at this path. It opens nothing: the first call opens the file, or makes it. A call by which it can
-    /// not be opened is refused, and the next one tries it again.
+    /// Returns a keeper of the file at this path. It opens nothing: the first call opens or creates
+    /// the file. A call that can't open it fails, and the next one tries again.
     pub fn at(rt: &HostRuntime, path: Text) -> SqliteKeeper<FileStore<File>, AtPath>
         ensures unopened { result.access.place ≡ Place.At (record { rt = rt.now; path = path }) }
         ensures loads { result.load_faults ≡ 0 }
@@ -42,7 +48,8 @@ impl SqliteKeeper<FileStore<File>, AtPath> {
 }
 
 impl<S: Alter + Drop> SqliteKeeper<S, Adopted> {
-    /// A keeper of what this connection is open to. While a transaction of it is not ended, each call is refused.
+    /// Returns a keeper of the database that this connection is open to. While a transaction of the
+    /// connection has not ended, each call fails.
     pub fn adopt(connection: Connection<S>) -> SqliteKeeper<S, Adopted>
         ensures adopted { result.access.place ≡ Place.Open connection }
         ensures loads { result.load_faults ≡ 0 }
@@ -69,7 +76,7 @@ impl<S: Alter + Drop, O: Opens<S>> SqliteKeeper<S, O> {
     }
 }
 
-// What a call answers for what came of it in the database, with its faults counted.
+// Returns what a call of the keeper returns for the result of the database, and counts a fault.
 fn answer<T: Drop>(faults: &mut u64, done: Result<T, Error>) -> Result<T, EdgeFault>
     ensures { Answers done faults.old faults.new result }
 {
@@ -94,10 +101,12 @@ impl<S: Alter + Drop + Send, O: Opens<S> + Send> Keeper for SqliteKeeper<S, O> {
 
     ghost replace_faults = { λ k. k.replace_faults };
 
-    /// The rows that are kept. There is no base.
+    /// Returns the rows. There is no base.
     fn load(&mut self, alloc: Global) -> Result<Kept, EdgeFault>
         ensures base { IfOk result (λ k. k.base ≡ None) }
-        ensures loaded { IfOk result (IsTold None) }
+        ensures loaded { IfOk result (IsContent None) }
+        ensures kept { IsUnknownOr (content_loaded result None) None }
+        ensures image { (k : Kept) → ⊥ → ⊥ ⊎ (None ≡ Some k) }
         ensures cause { IsCounted self.old.load_faults self.new.load_faults result }
         ensures append_count { self.new.append_faults ≡ self.old.append_faults }
         ensures replace_count { self.new.replace_faults ≡ self.old.replace_faults }
@@ -111,13 +120,13 @@ impl<S: Alter + Drop + Send, O: Opens<S> + Send> Keeper for SqliteKeeper<S, O> {
         answer(&mut self.append_faults, self.access.append(alloc, row))
     }
 
-    /// Keeps these rows in the place of those that are kept. A base is refused, and nothing is asked of the database then.
+    /// Keeps these rows in place of the ones before. Fails if there is a base, and then asks
+    /// nothing of the database.
     fn replace(&mut self, alloc: Global, whole: &Kept) -> Result<(), EdgeFault>
         ensures base { IsSome whole.now.base → result ≡ Err EdgeFault.Failed }
         ensures untouched { IsSome whole.now.base → self.new.access ≡ self.old.access }
-        ensures kept { None ≡ kept_after result (whole_if whole.now None) None }
-        ensures image { MayLeave result (whole_if whole.now None) (λ _. ⊥) (λ _. ⊥) }
-        ensures cases { MustLeave result (whole_if whole.now None) (λ _. ⊥) (λ _. ⊥) }
+        ensures kept { IsUnknownOr (content_after result (Some whole.now) None) None }
+        ensures image { MayLeave result (Some whole.now) (λ _. ⊥) (λ _. ⊥) }
         ensures cause { IsCounted self.old.replace_faults self.new.replace_faults result }
         ensures load_count { self.new.load_faults ≡ self.old.load_faults }
         ensures append_count { self.new.append_faults ≡ self.old.append_faults }

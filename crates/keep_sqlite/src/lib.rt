@@ -1,8 +1,9 @@
 //! A keeper of commits in a SQLite database.
 //!
-//! The database has two tables, made by `CREATE TABLE about (item INTEGER PRIMARY KEY, value INTEGER NOT NULL)`, whose one
-//! row is (1, 1), and by `CREATE TABLE commits (place INTEGER PRIMARY KEY, bytes BLOB NOT NULL)`, whose places count from 1.
-//! Other tables are left alone. Each call is one transaction, and what a file holds is not told.
+//! The database has two tables. The table `about` has columns `item` and `value`, and its one row
+//! (1, 1) names the format. The table `commits` has columns `place` and `bytes`, and its places
+//! count from 1. Other tables are left alone. Each call is one transaction. Contracts do not know
+//! what a file holds.
 #![tactic(auto)]
 
 mod access;

@@ -1,18 +1,18 @@
-// The two tables, made, read and written inside a transaction.
+// The two tables, created, read and written inside a transaction.
 use jm_base::Bytes;
 use sqlite::{Alter, Error, ErrorCode, Row, Transaction, params};
 use std::alloc::Global;
 
-/// The tables or their rows are not those of this format.
+/// The tables or their rows are not of this format.
 pub const OTHER_FORM: Error = Error::SqliteFailure(ErrorCode::NotADatabase);
 
 const MAKE: &str =
     "CREATE TABLE about (item INTEGER PRIMARY KEY, value INTEGER NOT NULL); CREATE TABLE commits (place INTEGER PRIMARY KEY, bytes BLOB NOT NULL); INSERT INTO about (item, value) VALUES (1, 1)";
 
-// what stands under the names of the two tables
+// how many tables, indexes and views have the names of the two tables
 const NAMED: &str = "SELECT count(*) FROM sqlite_schema WHERE name IN ('about', 'commits')";
 
-// which of them were made as `MAKE` makes them
+// how many of them were created by the text of `MAKE`
 const OURS: &str =
     "SELECT count(*) FROM sqlite_schema WHERE sql IN ('CREATE TABLE about (item INTEGER PRIMARY KEY, value INTEGER NOT NULL)', 'CREATE TABLE commits (place INTEGER PRIMARY KEY, bytes BLOB NOT NULL)')";
 
@@ -22,8 +22,8 @@ const COMMITS: &str = "SELECT place, bytes FROM commits ORDER BY place";
 
 const INSERT: &str = "INSERT INTO commits (place, bytes) VALUES (?1, ?2)";
 
-/// The rows in the order of their places. It makes the tables where there is neither, and refuses any that are not of this
-/// format.
+/// Returns the rows in the order of their places. It creates the tables if neither is there, and
+/// fails if any is not of this format.
 pub fn rows<S: Alter>(alloc: Global, tx: &mut Transaction<'_, S>) -> Result<Vec<Bytes>, Error> {
     if is_new(tx)? {
         tx.execute_batch(MAKE)?;
@@ -33,7 +33,7 @@ pub fn rows<S: Alter>(alloc: Global, tx: &mut Transaction<'_, S>) -> Result<Vec<
     read_rows(alloc, tx.query_all(COMMITS, &[])?)
 }
 
-// whether neither table is there
+// returns whether neither table is there
 fn is_new<S: Alter>(tx: &mut Transaction<'_, S>) -> Result<bool, Error> {
     let named = count(tx, NAMED)?;
     let ours = count(tx, OURS)?;
@@ -81,12 +81,12 @@ fn read_row(row: &Row, place: i64) -> Result<Bytes, Error> {
     Ok(Bytes::from_vec(bytes))
 }
 
-/// The last place of so many rows.
+/// Returns the last place of so many rows.
 pub fn last_of(rows: usize) -> Result<i64, Error> {
     i64::try_from(rows).map_err(|_| OTHER_FORM)
 }
 
-/// Puts a row at the place after the last one, and answers its place.
+/// Adds a row at the place after the last one, and returns its place.
 pub fn insert<S: Alter>(tx: &mut Transaction<'_, S>, last: i64, row: &[u8]) -> Result<i64, Error> {
     let Some(place) = last.checked_add(1) else {
         return Err(OTHER_FORM);
@@ -95,7 +95,7 @@ pub fn insert<S: Alter>(tx: &mut Transaction<'_, S>, last: i64, row: &[u8]) -> R
     Ok(place)
 }
 
-/// Puts these rows at the places from 1, after those that were there are gone, and answers the last place.
+/// Removes all rows and adds these at the places from 1, and returns the last place.
 pub fn insert_all<S: Alter>(tx: &mut Transaction<'_, S>, rows: &[Bytes]) -> Result<i64, Error> {
     tx.execute("DELETE FROM commits", &[])?;
     let mut last = 0i64;

@@ -54,8 +54,8 @@ fn measure_keeper<R: Clock + Print + Eprint, S: Alter + Drop + Send, O: Opens<S>
     eprintln!(rt; "append: {nanos} ns")
 }
 
-/// Measures appends to a file, which it makes where there is none. How many rows the file has then goes to standard output, the time
-/// of the appends to the error output.
+/// Measures appends to a file, which it makes where there is none. How many rows the file has then
+/// goes to standard output, the time of the appends to the error output.
 pub(crate) fn measure_append(rt: &HostRuntime, file: &str) -> io::Result<()> {
     match Text::from_str(rt.alloc(), file) {
         Ok(path) => measure_keeper(rt, rt.alloc(), SqliteKeeper::at(rt, path)),

@@ -23,7 +23,8 @@ fn invalid() -> io::Error {
     io::Error::from(io::ErrorKind::InvalidData)
 }
 
-// The first row of the bytes, and the bytes behind it. A row is its length, as a number of 8 bytes with the big end first, and its bytes.
+// The first row of the bytes, and the bytes behind it. A row is its length, as a number of 8 bytes
+// with the big end first, and its bytes.
 fn first_row(bytes: &[u8]) -> Option<(&[u8], &[u8])> {
     if bytes.len() < 8 {
         return None;
@@ -156,8 +157,9 @@ fn runs<R: Clock>(rt: &R, alloc: Global, rows: &[&[u8]]) -> io::Result<(Times, u
     Ok((times, edits))
 }
 
-/// Measures the commits of a file: its rows are copied, decoded and encoded again. Each row is its length, as a number of 8 bytes with
-/// the big end first, and the bytes of a commit. The counts go to standard output, the times to the error output.
+/// Measures the commits of a file: its rows are copied, decoded and encoded again. Each row is its
+/// length, as a number of 8 bytes with the big end first, and the bytes of a commit. The counts go
+/// to standard output, the times to the error output.
 pub(crate) fn measure_keep<R: Clock + Print + Eprint + Files + AllocGlobal>(
     rt: &R,
     file: &str,

@@ -1,8 +1,8 @@
-// Turns at the account lock beside turns at a mutex, over the same work, by threads in contention.
+// Turns at the account lock next to turns at a mutex, over the same work, by threads in contention.
 ghost use Rattle.std.specs.Prelude.{◌≡◌, true, false, [], length, ◌<◌, ◌^◌, ◌+◌, IfOk, All};
 
 use crate::timing::{RUNS, median, nanos_since, no_memory};
-use account_lock::{AccountLock, Pass, Standing};
+use account_lock::{AccountLock, MAX_NAMES, Pass, Standing};
 use std::alloc::Global;
 use std::sync::{Mutex, Wait};
 use std::thread::Threads;
@@ -70,7 +70,7 @@ const SHAPES: [Shape; 3] = [
 
 // Takes this many turns at the account lock.
 fn account_turns<R: Wait>(rt: &R, lock: &AccountLock<Tally>, mut pass: Pass, rounds: u64)
-    requires lock { pass.lock ≡ lock.now }
+    requires lock { pass.lock ≡ lock.now.id }
     requires free { (pass.root ≡ false) × (pass.holds ≡ false) }
 {
     for _ in 0..rounds {
@@ -111,9 +111,10 @@ fn passes(
     root: &mut Pass,
     threads: usize,
 ) -> io::Result<Vec<Pass>>
-    requires lock { root.old.lock ≡ lock.now }
-    requires root { (root.old.root ≡ true) × (root.old.given + threads < 2 ^ 53) }
-    ensures { IfOk result (λ v. All (λ p. (p.lock ≡ lock.now) × (p.root ≡ false) × (p.holds ≡ false)) v.items) }
+    requires lock { root.old.lock ≡ lock.now.id }
+    requires root { (root.old.root ≡ true) × (root.old.given + threads < MAX_NAMES) }
+    ensures { IfOk result (λ v. All (λ p. (p.lock ≡ lock.now.id) × (p.root ≡ false)
+        × (p.holds ≡ false)) v.items) }
 {
     let mut passes = Vec::new(alloc);
     for made in 0..threads {
@@ -125,7 +126,8 @@ fn passes(
     Ok(passes)
 }
 
-// Turns at an account lock, by threads at once. A further pass looks at the end how many were counted.
+// Turns at an account lock, by threads at once. A further pass looks at the end how many were
+// counted.
 fn by_account_lock<R: Threads + Wait + Clock + Sync>(
     rt: &R,
     alloc: Global,
@@ -148,7 +150,7 @@ fn by_account_lock<R: Threads + Wait + Clock + Sync>(
         rt,
         passes,
         &|pass: Pass|
-            requires { (pass.lock ≡ shared.now) × (pass.root ≡ false) × (pass.holds ≡ false) }
+            requires { (pass.lock ≡ shared.now.id) × (pass.root ≡ false) × (pass.holds ≡ false) }
         { account_turns(rt, shared, pass, rounds) },
     )?;
     let nanos = nanos_since(rt, start)?;
@@ -191,8 +193,9 @@ fn compared<R: Threads + Wait + Clock + Sync>(
     })
 }
 
-/// Measures turns by one, two and four threads, this many by each. What they counted goes to standard output. The times go to the error
-/// output, but for shapes with more threads than there are processors.
+/// Measures turns by one, two and four threads, this many by each. What they counted goes to
+/// standard output. The times go to the error output, but for shapes with more threads than there
+/// are processors.
 pub(crate) fn measure_lock<R: Threads + Wait + Clock + Print + Eprint + Sync>(
     rt: &R,
     alloc: Global,

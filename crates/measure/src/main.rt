@@ -1,7 +1,9 @@
-//! The program `measure`: how long calls of the library take, beside a plain way to do the same work. The benchmarks run it.
+//! The program `measure`: how long calls of the library take, beside a plain way to do the same
+//! work. The benchmarks run it.
 //!
-//! Times go to the error output, and counts, which are the same whatever the schedule, to standard output. Status 2 comes where the
-//! words name nothing to measure, and 1 where the clock, the memory, a file or the output failed.
+//! Times go to the error output, and counts, which are the same whatever the schedule, to standard
+//! output. Status 2 comes where the words name nothing to measure, and 1 where the clock, the
+//! memory, a file or the output failed.
 #![tactic(auto)]
 
 mod append;

@@ -35,7 +35,8 @@ fn show_all(rt: &HostRuntime, folder: &str, wanted: &Wanted) -> io::Result<Shown
     Ok(Shown { messages, bytes })
 }
 
-/// Measures what `jmap read` shows of each message of a folder. The counts go to standard output, the time to the error output.
+/// Measures what `jmap read` shows of each message of a folder. The counts go to standard output,
+/// the time to the error output.
 pub(crate) fn measure_view(rt: &HostRuntime, folder: &str) -> io::Result<()> {
     let wanted = wanted_for_read(rt.alloc()).map_err(|_| no_memory())?;
     let start = Instant::now(rt)?;

@@ -7,7 +7,7 @@ use Rattle.account_lock.proofs.Turning.{watches}
 use Rattle.account_lock.proofs.steps.await_turn.Goals as goal
 
 pub load-found-requires : goal.load-found-requires
-load-found-requires g c = (search rules, search rules, watches _ _ _ _ _ _ (search rules) (search rules))
+load-found-requires g c = (search rules, search rules, watches _ _ _ _ _ _ _ (search rules) (search rules))
 
 pub returns-then-found-ticket-clause-got : goal.returns-then-found-ticket-clause-got
 returns-then-found-ticket-clause-got g c = subst (λ (m : Me (Option (Box g.row.B.Denot Global)) View). Got (λ b. g.B.Standing.entries b.value) (λ b. record { before = g.B.Standing.before b.value; opening = g.B.Standing.opening b.value }) m c.load-found.new.seat.me) c.loop.invariant.1

@@ -7,4 +7,4 @@ pub exchange-requires : goal.exchange-requires
 exchange-requires g c = let held = c.requires.ready.1 in (search rules, (Some held.0, held.1 ∙ ap (λ cs. (0, Some held.0) ∷ rest cs) (sym held.1)))
 
 pub load-requires : goal.load-requires
-load-requires g c = (search rules, search rules, leaves_empty_at _ _ _ _ _ (search rules) (search rules))
+load-requires g c = (search rules, search rules, leaves_empty_at _ _ _ _ _ _ (search rules) (search rules))

@@ -1,6 +1,6 @@
 use Rattle.std.proofs.Common.{◌++◌, [], sym, ap, ◌∙◌}
 use Rattle.std.proofs.lemmas.List.{append-nil}
-use Rattle.account_lock.specs.Passes.{PassFacts}
+use Rattle.account_lock.specs.Views.{PassFacts}
 use Rattle.account_lock.proofs.tests.hold.Goals as goal
 
 pub give-requires-clause-entries : goal.give-requires-clause-entries

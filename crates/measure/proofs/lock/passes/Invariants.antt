@@ -2,4 +2,4 @@ use Rattle.std.proofs.Common.{◌≡◌, true, false, ◌+◌, All}
 use Rattle.measure.proofs.lock.passes.Given as goal
 
 abbrev pub invariant-loop-made : goal.invariant-loop-made
-invariant-loop-made l = (l.root ≡ record l.initial.root { given = l.initial.root.given + l.made }) × All (λ p. (p.lock ≡ l.initial.lock) × (p.root ≡ false) × (p.holds ≡ false)) l.passes.items
+invariant-loop-made l = (l.root ≡ record l.initial.root { given = l.initial.root.given + l.made }) × All (λ p. (p.lock ≡ l.initial.lock.id) × (p.root ≡ false) × (p.holds ≡ false)) l.passes.items

@@ -1,18 +1,18 @@
 use Rattle.std.proofs.Common.{rules, ◌≡◌, ◌∙◌, sym, subst}
 use Rattle.account_lock.specs.Entries.{StartsWith}
 use Rattle.account_lock.specs.Views.{joined}
-use Rattle.account_lock.specs.Passes.{PassFacts, facts, facts_of}
+use Rattle.account_lock.specs.Views.{PassFacts, facts, facts_of}
 use Rattle.account_lock.proofs.Entries.{then_more}
 use Rattle.account_lock.proofs.Naming.{joins}
 use Rattle.account_lock.proofs.Joining.{joined_facts}
 use Rattle.account_lock.proofs.lock.AccountLock.join.Goals as goal
 
 pub join_seat-requires : goal.join_seat-requires
-join_seat-requires g c = (search rules, search rules, search rules, search rules, joins _ _ _ _ _ _ (search rules) (search rules) (search rules))
+join_seat-requires g c = (search rules, search rules, search rules, search rules, joins _ _ _ _ _ _ _ (search rules) (search rules) (search rules))
 
 pub returns-clause-pass : goal.returns-clause-pass
 returns-clause-pass g c =
-    let z = c.into_badge.result.table_id in let v = c.into_seat-place.result.me.0 in let w = c.into_seat.result.me.0 in
+    let z = c.into_badge.result.table_id in let v = c.into_seat-seat.result.me.0 in let w = c.into_seat.result.me.0 in
     let is : facts z c.into_badge.result.views ≡ facts_of z (joined v w) = search rules in
     let one : facts_of z v ≡ c.args.pass.now = search rules in
     let two : facts_of c.into_seat.result.table_id w ≡ c.args.other = search rules in
@@ -20,7 +20,7 @@ returns-clause-pass g c =
 
 pub returns-clause-seen : goal.returns-clause-seen
 returns-clause-seen g c =
-    let z = c.into_badge.result.table_id in let v = c.into_seat-place.result.me.0 in let w = c.into_seat.result.me.0 in
+    let z = c.into_badge.result.table_id in let v = c.into_seat-seat.result.me.0 in let w = c.into_seat.result.me.0 in
     let is : facts z c.into_badge.result.views ≡ facts_of z (joined v w) = search rules in
     let one : facts_of z v ≡ c.args.pass.now = search rules in
     subst (λ (k : PassFacts). StartsWith k.seen c.args.pass.now.seen) (sym is) (subst (λ (k : PassFacts). StartsWith (joined v w).seen k.seen) one (then_more v.turn v.seen w.seen))

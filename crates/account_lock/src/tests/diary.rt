@@ -1,17 +1,16 @@
-// The simplest value with a history, and one turn at it. It shows how a holder uses the lock, and serves tests and measurements.
+// The simplest value with a history, and one turn at it: the value that the tests put behind the lock.
 ghost use Rattle.std.specs.Prelude.{◌≡◌, ◌++◌, ◌∷◌, [], true, false, OnOk, OnErr, map};
 ghost use Rattle.mail_records.specs.Histories.{Refused};
 ghost use Rattle.account_lock.specs.Entries.{StartsWith};
 
-use crate::lock::{AccountLock, Pass};
-use crate::standing::Standing;
+use crate::{AccountLock, Pass, Standing};
 use jm_base::NoMemory;
 use mail_records::Stamp;
 use std::alloc::Global;
 use std::marker::Model;
 use std::sync::Wait;
 
-/// A list of stamps, each of which stands for a refused change. It has no entries before its start.
+/// A list of stamps, each of which is the entry of a refused change. It has no entries before its start.
 #[derive(Drop)]
 pub struct Diary {
     stamps: Vec<Stamp>,
@@ -37,7 +36,7 @@ impl Standing for Diary {
 }
 
 impl Diary {
-    /// With no entry.
+    /// Returns a diary with no entry.
     pub fn new(alloc: Global) -> Diary
         ensures { result ≡ [] }
     {
@@ -46,7 +45,7 @@ impl Diary {
         }
     }
 
-    /// Its stamps, in order.
+    /// Lends its stamps, oldest first.
     pub fn stamps(&self) -> &[Stamp]
         ensures { map Refused result.now ≡ self.now }
     {
@@ -64,15 +63,15 @@ impl Diary {
     }
 }
 
-/// One turn: waits for the diary, enters a stamp of the pass's name with this serial number, and gives the diary back. The pass has then
-/// given one entry more, and seen what it had seen and then more. Where no memory is left it has given none.
+/// Waits for the diary, enters a stamp of the pass's name with this serial number, and gives the diary back. If memory runs out,
+/// no stamp is entered.
 pub fn enter_in_turn<R: Wait>(
     rt: &R,
     lock: &AccountLock<Diary>,
     pass: &mut Pass,
     serial: u64,
 ) -> Result<(), NoMemory>
-    requires lock { pass.old.lock ≡ lock.now }
+    requires lock { pass.old.lock ≡ lock.now.id }
     requires free { (pass.old.root ≡ false) × (pass.old.holds ≡ false) }
     ensures same { pass.new ≡ record pass.old { seen = pass.new.seen; own = pass.new.own } }
     ensures seen { StartsWith pass.new.seen pass.old.seen }

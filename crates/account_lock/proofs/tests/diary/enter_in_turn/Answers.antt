@@ -1,10 +1,10 @@
 use Rattle.std.proofs.Common.{rules, ◌≡◌, List, ◌++◌, ◌∷◌, [], ℕ, ap, ◌∙◌, sym, subst, OnOk}
 use Rattle.mail_records.specs.Histories.{Entry, Refused}
 use Rattle.account_lock.specs.Entries.{under, StartsWith}
-use Rattle.account_lock.specs.Passes.{PassFacts}
+use Rattle.account_lock.specs.Views.{PassFacts}
 use Rattle.account_lock.proofs.Entries.{starts_trans}
 use Rattle.account_lock.proofs.Diaries.{extends, one_more}
-use Rattle.account_lock.proofs.diary.enter_in_turn.Goals as goal
+use Rattle.account_lock.proofs.tests.diary.enter_in_turn.Goals as goal
 
 pub give-requires-clause-entries : goal.give-requires-clause-entries
 give-requires-clause-entries g c =
