@@ -4,4 +4,8 @@ pub mod Cutting
 pub mod Turned
 pub mod Spelled
 pub mod DateSplit
+pub mod Gaps
+pub mod DateComments
+pub mod PlainAddress
+pub mod QuotedName
 pub mod DateWalk

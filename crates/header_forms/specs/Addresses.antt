@@ -1,8 +1,8 @@
 -- The Addresses and the GroupedAddresses form (RFC 8621, sections 4.1.2.3 and 4.1.2.4).
-use Rattle.std.specs.Prelude.{ℕ, ◌-◌, Bool, true, false, ◌&&◌, not, ◌==◌, nat_lt, List, [], ◌∷◌, length, take, drop, map, filter, Option, Some, None, if◌then◌else◌}
-use Rattle.std.specs.List.{prefix_len, suffix_len, list_any, position_or_len, before_first, after_first, flat_map}
-use Rattle.std.specs.Char.{is_ascii_whitespace}
+use Rattle.std.specs.Prelude.{ℕ, Bool, true, false, ◌&&◌, not, ◌==◌, nat_lt, List, [], ◌∷◌, length, map, filter, Option, Some, None, if◌then◌else◌}
+use Rattle.std.specs.List.{list_any, position_or_len, before_first, after_first, flat_map}
 use Rattle.std.specs.Str.{encode_utf8_all}
+use Rattle.mail_text.specs.Texts.{trimmed}
 use Rattle.mime_words.specs.Words.{decoded_words}
 use Rattle.header_forms.specs.declared.marks.Place.{Place}
 use Rattle.header_forms.specs.declared.marks.Place.TheVariants.{Bare, Quoted, Comment, Bracket}
@@ -13,12 +13,6 @@ use Rattle.header_forms.specs.declared.address.Address.{Address}
 use Rattle.header_forms.specs.declared.address.Group.{Group}
 use Rattle.header_forms.specs.Marks.{marks}
 use Rattle.header_forms.specs.Groups.{Entry, entries}
-
-abbrev pub trimmed_start : List ℕ → List ℕ
-trimmed_start text = drop (prefix_len is_ascii_whitespace text) text
-
-abbrev pub trimmed : List ℕ → List ℕ
-trimmed text = let t = trimmed_start text in take (length t - suffix_len is_ascii_whitespace t) t
 
 abbrev pub is_comment : Place → Bool
 is_comment Bare = false

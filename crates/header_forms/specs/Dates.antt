@@ -1,11 +1,14 @@
 -- The Date form (RFC 5322, sections 3.3 and 4.3; RFC 8621, section 4.1.2.6).
-use Rattle.std.specs.Prelude.{ℕ, ◌<◌, ◌≤◌, zero, suc, ◌+◌, ◌-◌, ◌*◌, ◌/◌, ◌%◌, Bool, true, false, ◌&&◌, ◌||◌, ◌==◌, nat_lt, nat_le, ℤ, pos, negsuc, neg_ℤ, ◌-ℤ◌, int_le, min, List, [], ◌∷◌, ◌++◌, length, Option, Some, None, option_map, codes, bytes_eq, if◌then◌else◌}
+use Rattle.std.specs.Prelude.{ℕ, ◌<◌, ◌≤◌, ◌+◌, ◌-◌, ◌*◌, ◌/◌, ◌%◌, Bool, true, false, ◌&&◌, ◌||◌, ◌==◌, nat_lt, nat_le, ℤ, pos, negsuc, neg_ℤ, ◌-ℤ◌, int_le, min, List, [], ◌∷◌, ◌++◌, length, Option, Some, None, option_map, codes, bytes_eq, if◌then◌else◌}
 use Rattle.std.specs.List.{list_all}
 use Rattle.std.specs.Char.{is_ascii_whitespace, is_ascii_digit, is_ascii_alphabetic}
 use Rattle.std.specs.Str.{str_to_ascii_lowercase}
 use Rattle.jiff.specs.Words.{days_in_month}
-use Rattle.jm_base.specs.Moments.{clock_seconds}
+use Rattle.jm_base.specs.UtcDates.{date_time_seconds}
 use Rattle.jm_base.specs.declared.identifiers.UtcDate.{UtcDate}
+use Rattle.mail_text.specs.declared.comment.State.{State}
+use Rattle.mail_text.specs.declared.comment.State.TheVariants.{Outside, Inside, Escaped}
+use Rattle.mail_text.specs.Comments.{next}
 use Rattle.mime_words.specs.Words.{◌>>=◌}
 use Rattle.header_forms.specs.declared.dates_moment.Moment.{Moment}
 use Rattle.header_forms.specs.declared.dates_moment.Offset.{Offset}
@@ -34,41 +37,24 @@ parted r = record { front = []; later = all_words r }
 abbrev pub at_comma : Read → Read
 at_comma r = record { front = []; later = (44 ∷ []) ∷ all_words r }
 
--- where a byte stands: between comments, in this many comments, or behind a backslash in this many
-pub data State : Type 0 where
-  between : State
-  inside : ℕ → State
-  escaped : ℕ → State
-
-abbrev pub closed : ℕ → State
-closed zero = between
-closed (suc zero) = between
-closed (suc (suc depth)) = inside (suc depth)
-
--- where the byte behind this one stands
-abbrev pub next : State → ℕ → State
-next between b = if b == 40 then inside 1 else between
-next (inside depth) b = if b == 40 then inside (suc depth) else (if b == 41 then closed depth else (if b == 92 then escaped depth else inside depth))
-next (escaped depth) b = inside depth
-
 -- words are parted by white space and comments
 abbrev pub with_byte : State → ℕ → Read → Read
-with_byte between b r = if b == 40 || is_ascii_whitespace b then parted r else (if b == 44 then at_comma r else onto b r)
-with_byte (inside depth) b r = r
-with_byte (escaped depth) b r = r
+with_byte Outside b r = if b == 40 || is_ascii_whitespace b then parted r else (if b == 44 then at_comma r else onto b r)
+with_byte (Inside depth) b r = r
+with_byte (Escaped depth) b r = r
 
 -- nothing is read where a comment doesn't close
 abbrev pub read_end : State → Option Read
-read_end between = Some (record { front = []; later = [] })
-read_end (inside depth) = None
-read_end (escaped depth) = None
+read_end Outside = Some (record { front = []; later = [] })
+read_end (Inside depth) = None
+read_end (Escaped depth) = None
 
 abbrev pub read_from : List ℕ → State → Option Read
 read_from [] state = read_end state
 read_from (b ∷ bs) state = option_map (with_byte state b) (read_from bs (next state b))
 
 abbrev pub words_of : List ℕ → Option (List (List ℕ))
-words_of text = option_map all_words (read_from text between)
+words_of text = option_map all_words (read_from text Outside)
 
 -- the number of a name in a list of names of three letters each, in either case, the first being 1
 abbrev pub place_in : List (List ℕ) → ℕ → List ℕ → Option ℕ
@@ -212,7 +198,7 @@ offset_seconds z = if z.behind then neg_ℤ (pos (z.minutes * 60)) else pos (z.m
 -- the seconds since the beginning of 1970 in UTC: the clock of the zone, less its offset
 abbrev pub moment_seconds : Moment → ℤ
 moment_seconds m =
-    clock_seconds (record { year = m.year; month = m.month; day = m.day; hour = m.time.hour; minute = m.time.minute; second = m.time.second })
+    date_time_seconds (record { year = m.year; month = m.month; day = m.day; hour = m.time.hour; minute = m.time.minute; second = m.time.second })
     -ℤ offset_seconds m.offset
 
 -- the moments of the years 0001 to 9999 (RFC 8620, section 1.4)

@@ -6,4 +6,5 @@ pub mod Addresses
 pub mod Running
 pub mod Dates
 pub mod DateWords
+pub mod Plain
 pub mod Forms

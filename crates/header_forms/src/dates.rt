@@ -2,7 +2,7 @@
 ghost use Rattle.std.specs.Prelude.{◌≡◌, ◌+◌, ◌*◌, ◌*ℤ◌, pos, IfOk, IfSome};
 ghost use Rattle.jiff.specs.Words.{IsWithin};
 ghost use Rattle.jiff_core.specs.Calendar.{days_from_civil};
-ghost use Rattle.jm_base.specs.Moments.{IsMoment};
+ghost use Rattle.jm_base.specs.UtcDates.{IsUtcDate};
 ghost use Rattle.header_forms.specs.Dates;
 ghost use Rattle.header_forms.specs.Dates.{IsReal, date_text, moment_seconds, utc_of};
 
@@ -62,7 +62,7 @@ fn seconds_of(moment: &Moment) -> i64
 /// The moment, if it is of the years 0001 to 9999.
 fn if_in_range(seconds: i64) -> Option<UtcDate>
     ensures value { result ≡ Dates.if_in_range seconds }
-    ensures kept { IfSome result IsMoment }
+    ensures kept { IfSome result IsUtcDate }
 {
     if -62135596800 <= seconds && seconds <= 253402300799 {
         Some(UtcDate { seconds })
@@ -75,7 +75,7 @@ fn if_in_range(seconds: i64) -> Option<UtcDate>
 /// years 0001 to 9999 (RFC 8620, section 1.4).
 pub fn moment_of(text: &[u8]) -> Option<UtcDate>
     ensures value { result ≡ utc_of text.now }
-    ensures kept { IfSome result IsMoment }
+    ensures kept { IfSome result IsUtcDate }
 {
     let moment = read_moment(text)?;
     if_in_range(seconds_of(&moment))

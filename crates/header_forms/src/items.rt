@@ -2,12 +2,14 @@
 ghost use Rattle.std.specs.Prelude.{◌≡◌, ◌≤◌, ◌∷◌, [], ◌++◌, cond, length, IfOk, OnOk, string_bytes};
 ghost use Rattle.std.specs.List.{position_or_len};
 ghost use Rattle.header_forms.specs.Addresses;
-ghost use Rattle.header_forms.specs.Addresses.{trimmed, in_part, spelled, opens_bracket, closes_bracket, opens_comment, phrase_of, address_of};
+ghost use Rattle.header_forms.specs.Addresses.{in_part, spelled, opens_bracket, closes_bracket, opens_comment, phrase_of, address_of};
+ghost use Rattle.mail_text.specs.Texts.{trimmed};
 
 use crate::address::{Address, Addresses};
 use crate::marks::{Mark, Part, Place};
 use crate::texts::decode_text;
 use jm_base::{NoMemory, Text};
+use mail_text::trim;
 use std::alloc::Global;
 
 fn is_comment(place: Place) -> bool
@@ -106,13 +108,6 @@ fn spell(alloc: Global, part: Part, marks: &[Mark]) -> Result<String, NoMemory>
         push_mark(&mut out, part, *mark)?;
     }
     Ok(out)
-}
-
-/// A text without the white space at both ends.
-fn trim(text: &str) -> &str
-    ensures { result.now ≡ trimmed text.now }
-{
-    text.trim_ascii()
 }
 
 /// The text of a part, trimmed.

@@ -1,9 +1,36 @@
-// What the definitions say of examples in the forms of identifiers, addresses, groups and dates (RFC 8621, section 4.1.2), each by
-// computing.
-ghost use Rattle.std.specs.Prelude.{◌≡◌, [], ◌∷◌, Some, None, codes};
-ghost use Rattle.header_forms.specs.Addresses.{addresses_in, groups_in};
+// Laws of the forms of addresses and dates (RFC 8621, section 4.1.2), and what the definitions say of examples. Each is the contract
+// of a function that does nothing.
+ghost use Rattle.std.specs.Prelude.{◌≡◌, ◌<◌, [], ◌∷◌, ◌++◌, List, ℕ, Some, None, true, length, codes};
+ghost use Rattle.std.specs.List.{list_all};
+ghost use Rattle.std.specs.Str.{IsUtf8, chars, encode_utf8_all};
+ghost use Rattle.mail_text.specs.declared.comment.State.TheVariants.{Outside};
+ghost use Rattle.mail_text.specs.Comments.{after_text};
+ghost use Rattle.mail_text.specs.Texts.{trimmed};
+ghost use Rattle.mime_words.specs.Words.{decoded_words};
+ghost use Rattle.header_forms.specs.Addresses.{addresses_in, groups_in, if_some};
 ghost use Rattle.header_forms.specs.Angles.{angle_texts};
-ghost use Rattle.header_forms.specs.Dates.{date_text};
+ghost use Rattle.header_forms.specs.Dates.{date_text, utc_of};
+ghost use Rattle.header_forms.specs.DateWords.{AreComments};
+ghost use Rattle.header_forms.specs.Plain.{is_inner, is_plain, quoted};
+
+/// A text without quote marks, parentheses, commas, colons and angle brackets is one address, itself, without a name; white space
+/// at its ends is dropped (addr-spec; RFC 5322, section 3.4.1).
+pub fn plain_texts_are_one_address()
+    ensures { (text : List ℕ) → IsUtf8 text → list_all is_plain (chars text) ≡ true → 0 < length (trimmed text) → addresses_in text ≡ record { email = trimmed text; name = None } ∷ [] }
+{}
+
+/// A display-name that is written between quote marks, with a backslash before each quote mark and backslash in it, is the name that
+/// was meant, trimmed and with its encoded-words decoded, whatever its characters are (quoted-string; RFC 5322, section 3.2.4).
+pub fn quoted_names_are_read_back()
+    ensures { (text name address : List ℕ) → chars text ≡ 34 ∷ (quoted name ++ 34 ∷ 60 ∷ (address ++ 62 ∷ [])) → list_all is_inner address ≡ true → 0 < length (trimmed (encode_utf8_all address)) → addresses_in text ≡ record { email = trimmed (encode_utf8_all address); name = if_some (decoded_words (trimmed (encode_utf8_all name))) } ∷ [] }
+{}
+
+/// Comments after a space between two words of a date change nothing of what it says (RFC 5322, section 3.2.2): neither the date
+/// that is shown nor its moment. What stands before must have its own comments closed.
+pub fn comments_in_dates_change_nothing()
+    ensures date { (front comments back : List ℕ) → after_text Outside front ≡ Outside → AreComments comments → date_text (front ++ 32 ∷ (comments ++ back)) ≡ date_text (front ++ 32 ∷ back) }
+    ensures moment { (front comments back : List ℕ) → after_text Outside front ≡ Outside → AreComments comments → utc_of (front ++ 32 ∷ (comments ++ back)) ≡ utc_of (front ++ 32 ∷ back) }
+{}
 
 /// Examples of identifiers, addresses and groups: comments and quote marks within others; what isn't closed, which goes on to the
 /// end; quote marks in a bracket, which hide a `>`; and plain characters, a `;` outside a group and a second `:` in one.

@@ -29,5 +29,8 @@ pub use dates::{date_of, moment_of};
 pub use form::Form;
 pub use forms::form_of;
 pub use groups::{addresses_of, groups_of};
-pub use laws::{dates_of_examples, forms_of_examples};
+pub use laws::{
+    comments_in_dates_change_nothing, dates_of_examples, forms_of_examples,
+    plain_texts_are_one_address, quoted_names_are_read_back,
+};
 pub use texts::{on_one_line, raw_of, text_of_value};

@@ -6,3 +6,4 @@ mod Cuts
 mod FirstTexts
 mod LineEnds
 mod Tags
+mod Semicolons

@@ -1,5 +1,5 @@
 -- Identifiers put in one after the other.
-use Rattle.std.proofs.Common.{◌≡◌, ℕ, zero, suc, ◌+◌, ◌<◌, ◌≤◌, Bool, true, false, List, [], ◌∷◌, ◌++◌, length, filter, take, drop, get_or, Less, Equal, Greater, refl, sym, ap, ◌∙◌, append_assoc, add-one, arith}
+use Rattle.std.proofs.Common.{◌≡◌, ℕ, zero, suc, ◌+◌, ◌<◌, true, false, List, [], ◌∷◌, ◌++◌, length, filter, take, drop, get_or, Less, Equal, Greater, refl, sym, ap, ◌∙◌, append_assoc, add-one, arith}
 use Rattle.std.proofs.Math.Seq.{take-suc}
 use Rattle.std.specs.Prelude.{if◌then◌else◌}
 use Rattle.std.specs.Ordering.{nat_cmp}

@@ -1,5 +1,5 @@
 -- The leaves of a message and the bytes that they stand for, by their numbers.
-use Rattle.std.specs.Prelude.{ℕ, Bool, true, false, ◌&&◌, ◌||◌, not, ◌==◌, List, [], ◌∷◌, find, Option, Some, None, option_map, is_some, bytes_eq, codes, slice_range}
+use Rattle.std.specs.Prelude.{ℕ, Bool, true, false, ◌&&◌, ◌||◌, not, ◌==◌, List, [], ◌∷◌, find, Option, Some, None, option_map, bytes_eq, codes, slice_range}
 use Rattle.std.specs.List.{list_any}
 use Rattle.mime_codec.specs.Decoded.{decoded}
 use Rattle.mime_type.specs.Node.{Node}

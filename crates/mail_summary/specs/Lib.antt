@@ -4,6 +4,5 @@ pub mod Texts
 pub mod Subjects
 pub mod Links
 pub mod Received
-pub mod States
 pub mod Summaries
 pub mod Values

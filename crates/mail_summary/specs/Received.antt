@@ -5,7 +5,10 @@ use Rattle.jm_base.specs.declared.identifiers.UtcDate.{UtcDate}
 use Rattle.mime_lines.specs.Fields.{fields_of}
 use Rattle.mime_lines.specs.Named.{is_named, value_in}
 use Rattle.header_forms.specs.Texts.{on_one_line}
-use Rattle.header_forms.specs.Dates.{State, between, inside, escaped, next, utc_of}
+use Rattle.mail_text.specs.declared.comment.State.{State}
+use Rattle.mail_text.specs.declared.comment.State.TheVariants.{Outside, Inside, Escaped}
+use Rattle.mail_text.specs.Comments.{next}
+use Rattle.header_forms.specs.Dates.{utc_of}
 
 -- the value of the first field that has this name
 abbrev pub first_value_of : List ℕ → List ℕ → Option (List ℕ)
@@ -13,9 +16,9 @@ first_value_of bytes name = option_map (value_in bytes) (find (is_named bytes na
 
 -- a semicolon outside comments
 abbrev pub is_mark : State → ℕ → Bool
-is_mark between b = b == 59
-is_mark (inside depth) b = false
-is_mark (escaped depth) b = false
+is_mark Outside b = b == 59
+is_mark (Inside depth) b = false
+is_mark (Escaped depth) b = false
 
 -- what stands behind the last of them
 abbrev pub behind_last : State → List ℕ → Option (List ℕ)
@@ -23,7 +26,7 @@ behind_last state [] = None
 behind_last state (b ∷ bs) = option_or (behind_last (next state b) bs) (if is_mark state b then Some bs else None)
 
 abbrev pub moment_behind : List ℕ → Option UtcDate
-moment_behind value = option_and_then utc_of (behind_last between (on_one_line value))
+moment_behind value = option_and_then utc_of (behind_last Outside (on_one_line value))
 
 abbrev pub received : List ℕ → Option UtcDate
 received bytes = option_and_then moment_behind (first_value_of bytes (codes "Received"))

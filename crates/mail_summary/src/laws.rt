@@ -1,6 +1,9 @@
-// What the definitions say of examples.
-ghost use Rattle.std.specs.Prelude.{◌≡◌, [], ◌∷◌, Some, None, codes};
-ghost use Rattle.header_forms.specs.Dates.{between};
+// Laws of the texts that a summary and a body are made of, and what the definitions say of examples. Each is the contract of a
+// function that does nothing.
+ghost use Rattle.std.specs.Prelude.{◌≡◌, ◌==◌, [], ◌∷◌, ◌++◌, List, ℕ, Some, None, false, codes};
+ghost use Rattle.std.specs.List.{list_any};
+ghost use Rattle.mail_text.specs.Comments.{after_text};
+ghost use Rattle.mail_text.specs.declared.comment.State.TheVariants.{Outside};
 ghost use Rattle.mail_summary.specs.Texts.{cut_to, one_spaced, with_line_feeds, without_tags};
 ghost use Rattle.mail_summary.specs.Subjects.{stripped};
 ghost use Rattle.mail_summary.specs.Links.{gathered};
@@ -14,5 +17,11 @@ pub fn examples_of_texts()
     ensures lines { with_line_feeds (codes "a\r\nb\r\r\n\n") ≡ codes "a\nb\r\n\n" }
     ensures cut { cut_to 2 (97 ∷ 195 ∷ 169 ∷ []) ≡ 97 ∷ [] }
     ensures links { gathered [] (codes "b" ∷ codes "a" ∷ codes "b" ∷ codes "ab" ∷ []) ≡ codes "a" ∷ codes "ab" ∷ codes "b" ∷ [] }
-    ensures date { behind_last between (codes "a; b (c; d \\) e) f; g (h; i)") ≡ Some (codes " g (h; i)") }
+    ensures date { behind_last Outside (codes "a; b (c; d \\) e) f; g (h; i)") ≡ Some (codes " g (h; i)") }
+{}
+
+/// In a Received field the date is what follows the last semicolon outside comments (RFC 5322, section 3.6.7): where the comments
+/// before a semicolon are closed and no other semicolon follows, it is all that follows this one.
+pub fn date_of_received_follows_the_last_semicolon()
+    ensures { (front back : List ℕ) → after_text Outside front ≡ Outside → list_any (λ b. b == 59) back ≡ false → behind_last Outside (front ++ 59 ∷ back) ≡ Some back }
 {}

@@ -19,7 +19,7 @@ mod texts_tags;
 mod texts_tests;
 
 pub use body_value::{BodyValue, body_value_of};
-pub use laws::examples_of_texts;
+pub use laws::{date_of_received_follows_the_last_semicolon, examples_of_texts};
 pub use leaves::{has_attachment, leaf, part_bytes, read_body};
 pub use preview::{first_text_of, preview_of};
 pub use received::received_of;

@@ -1,16 +1,15 @@
 // When a message was received.
-ghost use Rattle.std.specs.Prelude.{◌≡◌, ◌<◌, ◌≤◌, ◌+◌, ◌^◌, All, Some, None, IfOk, find, option_map, if◌then◌else◌};
-ghost use Rattle.jm_base.specs.Moments.{IsMoment};
+ghost use Rattle.std.specs.Prelude.{◌≡◌, All, Some, None, IfOk, find, option_map, if◌then◌else◌};
+ghost use Rattle.jm_base.specs.UtcDates.{IsUtcDate};
 ghost use Rattle.std.specs.Option.{ForSome};
 ghost use Rattle.mime_lines.specs.Named.{IsWithin, is_named, value_in};
-ghost use Rattle.header_forms.specs.Dates;
 ghost use Rattle.mail_summary.specs.Received;
 ghost use Rattle.mail_summary.specs.Received.{moment_behind, received, first_value_of};
 ghost use Rattle.mail_summary.specs.Shown.{bytes_in};
-ghost use Rattle.mail_summary.specs.States.{depth_of, state_of};
 
 use header_forms::{moment_of, on_one_line};
 use jm_base::{NoMemory, UtcDate};
+use mail_text::{State, next_state};
 use mime_lines::{Field, fields};
 use std::alloc::Global;
 
@@ -27,63 +26,18 @@ fn first_value<'a>(bytes: &'a [u8], fields: &[Field], name: &[u8]) -> Option<&'a
     None
 }
 
-/// Where a byte stands: between comments, in this many, or behind a backslash in this many.
-#[derive(Clone, Copy)]
-pub enum State {
-    Between,
-    Inside(u64),
-    Escaped(u64),
-}
-
-fn next_inside(depth: u64, byte: u8) -> State
-    requires { depth + 1 < 2 ^ 64 }
-    ensures value { state_of result ≡ Dates.next (Dates.inside depth) byte }
-    ensures bound { depth_of result ≤ depth + 1 }
-{
-    if byte == b'(' {
-        State::Inside(depth + 1)
-    } else if byte == b')' && depth <= 1 {
-        State::Between
-    } else if byte == b')' {
-        State::Inside(depth - 1)
-    } else if byte == b'\\' {
-        State::Escaped(depth)
-    } else {
-        State::Inside(depth)
-    }
-}
-
-/// Where the byte behind this one stands.
-fn next(state: State, byte: u8) -> State
-    requires { depth_of state + 1 < 2 ^ 64 }
-    ensures value { state_of result ≡ Dates.next (state_of state) byte }
-    ensures bound { depth_of result ≤ depth_of state + 1 }
-{
-    match state {
-        State::Between => {
-            if byte == b'(' {
-                State::Inside(1)
-            } else {
-                State::Between
-            }
-        }
-        State::Inside(depth) => next_inside(depth, byte),
-        State::Escaped(depth) => State::Inside(depth),
-    }
-}
-
 fn is_mark(state: State, byte: u8) -> bool
-    ensures { result ≡ Received.is_mark (state_of state) byte }
+    ensures { result ≡ Received.is_mark state byte }
 {
     match state {
-        State::Between => byte == b';',
+        State::Outside => byte == b';',
         State::Inside(_) | State::Escaped(_) => false,
     }
 }
 
 /// What stands behind the last semicolon so far.
 fn latest<'a>(last: Option<&'a [u8]>, state: State, byte: u8, after: &'a [u8]) -> Option<&'a [u8]>
-    ensures { option_map bytes_in result ≡ (if Received.is_mark (state_of state) byte then Some after.now else option_map bytes_in last.entry) }
+    ensures { option_map bytes_in result ≡ (if Received.is_mark state byte then Some after.now else option_map bytes_in last.entry) }
 {
     if is_mark(state, byte) {
         Some(after)
@@ -94,14 +48,14 @@ fn latest<'a>(last: Option<&'a [u8]>, state: State, byte: u8, after: &'a [u8]) -
 
 /// What stands behind the last semicolon outside comments.
 fn behind_last(text: &[u8]) -> Option<&[u8]>
-    ensures { option_map bytes_in result ≡ Received.behind_last Dates.between text.now }
+    ensures { option_map bytes_in result ≡ Received.behind_last State.Outside text.now }
 {
-    let mut state = State::Between;
+    let mut state = State::Outside;
     let mut last = None;
     let mut rest = text;
     while let Some((byte, after)) = rest.split_first() {
         last = latest(last, state, *byte, after);
-        state = next(state, *byte);
+        state = next_state(state, *byte);
         rest = after;
     }
     last
@@ -109,7 +63,7 @@ fn behind_last(text: &[u8]) -> Option<&[u8]>
 
 fn read_moment(alloc: Global, value: &[u8]) -> Result<Option<UtcDate>, NoMemory>
     ensures value { IfOk result (λ d. d ≡ moment_behind value.now) }
-    ensures kept { IfOk result (λ d. ForSome d IsMoment) }
+    ensures kept { IfOk result (λ d. ForSome d IsUtcDate) }
 {
     let line = on_one_line(alloc, value)?;
     match behind_last(line.as_bytes()) {
@@ -123,7 +77,7 @@ fn read_moment(alloc: Global, value: &[u8]) -> Result<Option<UtcDate>, NoMemory>
 /// of the years 0001 to 9999.
 pub fn received_of(alloc: Global, bytes: &[u8]) -> Result<Option<UtcDate>, NoMemory>
     ensures value { IfOk result (λ d. d ≡ received bytes.now) }
-    ensures kept { IfOk result (λ d. ForSome d IsMoment) }
+    ensures kept { IfOk result (λ d. ForSome d IsUtcDate) }
 {
     let head = fields(alloc, bytes)?;
     match first_value(bytes, head.fields.as_slice(), b"Received") {

@@ -2,7 +2,7 @@
 ghost use Rattle.std.specs.Prelude.{◌≡◌, All, IfOk, codes, unwrap_or};
 ghost use Rattle.std.specs.Option.{ForSome, option_and_then};
 ghost use Rattle.std.specs.Str.{chars};
-ghost use Rattle.jm_base.specs.Moments.{IsMoment};
+ghost use Rattle.jm_base.specs.UtcDates.{IsUtcDate};
 ghost use Rattle.mime_lines.specs.Named.{IsWithin, last_value_of};
 ghost use Rattle.mail_summary.specs.Texts.{brief};
 ghost use Rattle.mail_summary.specs.Summaries.{first_name, name_by, sent_by, subject_by};
@@ -64,7 +64,7 @@ fn name_in(alloc: Global, bytes: &[u8], fields: &FieldSpans, name: &[u8]) -> Res
 fn sent_in(alloc: Global, bytes: &[u8], fields: &FieldSpans) -> Result<Option<UtcDate>, NoMemory>
     requires { All (IsWithin bytes.now) fields.now }
     ensures value { IfOk result (λ d. d ≡ option_and_then sent_by (last_value_of bytes.now (codes "Date") fields.now)) }
-    ensures kept { IfOk result (λ d. ForSome d IsMoment) }
+    ensures kept { IfOk result (λ d. ForSome d IsUtcDate) }
 {
     match last_value(bytes, fields, b"Date") {
         Some(value) => {
@@ -78,7 +78,7 @@ fn sent_in(alloc: Global, bytes: &[u8], fields: &FieldSpans) -> Result<Option<Ut
 /// The summary of a message, in time linear in its bytes. Total for all bytes.
 pub fn summary_of(alloc: Global, bytes: &[u8]) -> Result<Summary, NoMemory>
     ensures value { IfOk result (λ s. s ≡ Summaries.summary bytes.now) }
-    ensures kept { IfOk result (λ s. ForSome s.sent IsMoment) }
+    ensures kept { IfOk result (λ s. ForSome s.sent IsUtcDate) }
 {
     let head = fields(alloc, bytes)?;
     let root = parts(alloc, bytes)?;

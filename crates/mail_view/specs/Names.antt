@@ -2,7 +2,7 @@
 use Rattle.std.specs.Prelude.{ℕ, Bool, true, false, ◌&&◌, ◌||◌, not, ◌==◌, nat_lt, List, [], ◌∷◌, ◌++◌, length, Option, Some, None, option_map, option_and_then, bytes_eq, codes, if◌then◌else◌}
 use Rattle.std.specs.List.{list_all, list_any, position_or_len, before_first, after_first}
 use Rattle.mime_lines.specs.Fields.{is_name_byte}
-use Rattle.mime_words.specs.Charsets.{are_same}
+use Rattle.mail_text.specs.Texts.{is_same_name}
 use Rattle.header_forms.specs.declared.form.Form.{Form}
 use Rattle.header_forms.specs.declared.form.Form.TheVariants.{Raw, Text, Addresses, GroupedAddresses, MessageIds, Date, Urls}
 use Rattle.mail_view.specs.declared.property.HeaderAsked.{HeaderAsked}
@@ -38,7 +38,7 @@ raw_fields = codes "Return-Path" ∷ codes "Received" ∷ []
 
 -- the name is one of these, in either case
 abbrev pub is_one_of : List (List ℕ) → List ℕ → Bool
-is_one_of names name = list_any (are_same name) names
+is_one_of names name = list_any (is_same_name name) names
 
 -- a field of none of these names: it may be asked for in every form
 abbrev pub is_other : List ℕ → Bool

@@ -2,7 +2,7 @@
 use Rattle.std.specs.Prelude.{ℕ, ℤ, pos, negsuc, Bool, true, ◌&&◌, not, int_lt, List, [], ◌∷◌, length, map, Option, Some, None, if◌then◌else◌}
 use Rattle.std.specs.Str.Lossy.{utf8_lossy}
 use Rattle.jm_base.specs.Ids.{id_text}
-use Rattle.jm_base.specs.Moments.{utc_text}
+use Rattle.jm_base.specs.UtcDates.{utc_text}
 use Rattle.jm_base.specs.declared.identifiers.UtcDate.{UtcDate}
 use Rattle.jm_base.specs.declared.identifiers.Kind.{Kind}
 use Rattle.jm_base.specs.declared.identifiers.Kind.TheVariants.{Mailbox as OfMailbox, Email as OfEmail, Thread as OfThread}

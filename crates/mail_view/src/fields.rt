@@ -2,7 +2,6 @@
 ghost use Rattle.std.specs.Prelude.{◌≡◌, Some, None, IfOk, map, option_map};
 ghost use Rattle.std.specs.List.{list_all};
 ghost use Rattle.mime_lines.specs.Fields;
-ghost use Rattle.mime_words.specs.Charsets;
 ghost use Rattle.mail_view.specs.Names;
 ghost use Rattle.mail_view.specs.Names.{at_colon, behind_form, behind_name, address_fields, date_fields, field_asked, field_form, header_named, id_fields, raw_fields, text_fields, url_fields, if_field, in_form};
 ghost use Rattle.mail_view.specs.Split.{halves, field_form_of};
@@ -10,6 +9,7 @@ ghost use Rattle.mail_view.specs.Split.{halves, field_form_of};
 use crate::property::HeaderAsked;
 use header_forms::Form;
 use jm_base::{NoMemory, Text};
+use mail_text::is_same_name;
 use std::alloc::Global;
 
 // The fields that have each form beside Raw.
@@ -49,19 +49,12 @@ const URL_FIELDS: [&str; 6] = [
 
 const RAW_FIELDS: [&str; 2] = ["Return-Path", "Received"];
 
-// Whether two names are one, in either case.
-fn are_same(a: &str, b: &str) -> bool
-    ensures { result ≡ Rattle.mime_words.specs.Charsets.are_same a.now b.now }
-{
-    a.eq_ignore_ascii_case(b)
-}
-
 // Whether the name is one of these, in either case.
 fn is_one_of(names: &[&str], name: &str) -> bool
     ensures { result ≡ Names.is_one_of (map (λ t. t.now) names.now) name.now }
 {
     for known in names {
-        if are_same(name, known) {
+        if is_same_name(name.as_bytes(), known.as_bytes()) {
             return true;
         }
     }

@@ -1,11 +1,11 @@
 -- What is written as a type is read as one.
-use Rattle.std.proofs.Common.{◌≡◌, ℕ, suc, Bool, true, false, cond, eqb, ◌&&◌, List, [], ◌∷◌, ◌++◌, length, take, drop, Option, None, Some, refl, sym, ap, ◌∙◌, inl, inr, arith, IsTrue}
+use Rattle.std.proofs.Common.{◌≡◌, ℕ, suc, ◌<◌, Bool, true, false, cond, eqb, ◌&&◌, List, [], ◌∷◌, ◌++◌, length, take, drop, Option, None, Some, refl, sym, ap, ◌∙◌, inl, inr, arith, IsTrue}
 use Rattle.std.specs.List.{prefix_len, list_all}
 use Rattle.std.proofs.lemmas.Bool.{cases_eq, ne_eqb, true≢false}
 use Rattle.std.proofs.lemmas.List.{take_at, drop_at}
 use Rattle.mime_lines.specs.Named.{lowered}
-use Rattle.mime_type.specs.Characters.{is_token}
-use Rattle.mime_type.specs.Grammar.{◌>>=◌, after_gap, after_mark, run_at, quoted_text, Pair, param_at, gives, turn_of, slot_at, turn_at, Params, onto_params, by_turn, params_in, params_of, if_whole, type_at}
+use Rattle.mime_type.specs.Characters.{is_token, is_bare}
+use Rattle.mime_type.specs.Grammar.{◌>>=◌, after_blanks, after_mark, run_at, quoted_from, quoted_text, value_at, Pair, param_at, gives, turn_of, slot_at, turn_at, Params, onto_params, by_turn, params_in, params_of, if_whole, type_at}
 use Rattle.mime_type.specs.Written.{IsToken, written, meant}
 use Rattle.mime_type.proofs.Quotes.{quoted_back}
 use Rattle.mime_type.proofs.Utf8.{with_value, behind_equals, behind_name, with_sub, behind_slash, behind_main, at_main}
@@ -21,17 +21,19 @@ other x y h k = elim (cases_eq x y) as (λ _. eqb x y ≡ false) [
   | inr n ↦ ne_eqb x y n
 ]
 
-token_len : (t : List ℕ) (y : ℕ) (ys : List ℕ) → IsTrue (list_all is_token t) → is_token y ≡ false → prefix_len is_token (t ++ y ∷ ys) ≡ length t
-token_len [] y ys h k = rw k refl
-token_len (x ∷ xs) y ys h k =
-    let both = both_true (is_token x) (list_all is_token xs) h in
-    let more : prefix_len is_token (xs ++ y ∷ ys) ≡ length xs = token_len xs y ys both.1 k in
+class_len : (class : ℕ → Bool) (t : List ℕ) (y : ℕ) (ys : List ℕ) → IsTrue (list_all class t) → class y ≡ false → prefix_len class (t ++ y ∷ ys) ≡ length t
+class_len class [] y ys h k = rw k refl
+class_len class (x ∷ xs) y ys h k =
+    let both = both_true (class x) (list_all class xs) h in
+    let more : prefix_len class (xs ++ y ∷ ys) ≡ length xs = class_len class xs y ys both.1 k in
     rw both.0 (omega (arith, more))
 
-run_token : (t : List ℕ) (y : ℕ) (ys : List ℕ) → IsToken t → is_token y ≡ false → run_at is_token (t ++ y ∷ ys) ≡ Some (t, y ∷ ys)
-run_token t y ys h k =
-    let size = token_len t y ys h.each k in
-    let some : eqb (length t) 0 ≡ false = ne_eqb (length t) 0 (λ z. omega (arith, z, h.some)) in
+-- a run of a class is read up to what is of another
+run_class : (class : ℕ → Bool) (t : List ℕ) (y : ℕ) (ys : List ℕ) → 0 < length t → IsTrue (list_all class t) → class y ≡ false
+    → run_at class (t ++ y ∷ ys) ≡ Some (t, y ∷ ys)
+run_class class t y ys any each k =
+    let size = class_len class t y ys each k in
+    let some : eqb (length t) 0 ≡ false = ne_eqb (length t) 0 (λ z. omega (arith, z, any)) in
     let out : ℕ → Option (List ℕ × List ℕ) = λ n. cond (eqb n 0) None (Some (take n (t ++ y ∷ ys), drop n (t ++ y ∷ ys))) in
     let pair : List ℕ → List ℕ → Option (List ℕ × List ℕ) = λ a b. Some (a, b) in
     ap out size
@@ -39,7 +41,20 @@ run_token t y ys h k =
     ∙ ap (λ a. pair a (drop (length t) (t ++ y ∷ ys))) (take_at t (y ∷ ys) (length t) refl)
     ∙ ap (pair t) (drop_at t (y ∷ ys) (length t) refl)
 
-gap_token : (t rest : List ℕ) → IsToken t → after_gap (t ++ rest) ≡ Some (t ++ rest)
+run_token : (t : List ℕ) (y : ℕ) (ys : List ℕ) → IsToken t → is_token y ≡ false → run_at is_token (t ++ y ∷ ys) ≡ Some (t, y ∷ ys)
+run_token t y ys h k = run_class is_token t y ys h.some h.each k
+
+not_quote : (b : ℕ) → is_bare b ≡ true → eqb b 34 ≡ false
+not_quote b h = elim (cases_eq b 34) as (λ _. eqb b 34 ≡ false) [ inl e ↦ absurd (true≢false (sym h ∙ ap is_bare e)) | inr n ↦ ne_eqb b 34 n ]
+
+-- a value without quote marks is read up to the semicolon
+pub bare_back : (text rest : List ℕ) → 0 < length text → IsTrue (list_all is_bare text) → value_at (text ++ 59 ∷ rest) ≡ Some (text, 59 ∷ rest)
+bare_back [] rest any each = absurd (omega (arith, any))
+bare_back (b ∷ bs) rest any each =
+    ap (λ v. cond v (quoted_from false (bs ++ 59 ∷ rest)) (run_at is_bare (b ∷ (bs ++ 59 ∷ rest)))) (not_quote b (both_true (is_bare b) (list_all is_bare bs) each).0)
+    ∙ run_class is_bare (b ∷ bs) 59 rest any each refl
+
+gap_token : (t rest : List ℕ) → IsToken t → after_blanks (t ++ rest) ≡ Some (t ++ rest)
 gap_token [] rest h = absurd (omega (arith, h.some))
 gap_token (x ∷ xs) rest h =
     let token : is_token x ≡ true = (both_true (is_token x) (list_all is_token xs) h.each).0 in

@@ -6,7 +6,8 @@ use Rattle.std.specs.List.{before_first, after_first, position_or_len, slice_spl
 use Rattle.std.proofs.lemmas.List.Sums.{prefix_len_passes, prefix_len_stops, split_at_first}
 use Rattle.std.proofs.lemmas.List.Splits.{slice_split_first, slice_split_none}
 use Rattle.mime_type.proofs.Utf8.{ascii_seam}
-use Rattle.mime_type.specs.Labels.{is_some_text, trimmed, items, languages_in}
+use Rattle.mime_type.specs.Labels.{is_some_text, items, languages_in}
+use Rattle.mail_text.specs.Texts.{trimmed}
 
 abbrev is_comma : ℕ → Bool
 is_comma b = eqb b 44

@@ -1,17 +1,20 @@
 -- What the grammar takes from a text is text: it cuts at ASCII characters, and takes out whole ones.
-use Rattle.std.proofs.Common.{◌≡◌, ◌≢◌, ℕ, zero, suc, ◌+◌, ◌<◌, ◌-◌, Bool, true, false, cond, eqb, leb, not, ◌&&◌, List, [], ◌∷◌, ◌++◌, length, get_or, take, drop, Option, None, Some, refl, sym, ap, subst, ◌∙◌, inl, inr, arith, lit<, bytes_eq, length-append, append_assoc, eq-eqb}
-use Rattle.std.specs.Str.{IsUtf8, IsAscii}
+use Rattle.std.proofs.Common.{◌≡◌, ℕ, zero, suc, ◌+◌, ◌<◌, ◌-◌, Bool, true, false, cond, eqb, leb, not, ◌&&◌, ◌||◌, ◌≤◌, List, [], ◌∷◌, ◌++◌, length, get_or, take, drop, Option, None, Some, refl, sym, ap, subst, ◌∙◌, inl, inr, arith, lit<, bytes_eq, length-append, append_assoc, eq-eqb}
+use Rattle.std.specs.Str.{IsUtf8, IsAscii, IsCharBoundary}
+use Rattle.std.proofs.lemmas.List.Sums.{prefix_len_stops, prefix_len-le-length}
 use Rattle.std.specs.List.{prefix_len}
-use Rattle.std.proofs.lemmas.Bool.{cases_eq, ne_eqb, true≢false, leb-true, eqb-true}
+use Rattle.std.proofs.lemmas.Bool.{cases_eq, ne_eqb, true≢false, leb-true, leb-false, eqb-true}
 use Rattle.std.proofs.lemmas.Option.{cond_some, none-some}
 use Rattle.std.proofs.lemmas.List.{append-nil, take_at, drop_at, drop-drop}
 use Rattle.std.proofs.lemmas.Str.{IsUtf8-append, IsUtf8-nil, IsUtf8-take, IsUtf8-drop, IsUtf8-from_ascii, IsCharBoundary-before_ascii, IsCharBoundary-after_ascii}
 use Rattle.std.proofs.lemmas.Str.Ascii.{lowercase_ascii}
-use Rattle.mime_lines.specs.Lines.{is_blank}
+use Rattle.mail_text.specs.declared.comment.State.{State}
+use Rattle.mail_text.specs.declared.comment.State.TheVariants.{Outside, Inside, Escaped}
+use Rattle.mail_text.specs.Comments.{is_blank, next, gap_from}
 use Rattle.mime_lines.specs.Named.{lowered}
 use Rattle.mime_codec.specs.Quoted.{is_between}
 use Rattle.mime_type.specs.Characters.{is_token, is_special, is_bare, is_delimiter}
-use Rattle.mime_type.specs.Grammar.{◌>>=◌, nested, gap_from, after_gap, after_byte, after_mark, run_at, onto_value, quoted_from, value_at, Pair, param_at, Turn, ends, breaks, skips, gives, turn_of, slot_at, turn_from, turn_at, Params, by_turn, params_in, params_of, Kind, if_whole, type_at, disposition_at, first_named}
+use Rattle.mime_type.specs.Grammar.{◌>>=◌, after_blanks, after_byte, after_mark, run_at, onto_value, quoted_from, value_at, Pair, param_at, Turn, ends, breaks, skips, gives, turn_of, slot_at, turn_from, turn_at, Params, by_turn, params_in, params_of, Kind, if_whole, type_at, disposition_at, first_named}
 use Rattle.mime_type.specs.Labels.{without_open, without_close}
 use Rattle.mime_type.specs.Texts.{AreTexts, IsText}
 
@@ -76,8 +79,16 @@ between_small b q h = omega (arith, leb-true b 126 (and_second (leb 33 b) (leb b
 pub token_small : (b : ℕ) → is_token b ≡ true → b < 128
 token_small b h = between_small b (not (is_special b)) h
 
-pub bare_small : (b : ℕ) → is_bare b ≡ true → b < 128
-bare_small b h = between_small b (not (is_delimiter b)) h
+or_first : (p q : Bool) → (p || q) ≡ false → p ≡ false
+or_first true q h = absurd (true≢false h)
+or_first false q h = refl
+
+-- what ends a value without quote marks is ASCII, so the value is cut between characters
+bare_end : (b : ℕ) → is_bare b ≡ false → 128 ≤ b → ⊥
+bare_end b h high = omega (arith, high, leb-false 128 b (or_first (leb 128 b) (is_between 33 126 b && not (is_delimiter b)) h))
+
+bare_boundary : (text : List ℕ) → IsCharBoundary text (prefix_len is_bare text)
+bare_boundary text = (prefix_len-le-length is_bare text, λ inside high. absurd (bare_end (get_or text (prefix_len is_bare text) 0) (prefix_len_stops is_bare text 0 inside) high))
 
 blank_small : (b : ℕ) → is_blank b ≡ true → b < 128
 blank_small b h = elim (cases_eq b 32) [
@@ -94,54 +105,51 @@ bind_is None f y e = absurd (none-some y e)
 bind_is (Some x) f y e = (x, refl, e)
 
 -- blanks and comments: what stands behind them begins behind a blank or a parenthesis
-closed-utf8 : (depth b : ℕ) (bs front : List ℕ) → depth ≢ 0 → IsUtf8 (front ++ b ∷ bs) → nested depth b ≡ 0 → IsUtf8 bs
-closed-utf8 depth b bs front n u z = elim (cases_eq b 40) [
-  | inl e ↦ let up : depth + 1 ≡ 0 = rw (eq-eqb b 40 e) at z in absurd (omega (arith, up))
+abbrev IsOut : State → Type 0
+IsOut Outside = Unit {0}
+IsOut (Inside depth) = ⊥
+IsOut (Escaped depth) = ⊥
+
+closes : (depth b : ℕ) → IsOut (next (Inside depth) b) → b ≡ 41
+closes depth b out = elim (cases_eq b 40) [
+  | inl e ↦ let wrong : ⊥ = rw (eq-eqb b 40 e) at out in absurd wrong
   | inr p ↦ elim (cases_eq b 41) [
-    | inl e ↦ (ascii_seam front bs b (omega (arith, e)) u).1
-    | inr q ↦ let same : depth ≡ 0 = rw (ne_eqb b 40 p, ne_eqb b 41 q) at z in absurd (n same)
+    | inl e ↦ e
+    | inr q ↦ elim (cases_eq b 92) [
+      | inl e ↦ let wrong : ⊥ = rw (ne_eqb b 40 p, ne_eqb b 41 q, eq-eqb b 92 e) at out in absurd wrong
+      | inr r ↦ let wrong : ⊥ = rw (ne_eqb b 40 p, ne_eqb b 41 q, ne_eqb b 92 r) at out in absurd wrong
+    ]
   ]
 ]
 
-gap_from-utf8 : (depth : ℕ) (quoted : Bool) (text front rest : List ℕ) → IsUtf8 (front ++ text) → (depth ≡ 0 → (quoted ≡ false) × IsUtf8 text)
-    → gap_from depth quoted text ≡ Some rest → IsUtf8 rest
-gap_from-utf8 depth quoted [] front rest u h e = elim (cases_eq depth 0) [
-  | inl z ↦ let nothing : List ℕ = [] in let e1 : Some nothing ≡ Some rest = rw (eq-eqb depth 0 z) at e in subst IsUtf8 (some_is nothing rest e1) IsUtf8-nil
-  | inr n ↦ let e1 : None ≡ Some rest = rw (ne_eqb depth 0 n) at e in absurd (none-some rest e1)
-]
-gap_from-utf8 depth true (b ∷ bs) front rest u h e =
-    let more : IsUtf8 ((front ++ b ∷ []) ++ bs) = rw append_assoc u in
-    gap_from-utf8 depth false bs (front ++ b ∷ []) rest more (λ z. absurd (true≢false (h z).0)) e
-gap_from-utf8 depth false (b ∷ bs) front rest u h e = elim (cases_eq depth 0) [
-  | inl z ↦
-      let all : IsUtf8 (b ∷ bs) = (h z).1 in
-      let e1 : cond (is_blank b) (gap_from 0 false bs) (cond (eqb b 40) (gap_from 1 false bs) (Some (b ∷ bs))) ≡ Some rest = rw (eq-eqb depth 0 z) at e in
-      elim (is_blank b) as (λ v. is_blank b ≡ v → cond v (gap_from 0 false bs) (cond (eqb b 40) (gap_from 1 false bs) (Some (b ∷ bs))) ≡ Some rest → IsUtf8 rest) [
-        | true ↦ λ k f.
-            let after = after_first b bs (blank_small b k) all in
-            gap_from-utf8 0 false bs [] rest after (λ _. (refl, after)) f
-        | false ↦ λ k f. elim (cases_eq b 40) [
-          | inl is ↦
-              let f1 : gap_from 1 false bs ≡ Some rest = rw (eq-eqb b 40 is) at f in
-              gap_from-utf8 1 false bs [] rest (after_first b bs (omega (arith, is)) all) (λ y. absurd (omega (arith, y))) f1
-          | inr other ↦ let f1 : Some (b ∷ bs) ≡ Some rest = rw (ne_eqb b 40 other) at f in subst IsUtf8 (some_is (b ∷ bs) rest f1) all
-        ]
-      ] refl e1
-  | inr n ↦
-      let more : IsUtf8 ((front ++ b ∷ []) ++ bs) = rw append_assoc u in
-      let e1 : cond (eqb b 92) (gap_from depth true bs) (gap_from (nested depth b) false bs) ≡ Some rest = rw (ne_eqb depth 0 n) at e in
-      elim (cases_eq b 92) [
-        | inl is ↦
-            let f1 : gap_from depth true bs ≡ Some rest = rw (eq-eqb b 92 is) at e1 in
-            gap_from-utf8 depth true bs (front ++ b ∷ []) rest more (λ z. absurd (n z)) f1
-        | inr other ↦
-            let f1 : gap_from (nested depth b) false bs ≡ Some rest = rw (ne_eqb b 92 other) at e1 in
-            gap_from-utf8 (nested depth b) false bs (front ++ b ∷ []) rest more (λ z. (refl, closed-utf8 depth b bs front n u z)) f1
-      ]
+gap_small : (b : ℕ) → (eqb b 40 || is_blank b) ≡ true → b < 128
+gap_small b h = elim (cases_eq b 40) [
+  | inl e ↦ omega (arith, e)
+  | inr n ↦ let blank : is_blank b ≡ true = rw (ne_eqb b 40 n) at h in blank_small b blank
 ]
 
-gap-utf8 : (text rest : List ℕ) → IsUtf8 text → after_gap text ≡ Some rest → IsUtf8 rest
-gap-utf8 text rest u e = gap_from-utf8 0 false text [] rest u (λ _. (refl, u)) e
+gap_from-utf8 : (text : List ℕ) (state : State) (front rest : List ℕ) → IsUtf8 (front ++ text) → (IsOut state → IsUtf8 text)
+    → gap_from is_blank text state ≡ Some rest → IsUtf8 rest
+gap_from-utf8 [] Outside front rest u h e = let nothing : List ℕ = [] in subst IsUtf8 (some_is nothing rest e) IsUtf8-nil
+gap_from-utf8 [] (Inside depth) front rest u h e = absurd (none-some rest e)
+gap_from-utf8 [] (Escaped depth) front rest u h e = absurd (none-some rest e)
+gap_from-utf8 (b ∷ bs) Outside front rest u h e =
+    elim (eqb b 40 || is_blank b) as (λ v. (eqb b 40 || is_blank b) ≡ v → cond v (gap_from is_blank bs (next Outside b)) (Some (b ∷ bs)) ≡ Some rest → IsUtf8 rest) [
+      | true ↦ λ k f.
+          let after = after_first b bs (gap_small b k) (h tt) in
+          gap_from-utf8 bs (next Outside b) [] rest after (λ _. after) f
+      | false ↦ λ k f. subst IsUtf8 (some_is (b ∷ bs) rest f) (h tt)
+    ] refl e
+gap_from-utf8 (b ∷ bs) (Inside depth) front rest u h e =
+    let more : IsUtf8 ((front ++ b ∷ []) ++ bs) = rw append_assoc u in
+    gap_from-utf8 bs (next (Inside depth) b) (front ++ b ∷ []) rest more
+    (λ out. (ascii_seam front bs b (omega (arith, closes depth b out)) u).1) e
+gap_from-utf8 (b ∷ bs) (Escaped depth) front rest u h e =
+    let more : IsUtf8 ((front ++ b ∷ []) ++ bs) = rw append_assoc u in
+    gap_from-utf8 bs (Inside depth) (front ++ b ∷ []) rest more (λ out. absurd out) e
+
+gap-utf8 : (text rest : List ℕ) → IsUtf8 text → after_blanks text ≡ Some rest → IsUtf8 rest
+gap-utf8 text rest u e = gap_from-utf8 text Outside [] rest u (λ _. u) e
 
 byte-utf8 : (sign : ℕ) (text rest : List ℕ) → sign < 128 → IsUtf8 text → after_byte sign text ≡ Some rest → IsUtf8 rest
 byte-utf8 sign [] rest low u e = absurd (none-some rest e)
@@ -151,13 +159,13 @@ byte-utf8 sign (b ∷ bs) rest low u e = elim (cases_eq b sign) [
 ]
 
 abbrev behind_byte : ℕ → List ℕ → Option (List ℕ)
-behind_byte sign at = after_byte sign at >>= after_gap
+behind_byte sign at = after_byte sign at >>= after_blanks
 
 mark-utf8 : (sign : ℕ) (text rest : List ℕ) → sign < 128 → IsUtf8 text → after_mark sign text ≡ Some rest → IsUtf8 rest
 unfolding after_mark
 mark-utf8 sign text rest low u e =
-    let a = bind_is (after_gap text) (behind_byte sign) rest e in
-    let b = bind_is (after_byte sign a.0) after_gap rest a.2 in
+    let a = bind_is (after_blanks text) (behind_byte sign) rest e in
+    let b = bind_is (after_byte sign a.0) after_blanks rest a.2 in
     gap-utf8 b.0 rest (byte-utf8 sign a.0 b.0 low (gap-utf8 text a.0 u a.1) b.1) b.2
 
 -- runs
@@ -181,6 +189,16 @@ run-utf8 class small text r u e =
     elim (eqb (prefix_len class text) 0) as (λ v. cond v None (Some parts) ≡ Some r → AllAscii r.0 × IsUtf8 r.1) [
       | true ↦ λ f. absurd (none-some r f)
       | false ↦ λ f. subst (λ (q : List ℕ × List ℕ). AllAscii q.0 × IsUtf8 q.1) (some_is parts r f) (take-ascii class small text, drop-utf8 class small text u)
+    ] e
+
+bare-utf8 : (text : List ℕ) (r : List ℕ × List ℕ) → IsUtf8 text → run_at is_bare text ≡ Some r → IsUtf8 r.0 × IsUtf8 r.1
+bare-utf8 text r u e =
+    let n = prefix_len is_bare text in
+    let parts : List ℕ × List ℕ = (take n text, drop n text) in
+    elim (eqb n 0) as (λ v. cond v None (Some parts) ≡ Some r → IsUtf8 r.0 × IsUtf8 r.1) [
+      | true ↦ λ f. absurd (none-some r f)
+      | false ↦ λ f. subst (λ (q : List ℕ × List ℕ). IsUtf8 q.0 × IsUtf8 q.1) (some_is parts r f)
+          (IsUtf8-take text n u (bare_boundary text), IsUtf8-drop text n u (bare_boundary text))
     ] e
 
 -- values
@@ -227,9 +245,7 @@ value-utf8 [] r u e = absurd (none-some r e)
 value-utf8 (b ∷ bs) r u e =
     elim (eqb b 34) as (λ v. eqb b 34 ≡ v → cond v (quoted_from false bs) (run_at is_bare (b ∷ bs)) ≡ Some r → IsUtf8 r.0 × IsUtf8 r.1) [
       | true ↦ λ is f. quoted-utf8 false bs [] r (after_first b bs (omega (arith, eqb-true b 34 is)) u) f
-      | false ↦ λ other f.
-          let both = run-utf8 is_bare bare_small (b ∷ bs) r u f in
-          (AllAscii-utf8 r.0 both.0, both.1)
+      | false ↦ λ other f. bare-utf8 (b ∷ bs) r u f
     ] refl e
 
 -- parameters
@@ -275,7 +291,7 @@ turn_turn : (o : Option (List ℕ)) → ((rest : List ℕ) → o ≡ Some rest �
 turn_turn None h = tt
 turn_turn (Some []) h = tt
 turn_turn (Some (b ∷ bs)) h = elim (cases_eq b 59) [
-  | inl is ↦ rw (eq-eqb b 59 is) (slot_turn (after_gap bs) (λ rest f. gap-utf8 bs rest (after_first b bs (omega (arith, is)) (h (b ∷ bs) refl)) f))
+  | inl is ↦ rw (eq-eqb b 59 is) (slot_turn (after_blanks bs) (λ rest f. gap-utf8 bs rest (after_first b bs (omega (arith, is)) (h (b ∷ bs) refl)) f))
   | inr other ↦ rw (ne_eqb b 59 other) tt
 ]
 
@@ -288,7 +304,7 @@ by_turn-texts (gives p rest) later t h = (t.0, h rest t.1)
 params-texts : (n : ℕ) (text : List ℕ) → IsUtf8 text → AreTexts (params_in n text).found
 unfolding params_in
 params-texts zero text u = tt
-params-texts (suc n) text u = by_turn-texts (turn_at text) (params_in n) (turn_turn (after_gap text) (λ rest e. gap-utf8 text rest u e)) (params-texts n)
+params-texts (suc n) text u = by_turn-texts (turn_at text) (params_in n) (turn_turn (after_blanks text) (λ rest e. gap-utf8 text rest u e)) (params-texts n)
 
 pub first_named-utf8 : (name : List ℕ) (ps : List Pair) (v : List ℕ) → AreTexts ps → first_named name ps ≡ Some v → IsUtf8 v
 first_named-utf8 name [] v h e = absurd (none-some v e)
@@ -313,7 +329,7 @@ at_main at = run_at is_token at >>= behind_main
 pub type_at-text : (text : List ℕ) (k : Kind) → IsUtf8 text → type_at text ≡ Some k → IsText k
 unfolding type_at
 type_at-text text k u e =
-    let a = bind_is (after_gap text) at_main k e in
+    let a = bind_is (after_blanks text) at_main k e in
     let m = bind_is (run_at is_token a.0) behind_main k a.2 in
     let um = run-utf8 is_token token_small a.0 m.0 (gap-utf8 text a.0 u a.1) m.1 in
     let s = bind_is (after_mark 47 m.0.1) (behind_slash m.0.0) k m.2 in
@@ -335,7 +351,7 @@ at_token at = run_at is_token at >>= with_token
 pub disposition_at-text : (text : List ℕ) (k : Kind) → IsUtf8 text → disposition_at text ≡ Some k → IsText k
 unfolding disposition_at
 disposition_at-text text k u e =
-    let a = bind_is (after_gap text) at_token k e in
+    let a = bind_is (after_blanks text) at_token k e in
     let n = bind_is (run_at is_token a.0) with_token k a.2 in
     let un = run-utf8 is_token token_small a.0 n.0 (gap-utf8 text a.0 u a.1) n.1 in
     let all : Kind = record { kind = lowered n.0.0; params = (params_of n.0.1).found } in

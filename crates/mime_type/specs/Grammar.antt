@@ -1,9 +1,9 @@
 -- Content-Type and Content-Disposition: a name, and parameters (RFC 2045, section 5.1; RFC 2183, section 2), with
 -- comments and quoted strings by RFC 822, section 3.3.
 -- Each `.. at` takes what it names from the front of some text, and gives it with the text after it.
-use Rattle.std.specs.Prelude.{ℕ, zero, suc, ◌+◌, ◌-◌, Bool, true, false, ◌||◌, ◌==◌, List, [], ◌∷◌, ◌++◌, length, take, drop, Option, Some, None, bytes_eq, if◌then◌else◌}
+use Rattle.std.specs.Prelude.{ℕ, zero, suc, Bool, true, false, ◌||◌, ◌==◌, List, [], ◌∷◌, ◌++◌, length, take, drop, Option, Some, None, bytes_eq, if◌then◌else◌}
 use Rattle.std.specs.List.{prefix_len}
-use Rattle.mime_lines.specs.Lines.{is_blank}
+use Rattle.mail_text.specs.Comments.{is_blank, after_gap}
 use Rattle.mime_lines.specs.Named.{lowered}
 use Rattle.mime_type.specs.Characters.{is_token, is_bare}
 
@@ -13,21 +13,9 @@ abbrev pub ◌>>=◌ : {A B : Type 0} → Option A → (A → Option B) → Opti
 None >>= f = None
 (Some x) >>= f = f x
 
--- how many comments are open after a byte within one
-abbrev pub nested : ℕ → ℕ → ℕ
-nested depth b = if b == 40 then depth + 1 else (if b == 41 then depth - 1 else depth)
-
--- what stands after blanks and whole comments, where `depth` comments are open and a backslash may quote the next
--- byte; nothing where a comment doesn't close
-abbrev pub gap_from : ℕ → Bool → List ℕ → Option (List ℕ)
-gap_from depth quoted [] = if depth == 0 then Some [] else None
-gap_from depth true (b ∷ bs) = gap_from depth false bs
-gap_from depth false (b ∷ bs) =
-    if depth == 0 then (if is_blank b then gap_from 0 false bs else (if b == 40 then gap_from 1 false bs else Some (b ∷ bs)))
-    else (if b == 92 then gap_from depth true bs else gap_from (nested depth b) false bs)
-
-abbrev pub after_gap : List ℕ → Option (List ℕ)
-after_gap text = gap_from 0 false text
+-- what stands after blanks and whole comments; nothing where a comment doesn't close
+abbrev pub after_blanks : List ℕ → Option (List ℕ)
+after_blanks text = after_gap is_blank text
 
 -- what stands after this byte
 abbrev pub after_byte : ℕ → List ℕ → Option (List ℕ)
@@ -37,9 +25,9 @@ after_byte sign (b ∷ bs) = if b == sign then Some bs else None
 -- what stands after this byte with the gaps round it
 unfoldable pub after_mark : ℕ → List ℕ → Option (List ℕ)
 after_mark sign text = do
-  at ← after_gap text
+  at ← after_blanks text
   rest ← after_byte sign at
-  after_gap rest
+  after_blanks rest
 
 -- one or more bytes of a class
 abbrev pub run_at : (ℕ → Bool) → List ℕ → Option (List ℕ × List ℕ)
@@ -103,10 +91,10 @@ slot_at (Some (b ∷ bs)) = if b == 59 then skips (b ∷ bs) else turn_of (param
 abbrev pub turn_from : Option (List ℕ) → Turn
 turn_from None = breaks
 turn_from (Some []) = ends
-turn_from (Some (b ∷ bs)) = if b == 59 then slot_at (after_gap bs) else breaks
+turn_from (Some (b ∷ bs)) = if b == 59 then slot_at (after_blanks bs) else breaks
 
 abbrev pub turn_at : List ℕ → Turn
-turn_at text = turn_from (after_gap text)
+turn_at text = turn_from (after_blanks text)
 
 -- the parameters before the first place that isn't of the form, and whether there is no such place
 pub record Params : Type 0 where
@@ -146,7 +134,7 @@ if_whole kind ps = if ps.whole then Some (record { kind = kind; params = ps.foun
 -- Content-Type: a type, a slash, a subtype, and nothing that isn't of the form after them
 unfoldable pub type_at : List ℕ → Option Kind
 type_at text = do
-  at ← after_gap text
+  at ← after_blanks text
   main ← run_at is_token at
   rest ← after_mark 47 main.1
   sub ← run_at is_token rest
@@ -155,7 +143,7 @@ type_at text = do
 -- Content-Disposition: the token at its beginning, with the parameters before the first place that isn't of the form
 unfoldable pub disposition_at : List ℕ → Option Kind
 disposition_at text = do
-  at ← after_gap text
+  at ← after_blanks text
   name ← run_at is_token at
   Some (record { kind = lowered name.0; params = (params_of name.1).found })
 

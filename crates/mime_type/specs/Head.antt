@@ -7,7 +7,8 @@ use Rattle.mime_lines.specs.Named.{last_value_of}
 use Rattle.mime_type.specs.Node.{Node}
 use Rattle.mime_type.specs.Grammar.{Kind}
 use Rattle.mime_type.specs.Content.{type_of, disposition_of, charset_of, boundary_of, media_of, name_of, coding_of}
-use Rattle.mime_type.specs.Labels.{trimmed, id_in, languages_in}
+use Rattle.mime_type.specs.Labels.{id_in, languages_in}
+use Rattle.mail_text.specs.Texts.{trimmed}
 
 -- what the last field of a name says, on one line; bytes that are no UTF-8 become U+FFFD
 unfoldable pub field_text : List ℕ → List ℕ → Option (List ℕ)

@@ -1,21 +1,11 @@
 -- Content-Id, Content-Language, Content-Location and Content-Transfer-Encoding (RFC 2045, sections 6 and 7; RFC 3282,
 -- section 2; RFC 2557, section 4). White space is ASCII's: space, tab, LF, CR, FF.
-use Rattle.std.specs.Prelude.{ℕ, ◌-◌, Bool, true, false, filter, map, ◌==◌, List, [], ◌∷◌, length, get_or, take, drop, codes, bytes_eq, if◌then◌else◌}
-use Rattle.std.specs.List.{prefix_len, suffix_len, slice_split}
-use Rattle.std.specs.Char.{is_ascii_whitespace}
+use Rattle.std.specs.Prelude.{ℕ, ◌-◌, Bool, true, false, filter, map, ◌==◌, List, [], ◌∷◌, length, get_or, take, codes, bytes_eq, if◌then◌else◌}
+use Rattle.std.specs.List.{slice_split}
+use Rattle.mail_text.specs.Texts.{trimmed}
 use Rattle.mime_lines.specs.Named.{lowered}
 use Rattle.mime_codec.specs.declared.coding.Coding.{Coding}
 use Rattle.mime_codec.specs.declared.coding.Coding.TheVariants.{Plain, Quoted, Base64, Unknown}
-
--- without the white space at both ends
-abbrev pub trimmed_start : List ℕ → List ℕ
-trimmed_start text = drop (prefix_len is_ascii_whitespace text) text
-
-abbrev pub trimmed_end : List ℕ → List ℕ
-trimmed_end text = take (length text - suffix_len is_ascii_whitespace text) text
-
-abbrev pub trimmed : List ℕ → List ℕ
-trimmed text = trimmed_end (trimmed_start text)
 
 -- without one angle bracket at each end
 abbrev pub without_open : List ℕ → List ℕ

@@ -1,18 +1,10 @@
 // Classes of characters, and lower case.
 ghost use Rattle.std.specs.Prelude.{◌≡◌, ◌++◌, ◌∷◌, IfOk, OnOk};
-ghost use Rattle.mime_lines.specs.Lines;
 ghost use Rattle.mime_lines.specs.Named.{lowered};
 ghost use Rattle.mime_type.specs.Characters;
 
 use jm_base::NoMemory;
 use std::alloc::Global;
-
-/// Whether a byte is space or tab.
-pub fn is_blank(byte: u8) -> bool
-    ensures { result ≡ Rattle.mime_lines.specs.Lines.is_blank byte }
-{
-    byte == b' ' || byte == b'\t'
-}
 
 fn is_special(byte: u8) -> bool
     ensures { result ≡ Rattle.mime_type.specs.Characters.is_special byte }
@@ -38,11 +30,12 @@ fn is_delimiter(byte: u8) -> bool
     byte == 34 || (40 <= byte && byte <= 41) || byte == 59 || byte == 92
 }
 
-/// Whether a byte may stand in a value without quote marks.
+/// Whether a byte may stand in a value without quote marks: a character from `!` to `~` that is no delimiter, or a byte of a
+/// character above U+007F.
 pub fn is_bare(byte: u8) -> bool
     ensures { result ≡ Rattle.mime_type.specs.Characters.is_bare byte }
 {
-    33 <= byte && byte <= 126 && !is_delimiter(byte)
+    128 <= byte || (33 <= byte && byte <= 126 && !is_delimiter(byte))
 }
 
 /// Adds a text in lower case.

@@ -7,7 +7,8 @@ ghost use Rattle.mime_type.specs.Forest.{none};
 ghost use Rattle.mime_type.specs.Head;
 ghost use Rattle.mime_type.specs.Head.{head_at, kind_in, shown_in};
 ghost use Rattle.mime_type.specs.Joined.{node_of};
-ghost use Rattle.mime_type.specs.Labels.{trimmed, id_in, languages_in};
+ghost use Rattle.mime_type.specs.Labels.{id_in, languages_in};
+ghost use Rattle.mail_text.specs.Texts.{trimmed};
 
 use crate::content::{read_boundary, read_charset, read_media, read_name, read_shown};
 use crate::kind::{read_disposition, read_type};

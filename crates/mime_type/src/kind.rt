@@ -113,9 +113,3 @@ pub fn read_disposition(alloc: Global, field: &Option<Text>) -> Result<Option<Ki
         None => Ok(None),
     }
 }
-
-/// A law: a type that is written as two tokens and a parameter in quotes is read as what was meant, in lower case but
-/// for the parameter's value, which may be any bytes.
-pub fn types_read_back()
-    ensures { (main sub name value : List ℕ) → IsToken main → IsToken sub → IsToken name → type_at (written main sub name value) ≡ Some (meant main sub name value) }
-{}

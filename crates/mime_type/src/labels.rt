@@ -1,21 +1,16 @@
 // Content-Id, Content-Language, Content-Location and Content-Transfer-Encoding.
 ghost use Rattle.std.specs.Prelude.{◌≡◌, ◌++◌, ◌∷◌, [], List, ℕ, option_map, IfOk, OnOk};
 ghost use Rattle.mime_type.specs.Content;
-ghost use Rattle.mime_type.specs.Labels.{trimmed, without_open, without_close, id_in, items, languages_in, coding_in, coding_named};
+ghost use Rattle.mime_type.specs.Labels.{without_open, without_close, id_in, items, languages_in, coding_in, coding_named};
+ghost use Rattle.mail_text.specs.Texts.{trimmed};
 ghost use Rattle.mime_lines.specs.Named.{lowered};
 ghost use Rattle.std.specs.Str.{IsUtf8};
 
 use crate::characters::lower_copy;
 use jm_base::{NoMemory, Sequence, Text, Texts};
+use mail_text::trim;
 use mime_codec::Coding;
 use std::alloc::Global;
-
-/// A text without the white space at both ends.
-fn trim(text: &str) -> &str
-    ensures { result.now ≡ trimmed text.now }
-{
-    text.trim_ascii()
-}
 
 /// A text without one angle bracket at each end.
 fn without_brackets(text: &[u8]) -> &[u8]

@@ -9,6 +9,7 @@ mod gap;
 mod head;
 mod kind;
 mod labels;
+mod laws;
 mod params;
 mod part;
 #[cfg(test)]
@@ -16,6 +17,5 @@ mod tests;
 mod values;
 
 pub use head::part_head;
-pub use kind::types_read_back;
+pub use laws::{bare_values_read_back, quotes_read_back, types_read_back};
 pub use part::{Part, Parts};
-pub use values::quotes_read_back;

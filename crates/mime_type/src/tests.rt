@@ -120,6 +120,14 @@ fn types_of_the_form(rt: HostRuntime) {
         )
     );
     assert!(rt; types(alloc, b"Content-Type: image/png", b"image/png", None));
+    assert!(rt;
+        types(
+            alloc,
+            b"Content-Type: application/msword; name=\xe7\xae\xa1\xe7\x90\x86.doc",
+            b"application/msword",
+            None
+        )
+    );
 }
 
 #[test]
@@ -264,6 +272,23 @@ fn dispositions(rt: HostRuntime) {
             b"Content-Disposition: inline; filename=\"\xff\"\r\nContent-Type: a/b; name=c",
             Some(b"inline"),
             Some(b"\xef\xbf\xbd")
+        )
+    );
+    // A name in UTF-8 without quote marks; a byte that is no UTF-8 is U+FFFD there too.
+    assert!(rt;
+        shows(
+            alloc,
+            b"Content-Type: application/msword; name=\xe7\xae\xa1\xe7\x90\x86.doc",
+            None,
+            Some(b"\xe7\xae\xa1\xe7\x90\x86.doc")
+        )
+    );
+    assert!(rt;
+        shows(
+            alloc,
+            b"Content-Disposition: attachment; filename=a\xff.doc; size=1",
+            Some(b"attachment"),
+            Some(b"a\xef\xbf\xbd.doc")
         )
     );
 }

@@ -2,7 +2,7 @@
 ghost use Rattle.std.specs.Prelude.{◌≡◌, ◌≢◌, ◌≤◌, ◌<◌, ◌∷◌, ◌++◌, length, option_map, Some, None, IfSome, IfOk, ℕ, List, Bool, false};
 ghost use Rattle.std.specs.List.{prefix_len};
 ghost use Rattle.mime_type.specs.Characters;
-ghost use Rattle.mime_type.specs.Grammar.{run_at, quoted_from, value_at, with_front, quoted_text};
+ghost use Rattle.mime_type.specs.Grammar.{run_at, quoted_from, value_at, with_front};
 ghost use Rattle.mime_type.specs.Views.{run_of, value_of, rest_found, leading_value};
 
 use crate::characters::{is_bare, is_token};
@@ -192,8 +192,3 @@ pub fn skip_value(text: &[u8]) -> Option<&[u8]>
         [] => None,
     }
 }
-
-/// A law: each value that is written between quote marks is read again, whatever follows it.
-pub fn quotes_read_back()
-    ensures { (text rest : List ℕ) → value_at (34 ∷ quoted_text text ++ 34 ∷ rest) ≡ Some (text, rest) }
-{}

@@ -5,7 +5,7 @@ use Rattle.std.proofs.lemmas.List.{drop_at, length-append}
 use Rattle.std.proofs.lemmas.List.Sums.{split_at_first}
 use Rattle.std.proofs.lemmas.Bool.{ltb-true}
 use Rattle.std.proofs.lemmas.Option.{none-some}
-use Rattle.mime_words.specs.Words.{◌>>=◌, after_sign, is_question, at_question, Shape, shape_at, is_good, if_good, meaning, word_at}
+use Rattle.mime_words.specs.Words.{◌>>=◌, after_sign, is_question, at_question, Shape, Word, shape_at, is_good, if_good, content, word_at}
 
 some_is : {A : Type 0} (a b : A) → Some a ≡ Some b → a ≡ b
 some_is a b e = cc
@@ -70,21 +70,21 @@ shape_ends text s e =
     (ends_on b.0.1 c.0.1 s.rest (question_ends b.0.1 c.0 c.1)
     (ends_on c.0.1 d.0.1 s.rest (question_ends c.0.1 d.0 d.1) to_rest)))
 
-abbrev from_good : Shape → Option (List ℕ × List ℕ)
-from_good good = meaning good >>= (λ meant. Some (meant, good.rest))
+abbrev from_good : Shape → Option (Word × List ℕ)
+from_good good = content good >>= (λ held. Some (held, good.rest))
 
-word_ends : (text : List ℕ) (w : List ℕ × List ℕ) → word_at (61 ∷ text) ≡ Some w → EndsWith text w.1
+word_ends : (text : List ℕ) (w : Word × List ℕ) → word_at (61 ∷ text) ≡ Some w → EndsWith text w.1
 unfolding word_at
 word_ends text w e =
     let a = bind_is (shape_at (61 ∷ text)) (λ shape. if_good (61 ∷ text) shape >>= from_good) w e in
     let b = bind_is (if_good (61 ∷ text) a.0) from_good w a.2 in
     let good : a.0 ≡ b.0 = (cond_is (is_good (61 ∷ text) a.0) a.0 b.0 b.1).1 in
-    let c = bind_is (meaning b.0) (λ meant. Some (meant, b.0.rest)) w b.2 in
-    let is : b.0.rest ≡ w.1 = ap (λ (p : List ℕ × List ℕ). p.1) (some_is (c.0, b.0.rest) w c.2) in
+    let c = bind_is (content b.0) (λ held. Some (held, b.0.rest)) w b.2 in
+    let is : b.0.rest ≡ w.1 = ap (λ (p : Word × List ℕ). p.1) (some_is (c.0, b.0.rest) w c.2) in
     subst (λ r. EndsWith text r) (ap (λ (z : Shape). z.rest) good ∙ is) (shape_ends text a.0 a.1)
 
 -- so it is the text without the bytes that the word takes
-pub word_rest : (text : List ℕ) (w : List ℕ × List ℕ) → word_at (61 ∷ text) ≡ Some w → drop (length text - length w.1) text ≡ w.1
+pub word_rest : (text : List ℕ) (w : Word × List ℕ) → word_at (61 ∷ text) ≡ Some w → drop (length text - length w.1) text ≡ w.1
 word_rest text w e =
     let f = word_ends text w e in
     let size : length text ≡ length f.0 + length w.1 = ap length f.1 ∙ length-append f.0 w.1 in

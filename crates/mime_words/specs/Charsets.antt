@@ -1,21 +1,30 @@
 -- The charsets that bytes may be read in, and the text that they make (RFC 3629; RFC 2046, section 4.1.2; ISO 8859-1).
-use Rattle.std.specs.Prelude.{ℕ, Bool, true, false, not, nat_lt, List, map, Option, Some, None, codes, bytes_eq, if◌then◌else◌}
+use Rattle.std.specs.Prelude.{ℕ, Bool, true, false, not, nat_lt, List, map, Option, Some, None, codes, if◌then◌else◌}
 use Rattle.std.specs.List.{list_all}
-use Rattle.std.specs.Str.{is_utf8, encode_utf8_all, str_to_ascii_lowercase}
+use Rattle.std.specs.Str.{is_utf8, encode_utf8_all}
 use Rattle.std.specs.Str.Lossy.{utf8_lossy}
+use Rattle.mail_text.specs.Texts.{is_same_name}
 use Rattle.mime_words.specs.declared.charset.Charset.{Charset}
 use Rattle.mime_words.specs.declared.charset.Charset.TheVariants.{Utf8, Ascii, Latin1}
-
--- whether two names are one, in either case
-abbrev pub are_same : List ℕ → List ℕ → Bool
-are_same a b = bytes_eq (str_to_ascii_lowercase a) (str_to_ascii_lowercase b)
 
 -- the charset of a name; every other name is unknown
 abbrev pub charset_named : List ℕ → Option Charset
 charset_named name =
-    if are_same name (codes "utf-8") then Some Utf8
-    else (if are_same name (codes "us-ascii") then Some Ascii
-    else (if are_same name (codes "iso-8859-1") then Some Latin1 else None))
+    if is_same_name name (codes "utf-8") then Some Utf8
+    else (if is_same_name name (codes "us-ascii") then Some Ascii
+    else (if is_same_name name (codes "iso-8859-1") then Some Latin1 else None))
+
+-- whether two charsets are one
+abbrev pub same_charset : Charset → Charset → Bool
+same_charset Utf8 Utf8 = true
+same_charset Utf8 Ascii = false
+same_charset Utf8 Latin1 = false
+same_charset Ascii Utf8 = false
+same_charset Ascii Ascii = true
+same_charset Ascii Latin1 = false
+same_charset Latin1 Utf8 = false
+same_charset Latin1 Ascii = false
+same_charset Latin1 Latin1 = true
 
 abbrev pub is_ascii : ℕ → Bool
 is_ascii b = nat_lt b 128

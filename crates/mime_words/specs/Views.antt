@@ -1,9 +1,10 @@
 -- What contracts see of the code's own types.
-use Rattle.std.specs.Prelude.{ℕ, List, string_bytes}
+use Rattle.std.specs.Prelude.{ℕ, false, List, [], Option, None, Some}
 use denote.Ref.{Bor}
-use Rattle.mime_words.specs.Words.{Shape}
+use Rattle.mime_words.specs.Words.{Shape, Word, Cut, word, joined, meaning, said}
 use Rattle.mime_words.specs.declared.shape.Shape.{Shape as Shape'}
-use Rattle.mime_words.specs.declared.words.Word.{Word}
+use Rattle.mime_words.specs.declared.words.Word.{Word as Word'}
+use Rattle.mime_words.specs.declared.words.Found.{Found}
 
 abbrev pub halves : Bor (List ℕ) × Bor (List ℕ) → List ℕ × List ℕ
 halves x = (x.0.now, x.1.now)
@@ -11,5 +12,21 @@ halves x = (x.0.now, x.1.now)
 abbrev pub shape_of : Shape' → Shape
 shape_of s = record { charset = s.charset.now; coding = s.coding.now; encoded = s.encoded.now; rest = s.rest.now }
 
-abbrev pub word_of : Word → List ℕ × List ℕ
-word_of w = (string_bytes w.meant, w.rest.now)
+abbrev pub word_of : Word' → Word
+word_of w = record { charset = w.charset; bytes = w.bytes }
+
+abbrev pub found_of : Found → Word × List ℕ
+found_of f = (word_of f.word, f.rest.now)
+
+-- what is said from a word on that isn't written yet, where this cut text follows it
+abbrev pub said_after : Word' → Cut → List ℕ
+said_after w later = said false (joined (word [] (word_of w) later))
+
+-- the same, where there may be no such word
+abbrev pub said_with : Option Word' → Cut → List ℕ
+said_with None later = said false (joined later)
+said_with (Some w) later = said_after w later
+
+abbrev pub meaning_of : Option Word' → List ℕ
+meaning_of None = []
+meaning_of (Some w) = meaning (word_of w)

@@ -1,12 +1,13 @@
--- Encoded words in a text: an encoded-word is =?charset?encoding?encoded-text?= (RFC 2047, section 2). Its encoding is called
--- coding here.
+-- Encoded-words in a text: an encoded-word is =?charset?encoding?encoded-text?= (RFC 2047, section 2).
+-- Its encoding is called coding here.
 use Rattle.std.specs.Prelude.{ℕ, zero, suc, ◌-◌, Bool, true, false, ◌&&◌, ◌||◌, not, ◌==◌, nat_lt, nat_le, List, [], ◌∷◌, ◌++◌, length, map, filter, Option, Some, None, if◌then◌else◌}
 use Rattle.std.specs.List.{list_all, list_any, position_or_len, before_first, after_first}
 use Rattle.std.specs.Char.{is_ascii_whitespace, is_ascii_control}
 use Rattle.std.specs.Str.{chars, encode_utf8_all}
 use Rattle.mime_codec.specs.Base64.{base64}
 use Rattle.mime_codec.specs.Quoted.{unescaped}
-use Rattle.mime_words.specs.Charsets.{charset_named, text_in}
+use Rattle.mime_words.specs.declared.charset.Charset.{Charset}
+use Rattle.mime_words.specs.Charsets.{charset_named, same_charset, text_in}
 
 -- go on with what was found, if anything was
 infixl 10 ◌>>=◌
@@ -65,12 +66,17 @@ coded_bytes (letter ∷ b ∷ bs) encoded = None
 abbrev pub without_controls : List ℕ → List ℕ
 without_controls text = encode_utf8_all (filter (λ c. not (is_ascii_control c)) (chars text))
 
--- the text that a word of these pieces stands for: nothing where its charset or coding isn't known
-unfoldable pub meaning : Shape → Option (List ℕ)
-meaning s = do
+-- what an encoded-word holds: its charset, and the bytes that its encoded-text stands for
+pub record Word : Type 0 where
+  pub charset : Charset
+  pub bytes : List ℕ
+
+-- what a word of these pieces holds: nothing where its charset or encoding isn't known
+unfoldable pub content : Shape → Option Word
+content s = do
   charset ← charset_named s.charset
   bytes ← coded_bytes s.coding s.encoded
-  Some (without_controls (text_in charset bytes))
+  Some (record { charset = charset; bytes = bytes })
 
 -- a word has at most 75 bytes from its first sign to its last, and no white space (RFC 2047, section 2, counts characters, which
 -- are of ASCII there and so bytes)
@@ -80,26 +86,26 @@ is_good text s = nat_le (length text - length s.rest) 75 && not (list_any is_asc
 abbrev pub if_good : List ℕ → Shape → Option Shape
 if_good text s = if is_good text s then Some s else None
 
--- what the word stands for that the text begins with, and the text behind that word
-unfoldable pub word_at : List ℕ → Option (List ℕ × List ℕ)
+-- the word that a text begins with, and the text after that word
+unfoldable pub word_at : List ℕ → Option (Word × List ℕ)
 word_at text = do
   shape ← shape_at text
   good ← if_good text shape
-  meant ← meaning good
-  Some (meant, good.rest)
+  held ← content good
+  Some (held, good.rest)
 
--- a text cut at its words: the text before the first word, what that word stands for, and what follows it
+-- a text cut at its words: the text before the first word, that word, and what follows it
 pub data Cut : Type 0 where
   plain : List ℕ → Cut
-  word : List ℕ → List ℕ → Cut → Cut
+  word : List ℕ → Word → Cut → Cut
 
--- with a byte before it
+-- a cut text with a byte before it
 abbrev pub onto : ℕ → Cut → Cut
 onto b (plain text) = plain (b ∷ text)
-onto b (word text meant later) = word (b ∷ text) meant later
+onto b (word text held later) = word (b ∷ text) held later
 
 -- a byte where a word may begin; `later n` is the cut of what follows the byte without its first n bytes
-abbrev pub cut_at : ℕ → List ℕ → Option (List ℕ × List ℕ) → (ℕ → Cut) → Cut
+abbrev pub cut_at : ℕ → List ℕ → Option (Word × List ℕ) → (ℕ → Cut) → Cut
 cut_at b bs None later = onto b (later zero)
 cut_at b bs (Some w) later = word [] w.0 (later (length bs - length w.1))
 
@@ -109,20 +115,54 @@ cut_after [] left = plain []
 cut_after (b ∷ bs) (suc left) = cut_after bs left
 cut_after (b ∷ bs) zero = cut_at b bs (word_at (b ∷ bs)) (cut_after bs)
 
--- words are looked for from the front, and none begins within a decoded one. Behind the first byte of one that stays the next
--- may begin, also with that one's last sign.
+-- Words are looked for from the front, and none begins within a decoded one. The next may begin at
+-- the second byte of what is no word, and so with its last sign too.
 abbrev pub cut : List ℕ → Cut
 cut text = cut_after text zero
 
--- the text before a word: white space alone goes where a word stands before it too (RFC 2047, section 6.2)
-abbrev pub gap : Bool → List ℕ → List ℕ
-gap behind text = if behind && list_all is_ascii_whitespace text then [] else text
+abbrev pub is_white : List ℕ → Bool
+is_white text = list_all is_ascii_whitespace text
 
--- what a cut says, where a word stands before it or not
+-- whether two words, between which this text stands, are read as one: they have one charset, and only
+-- white space stands between them (RFC 2047, section 5, keeps each character within one word; many
+-- writers split one over two)
+abbrev pub are_one : Word → List ℕ → Word → Bool
+are_one first between next = is_white between && same_charset first.charset next.charset
+
+-- the word that two words are read as: the bytes of both
+abbrev pub both : Word → Word → Word
+both first next = record { charset = first.charset; bytes = first.bytes ++ next.bytes }
+
+-- a text before a word, that word, and what follows it, whose words are joined
+abbrev pub join_first : List ℕ → Word → Cut → Cut
+join_first before first (plain text) = word before first (plain text)
+join_first before first (word between next later) =
+    if are_one first between next then word before (both first next) later
+    else word before first (word between next later)
+
+-- a cut text in which words that follow one another are joined where they are read as one
+abbrev pub joined : Cut → Cut
+joined (plain text) = plain text
+joined (word before first later) = join_first before first (joined later)
+
+-- the text that a word stands for: its bytes read in its charset, then without control characters
+abbrev pub meaning : Word → List ℕ
+meaning w = without_controls (text_in w.charset w.bytes)
+
+-- the text before a word: white space alone goes where a word stands before it too (RFC 2047, section
+-- 6.2)
+abbrev pub gap : Bool → List ℕ → List ℕ
+gap behind text = if behind && is_white text then [] else text
+
+-- what a cut text says, where a word stands before it or not
 abbrev pub said : Bool → Cut → List ℕ
 said behind (plain text) = text
-said behind (word text meant later) = gap behind text ++ (meant ++ said true later)
+said behind (word text held later) = gap behind text ++ (meaning held ++ said true later)
+
+-- what a cut text says that no word stands before
+abbrev pub text_said : Cut → List ℕ
+text_said c = said false (joined c)
 
 -- a text with its words decoded
 abbrev pub decoded_words : List ℕ → List ℕ
-decoded_words text = said false (cut text)
+decoded_words text = text_said (cut text)

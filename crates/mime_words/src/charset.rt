@@ -1,9 +1,10 @@
 // Bytes in a charset as text.
 ghost use Rattle.std.specs.Prelude.{◌≡◌, IfOk, string_bytes};
 ghost use Rattle.mime_words.specs.Charsets;
-ghost use Rattle.mime_words.specs.Charsets.{text_in, text_of, has_problem};
+ghost use Rattle.mime_words.specs.Charsets.{same_charset, text_in, text_of, has_problem};
 
 use jm_base::{NoMemory, Text};
+use mail_text::is_same_name;
 use std::alloc::Global;
 
 /// A charset whose bytes can be read.
@@ -26,24 +27,29 @@ pub struct Decoded {
     pub problem: bool,
 }
 
-fn are_same(a: &[u8], b: &[u8]) -> bool
-    ensures { result ≡ Rattle.mime_words.specs.Charsets.are_same a.now b.now }
-{
-    a.eq_ignore_ascii_case(b)
-}
-
 /// The charset of a name, in either case.
 pub fn charset_named(name: &[u8]) -> Option<Charset>
     ensures { result ≡ Rattle.mime_words.specs.Charsets.charset_named name.now }
 {
-    if are_same(name, b"utf-8") {
+    if is_same_name(name, b"utf-8") {
         Some(Charset::Utf8)
-    } else if are_same(name, b"us-ascii") {
+    } else if is_same_name(name, b"us-ascii") {
         Some(Charset::Ascii)
-    } else if are_same(name, b"iso-8859-1") {
+    } else if is_same_name(name, b"iso-8859-1") {
         Some(Charset::Latin1)
     } else {
         None
+    }
+}
+
+/// Whether two charsets are one.
+pub fn is_same_charset(a: Charset, b: Charset) -> bool
+    ensures { result ≡ same_charset a b }
+{
+    match a {
+        Charset::Utf8 => matches!(b, Charset::Utf8),
+        Charset::Ascii => matches!(b, Charset::Ascii),
+        Charset::Latin1 => matches!(b, Charset::Latin1),
     }
 }
 

@@ -1,13 +1,15 @@
-//! Encoded words (RFC 2047), and texts in the charsets that mail has.
+//! Encoded-words (RFC 2047), and texts in the charsets that mail has.
 //!
-//! Both calls read all bytes, and refuse nothing but want of memory.
+//! Both calls read all bytes, and fail only if memory runs out.
 #![tactic(auto)]
 
 mod charset;
+mod laws;
 mod shape;
 #[cfg(test)]
 mod tests;
 mod words;
 
 pub use charset::{Decoded, decode_charset};
+pub use laws::{split_words_are_joined, texts_without_words_stay};
 pub use words::decode_words;

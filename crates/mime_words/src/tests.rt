@@ -140,6 +140,36 @@ fn texts_of_words(rt: HostRuntime) -> Result<(), Fail> {
     Ok(())
 }
 
+/// Words of one charset with nothing but white space between them are read as one, so that a character that was split over them
+/// is whole; Python's `email.header.make_header` gives the first four texts too. Words with other text between them, and words of
+/// two charsets, are read one by one.
+#[test]
+fn characters_split_over_words(rt: HostRuntime) -> Result<(), Fail> {
+    let table: [(&[u8], &str); 8] = [
+        (b"=?utf-8?B?R3LD?= =?utf-8?B?vMOfZQ==?=", "Gr\u{FC}\u{DF}e"),
+        (b"=?utf-8?B?R3LD?==?UTF-8?q?=BC=C3=9Fe?=", "Gr\u{FC}\u{DF}e"),
+        (
+            b"=?utf-8?Q?=E2?= =?utf-8?Q?=82?=\r\n =?utf-8?Q?=AC?= x",
+            "\u{20AC} x",
+        ),
+        (
+            b"a =?utf-8?Q?=C3?= \t=?utf-8?Q?=BC?=b =?utf-8?Q?c?=",
+            "a \u{FC}b c",
+        ),
+        (b"=?utf-8?Q?=C3?=x=?utf-8?Q?=BC?=", "\u{FFFD}x\u{FFFD}"),
+        (b"=?utf-8?Q?=C3?= =?iso-8859-1?Q?=BC?=", "\u{FFFD}\u{BC}"),
+        // A word that stays stands between two others.
+        (
+            b"=?utf-8?Q?=C3?= =?x?Q?a?= =?utf-8?Q?=BC?=",
+            "\u{FFFD} =?x?Q?a?= \u{FFFD}",
+        ),
+        // Control characters are dropped after the bytes are joined.
+        (b"=?utf-8?Q?a=0D=C2?= =?utf-8?Q?=80=00b?=", "a\u{80}b"),
+    ];
+    assert!(rt; all_say(rt.alloc(), &table)?);
+    Ok(())
+}
+
 /// Whether the bytes of each row make its text in its charset, with a problem or without.
 fn all_read(alloc: Global, table: &[(&[u8], &[u8], &str, bool)]) -> Result<bool, NoMemory> {
     for (charset, bytes, meant, problem) in table {

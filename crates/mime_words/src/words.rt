@@ -1,14 +1,14 @@
 // Encoded words in a text.
-ghost use Rattle.std.specs.Prelude.{◌≡◌, ◌<◌, ◌≤◌, ◌∷◌, ◌++◌, ◌≢◌, ℕ, length, slice_index, map, option_map, IfOk, OnOk, IfSome, Some, None, string_bytes};
+ghost use Rattle.std.specs.Prelude.{◌≡◌, ◌<◌, ◌≤◌, ◌∷◌, ◌++◌, ◌≢◌, ℕ, true, length, slice_index, map, option_map, IfOk, OnOk, IfSome, Some, None, string_bytes};
 ghost use Rattle.std.specs.Char.{is_ascii_whitespace};
 ghost use Rattle.std.specs.List.{list_all, list_any};
 ghost use Rattle.std.specs.Str.Lossy.{utf8_lossy};
 ghost use Rattle.mime_codec.specs.Quoted.{unescaped};
 ghost use Rattle.mime_words.specs.Words;
-ghost use Rattle.mime_words.specs.Words.{bytes_by, coded_bytes, without_controls, word_at, cut, gap, said, decoded_words};
-ghost use Rattle.mime_words.specs.Views.{shape_of, word_of};
+ghost use Rattle.mime_words.specs.Words.{bytes_by, coded_bytes, without_controls, content, word_at, Cut, word, cut, meaning, gap, decoded_words};
+ghost use Rattle.mime_words.specs.Views.{shape_of, word_of, found_of, said_after, said_with, meaning_of};
 
-use crate::charset::{charset_named, charset_text};
+use crate::charset::{Charset, charset_named, charset_text, is_same_charset};
 use crate::shape::{Shape, split_shape};
 use jm_base::{Bytes, NoMemory, Text};
 use mime_codec::{Coding, decode, unescape};
@@ -17,10 +17,17 @@ use std::alloc::Global;
 /// The greatest length of an encoded-word in bytes, from its first `=` to its last (RFC 2047, section 2).
 const LONGEST: usize = 75;
 
-/// What a word stands for, and the text behind it.
+/// What an encoded-word holds: its charset, and the bytes that its encoded-text stands for.
 #[derive(Drop)]
-pub struct Word<'a> {
-    pub meant: String,
+pub struct Word {
+    pub charset: Charset,
+    pub bytes: Bytes,
+}
+
+/// A word, and the text after it.
+#[derive(Drop)]
+pub struct Found<'a> {
+    pub word: Word,
     pub rest: &'a str,
 }
 
@@ -70,20 +77,18 @@ fn drop_controls(text: &mut String)
     text.retain(|c| !c.is_ascii_control());
 }
 
-/// What a word of these pieces stands for.
-#[tactic(auto, unfolding(crate::specs::Words::meaning))]
-fn read_meaning(alloc: Global, shape: Shape<'_>) -> Result<Option<String>, NoMemory>
-    ensures { IfOk result (λ m. option_map string_bytes m ≡ Words.meaning (shape_of shape.entry)) }
+/// What a word of these pieces holds.
+#[tactic(auto, unfolding(crate::specs::Words::content))]
+fn read_content(alloc: Global, shape: Shape<'_>) -> Result<Option<Word>, NoMemory>
+    ensures { IfOk result (λ w. option_map word_of w ≡ content (shape_of shape.entry)) }
 {
     let Some(charset) = charset_named(shape.charset.as_bytes()) else {
         return Ok(None);
     };
-    let Some(bytes) = decode_coded(alloc, shape.coding.as_bytes(), shape.encoded.as_bytes())? else {
-        return Ok(None);
-    };
-    let mut text = charset_text(alloc, charset, bytes.as_slice())?;
-    drop_controls(&mut text);
-    Ok(Some(text))
+    match decode_coded(alloc, shape.coding.as_bytes(), shape.encoded.as_bytes())? {
+        Some(bytes) => Ok(Some(Word { charset, bytes })),
+        None => Ok(None),
+    }
 }
 
 /// Whether there is white space in a text.
@@ -95,9 +100,9 @@ fn has_white_space(text: &str) -> bool
 
 /// The word that begins with an equals sign and this text.
 #[tactic(auto, unfolding(crate::specs::Words::word_at))]
-fn read_word(alloc: Global, text: &str) -> Result<Option<Word<'_>>, NoMemory>
-    ensures value { IfOk result (λ w. option_map word_of w ≡ word_at (61 ∷ text.now)) }
-    ensures within { IfOk result (λ o. IfSome o (λ w. length w.rest.now < length text.now)) }
+fn read_word(alloc: Global, text: &str) -> Result<Option<Found<'_>>, NoMemory>
+    ensures value { IfOk result (λ f. option_map found_of f ≡ word_at (61 ∷ text.now)) }
+    ensures within { IfOk result (λ o. IfSome o (λ f. length f.rest.now < length text.now)) }
 {
     let Some(shape) = split_shape(text) else {
         return Ok(None);
@@ -105,9 +110,9 @@ fn read_word(alloc: Global, text: &str) -> Result<Option<Word<'_>>, NoMemory>
     if LONGEST <= text.len() - shape.rest.len() || has_white_space(shape.encoded) {
         return Ok(None);
     }
-    match read_meaning(alloc, shape)? {
-        Some(meant) => Ok(Some(Word {
-            meant,
+    match read_content(alloc, shape)? {
+        Some(word) => Ok(Some(Found {
+            word,
             rest: shape.rest,
         })),
         None => Ok(None),
@@ -116,73 +121,146 @@ fn read_word(alloc: Global, text: &str) -> Result<Option<Word<'_>>, NoMemory>
 
 /// Whether a text is white space alone.
 fn is_white(text: &str) -> bool
-    ensures { result ≡ list_all is_ascii_whitespace text.now }
+    ensures { result ≡ Words.is_white text.now }
 {
     text.as_bytes().iter().all(|b| b.is_ascii_whitespace())
 }
 
-/// Adds the text before a word, where a word stands before that text or not.
-fn push_gap(out: &mut String, behind: bool, text: &str) -> Result<(), NoMemory>
-    ensures { OnOk result (string_bytes out.new ≡ string_bytes out.old ++ gap behind text.now) }
+/// Adds the text between two words, but for white space alone.
+fn push_between(out: &mut String, text: &str) -> Result<(), NoMemory>
+    ensures { OnOk result (string_bytes out.new ≡ string_bytes out.old ++ gap true text.now) }
 {
-    if !(behind && is_white(text)) {
+    if !is_white(text) {
         out.push_str(text)?;
     }
     Ok(())
 }
 
-/// What is left of a text, and whether a word stands right before it.
-#[derive(Clone, Copy)]
-struct Left<'a> {
-    text: &'a str,
-    behind: bool,
+/// Adds the text that a word stands for.
+fn push_meaning(alloc: Global, out: &mut String, word: &Word) -> Result<(), NoMemory>
+    ensures { OnOk result (string_bytes out.new ≡ string_bytes out.old ++ meaning (word_of word.now)) }
+{
+    let mut text = charset_text(alloc, word.charset, word.bytes.as_slice())?;
+    drop_controls(&mut text);
+    out.push_str(text.as_str())?;
+    Ok(())
 }
 
-/// Adds a text up to an equals sign, and the word that begins with that sign, if there is one.
-fn push_word<'a>(
+/// Whether two words, between which a text stands, are read as one.
+fn are_one(first: &Word, between: &str, next: &Word) -> bool
+    ensures { result ≡ Words.are_one (word_of first.now) between.now (word_of next.now) }
+{
+    is_white(between) && is_same_charset(first.charset, next.charset)
+}
+
+/// Takes a word that follows another one and the text between them: joins both where they are read as
+/// one, else adds the first and the text. Returns the word that isn't added yet.
+fn push_next(
     alloc: Global,
     out: &mut String,
-    behind: bool,
+    first: Word,
+    between: &str,
+    next: Word,
+) -> Result<Word, NoMemory>
+    ensures { IfOk result (λ w. (later : Cut) → string_bytes out.new ++ said_after w later ≡ string_bytes out.old ++ said_after first (word between.now (word_of next) later)) }
+{
+    let mut first = first;
+    if are_one(&first, between, &next) {
+        first.bytes.append(next.bytes.as_slice())?;
+        return Ok(first);
+    }
+    push_meaning(alloc, out, &first)?;
+    push_between(out, between)?;
+    Ok(next)
+}
+
+/// Takes a word and the text before it; `last` is the word before that text, if there is one that isn't
+/// added yet. Returns the word that isn't added yet.
+fn push_word(
+    alloc: Global,
+    out: &mut String,
+    last: Option<Word>,
+    front: &str,
+    next: Word,
+) -> Result<Word, NoMemory>
+    ensures { IfOk result (λ w. (later : Cut) → string_bytes out.new ++ said_after w later ≡ string_bytes out.old ++ said_with last (word front.now (word_of next) later)) }
+{
+    match last {
+        Some(first) => push_next(alloc, out, first, front, next),
+        None => {
+            out.push_str(front)?;
+            Ok(next)
+        }
+    }
+}
+
+/// Adds the word that isn't added yet, if there is one, and the text after it, which no word follows.
+fn push_text(
+    alloc: Global,
+    out: &mut String,
+    last: &Option<Word>,
+    text: &str,
+) -> Result<(), NoMemory>
+    ensures { OnOk result (string_bytes out.new ≡ string_bytes out.old ++ (meaning_of last.now ++ text.now)) }
+{
+    if let Some(word) = last {
+        push_meaning(alloc, out, word)?;
+    }
+    out.push_str(text)?;
+    Ok(())
+}
+
+/// What is left of a text, and the last word before it, which isn't added yet.
+#[derive(Drop)]
+struct Left<'a> {
+    text: &'a str,
+    last: Option<Word>,
+}
+
+/// Takes a text up to an equals sign, and the word that begins with that sign, if there is one.
+fn push_piece<'a>(
+    alloc: Global,
+    out: &mut String,
+    last: Option<Word>,
     front: &str,
     inner: &'a str,
 ) -> Result<Left<'a>, NoMemory>
     requires { (k : ℕ) → k < length front.now → slice_index front.now k ≢ 61 }
-    ensures value { IfOk result (λ left. string_bytes out.new ++ said left.behind (cut left.text.now) ≡ string_bytes out.old ++ said behind (cut (front.now ++ 61 ∷ inner.now))) }
+    ensures value { IfOk result (λ left. string_bytes out.new ++ said_with left.last (cut left.text.now) ≡ string_bytes out.old ++ said_with last (cut (front.now ++ 61 ∷ inner.now))) }
     ensures within { IfOk result (λ left. length left.text.now ≤ length inner.now) }
 {
     match read_word(alloc, inner)? {
-        Some(word) => {
-            push_gap(out, behind, front)?;
-            out.push_str(word.meant.as_str())?;
+        Some(found) => {
+            let last = push_word(alloc, out, last, front, found.word)?;
             Ok(Left {
-                text: word.rest,
-                behind: true,
+                text: found.rest,
+                last: Some(last),
             })
         }
         None => {
-            out.push_str(front)?;
+            push_text(alloc, out, &last, front)?;
             out.push('=')?;
             Ok(Left {
                 text: inner,
-                behind: false,
+                last: None,
             })
         }
     }
 }
 
-/// A text with its encoded words decoded.
+/// A text with its encoded-words decoded.
 fn text_words(alloc: Global, text: &str) -> Result<Text, NoMemory>
     ensures { IfOk result (λ t. t ≡ decoded_words text.now) }
 {
     let mut out = String::new(alloc);
     let mut rest = text;
-    let mut behind = false;
+    let mut last: Option<Word> = None;
     while let Some((front, inner)) = rest.split_once('=') {
-        let left = push_word(alloc, &mut out, behind, front, inner)?;
+        let left = push_piece(alloc, &mut out, last, front, inner)?;
         rest = left.text;
-        behind = left.behind;
+        last = left.last;
     }
-    out.push_str(rest)?;
+    push_text(alloc, &mut out, &last, rest)?;
     Ok(Text::from_string(out))
 }
 
@@ -190,9 +268,11 @@ fn text_words(alloc: Global, text: &str) -> Result<Text, NoMemory>
 /// become U+FFFD first.
 ///
 /// A word stays as it is written where its charset isn't `utf-8`, `us-ascii` or `iso-8859-1`, its encoding isn't `B` or `Q`,
-/// it is longer than 75 bytes, or white space stands in its encoded-text. In what a decoded word says, U+FFFD stands for bytes
-/// that its charset doesn't have, and the control characters of ASCII are left out. White space that alone stands between two
-/// decoded words is dropped (section 6.2). It fails where there is no memory, and else never.
+/// it is longer than 75 bytes, or white space stands in its encoded-text. Words of one charset between which only white space
+/// stands are read as one: their bytes are joined before the charset is read, so a character that was split over two words is
+/// whole. In what a decoded word says, U+FFFD stands for bytes that its charset doesn't have, and the control characters of
+/// ASCII are left out. White space that alone stands between two decoded words is dropped (section 6.2). It fails if memory
+/// runs out, and else never.
 pub fn decode_words(alloc: Global, bytes: &[u8]) -> Result<Text, NoMemory>
     ensures { IfOk result (λ t. t ≡ decoded_words (utf8_lossy bytes.now)) }
 {

@@ -1,4 +1,4 @@
-use Rattle.std.proofs.Common.{◌≡◌, ◌++◌, ◌∷◌, take, rules, arith, ap, sym, ◌∙◌}
+use Rattle.std.proofs.Common.{◌++◌, take, arith, ap, sym, ◌∙◌}
 use Rattle.std.specs.Str.{chars}
 use Rattle.std.proofs.lemmas.Str.{chars_past_char, IsUtf8-past_char}
 use Rattle.mail_summary.specs.Texts.{behind, spaced}

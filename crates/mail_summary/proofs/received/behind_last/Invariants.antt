@@ -1,14 +1,14 @@
 use Rattle.std.proofs.Common.{◌≡◌, ◌+◌, ◌≤◌, length}
 use Rattle.std.specs.Option.{option_map, option_or}
-use Rattle.header_forms.specs.Dates.{between}
+use Rattle.mail_text.specs.declared.comment.State.TheVariants.{Outside}
+use Rattle.mail_text.specs.Comments.{depth_of}
 use Rattle.mail_summary.specs.Received.{behind_last}
 use Rattle.mail_summary.specs.Shown.{bytes_in}
-use Rattle.mail_summary.specs.States.{depth_of, state_of}
 use Rattle.mail_summary.proofs.received.behind_last.Given as goal
 
 abbrev pub invariant-loop-byte : goal.invariant-loop-byte
 invariant-loop-byte l = record {
-  same : option_or (behind_last (state_of l.state) l.rest) (option_map bytes_in l.last) ≡ behind_last between l.text;
+  same : option_or (behind_last l.state l.rest) (option_map bytes_in l.last) ≡ behind_last Outside l.text;
   size : depth_of l.state + length l.rest ≤ length l.text;
 }
 

@@ -1,6 +1,7 @@
 use Rattle.std.proofs.Common.{option_map, ap, ◌∙◌}
 use Rattle.mime_type.specs.Content.{coding_of}
-use Rattle.mime_type.specs.Labels.{trimmed, id_in, languages_in}
+use Rattle.mime_type.specs.Labels.{id_in, languages_in}
+use Rattle.mail_text.specs.Texts.{trimmed}
 use Rattle.mime_type.proofs.head.read_labels.Goals as goal
 
 pub returns-clause-cid : goal.returns-clause-cid

@@ -1,7 +1,0 @@
-use Rattle.std.proofs.Common.{refl}
-use Rattle.std.proofs.lemmas.Str.Ascii.{trim_ascii_is}
-use Rattle.header_forms.specs.Addresses.{trimmed_start}
-use Rattle.header_forms.proofs.items.trim.Goals as goal
-
-pub returns : goal.returns
-returns c = trim_ascii_is c.args.text.now c.trim_ascii.result.now (trimmed_start c.args.text.now) refl c.trim_ascii.ensures.value

@@ -1,5 +1,0 @@
-use Rattle.mime_type.proofs.Quotes.{quoted_back}
-use Rattle.mime_type.proofs.values.quotes_read_back.Goals as goal
-
-pub returns : goal.returns
-returns c = quoted_back
