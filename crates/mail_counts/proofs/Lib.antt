@@ -1,3 +1,4 @@
 pub mod Growth
 pub mod Kept
 pub mod Named
+pub mod StateAfter

@@ -3,3 +3,5 @@ pub mod Counts
 pub mod Tidy
 pub mod Views
 pub mod Derived
+pub mod Plans
+pub mod CountsFlag

@@ -6,7 +6,7 @@ use Rattle.std.specs.Option.{ForSome}
 use Rattle.std.specs.Ordering.{nat_cmp, int_cmp, match_ordering}
 use Rattle.std.specs.declared.cmp.Ordering.{Ordering}
 use Rattle.std.specs.declared.cmp.Ordering.TheVariants.{Less, Greater}
-use Rattle.jm_base.specs.Moments.{IsMoment}
+use Rattle.jm_base.specs.UtcDates.{IsUtcDate}
 use Rattle.mail_records.specs.Contents.{Content, mailbox_at, thread_at, email_number, AreTables, AreNumbered}
 use Rattle.mail_records.specs.Commits.{NumbersRise, TextsRise}
 use Rattle.mail_records.specs.declared.records.Mailbox.{Mailbox}
@@ -97,8 +97,8 @@ pub record IsTidyEmail (c : Content) (e : Email) : Type 0 where
   pub keywords : AllByRecursion (λ k. is_keyword k ≡ true) e.keywords
   pub few_keywords : length e.keywords ≤ 128
   pub keywords_rise : TextsRise e.keywords
-  pub received : IsMoment e.received
-  pub sent : ForSome e.summary.sent IsMoment
+  pub received : IsUtcDate e.received
+  pub sent : ForSome e.summary.sent IsUtcDate
 
 -- at most 100,000 emails, each tidy
 pub record AreEmailsTidy (c : Content) : Type 0 where

@@ -2,6 +2,7 @@
 ghost use Rattle.std.specs.Prelude.{◌≡◌, ◌++◌, [], IfOk};
 ghost use Rattle.std.specs.List.{AllByRecursion};
 ghost use Rattle.mail_records.specs.Edits.{AllFit, after_edits};
+ghost use Rattle.mail_counts.specs.CountsFlag.{AreCountsFlagsRight};
 ghost use Rattle.mail_counts.specs.Derived.{AllKeepCounts, AreCounted, IsOfMailbox, LeavesEmails};
 ghost use Rattle.mail_counts.specs.Tidy.{AreThreadsTidy, IsTidy};
 
@@ -19,6 +20,7 @@ pub fn derived(alloc: Global, before: &Content, edits: &[Edit]) -> Result<Edits,
     requires emails { AllByRecursion LeavesEmails edits.now }
     ensures none { IfOk result (λ more. more ≡ []) }
     ensures counts { IfOk result (λ more. IsTidy before.now.content → AllKeepCounts before.now.content edits.now → AreCounted (after_edits before.now.content (edits.now ++ more))) }
+    ensures flags { IfOk result (λ more. AreCountsFlagsRight (after_edits before.now.content edits.now) more) }
     ensures threads { IfOk result (λ more. AreThreadsTidy before.now.content → AllByRecursion IsOfMailbox edits.now → AreThreadsTidy (after_edits before.now.content (edits.now ++ more))) }
 {
     let _ = before;

@@ -7,12 +7,16 @@
 
 mod following;
 mod form;
+mod laws;
 mod plan;
+mod state;
 #[cfg(test)]
 mod tests;
 mod view;
 
 pub use following::derived;
 pub use form::{is_name, is_role, is_sort_order};
+pub use laws::state_after_edits_is_that_of_the_grown_history;
 pub use plan::{SetFault, SetPlan};
+pub use state::state_after;
 pub use view::{mailbox_rights, mailbox_view};

@@ -3,7 +3,7 @@ use Rattle.std.proofs.Common.{◌≡◌, Bool, true, false, ◌&&◌, refl, ap, 
 use Rattle.std.specs.Cmp.{signed_Decides}
 use Rattle.std.proofs.lemmas.Bool.{false≢true}
 use Rattle.jm_json.specs.Tree.{Tree, null, boolean, number, text, list, object, Trees, no_trees, tree, Fields, no_fields, field}
-use Rattle.mailbox_set.specs.Same.{is_same, is_same_truth, are_same_trees, are_same_fields}
+use Rattle.mailbox_set.specs.Equality.{is_same, is_same_truth, are_same_trees, are_same_fields}
 use Rattle.mailbox_set.proofs.Naming.{texts_tested}
 
 both : (a b : Bool) → (a && b) ≡ true → (a ≡ true) × (b ≡ true)

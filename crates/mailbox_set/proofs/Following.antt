@@ -1,7 +1,7 @@
 -- A planner keeps in step with the course of a set.
 use Rattle.std.proofs.Common.{◌≡◌, ◌==◌, ℕ, map, length, Result, Ok, Err, OnOk, ◌+◌, ◌≤◌, Bool, true, false, ◌&&◌, ◌||◌, eqb, ltb, leb, nat_le, nat_lt, List, [], ◌∷◌, ◌++◌, Option, Some, None, is_some, refl, sym, ap, ap₂, ◌∙◌, arith, ⊎_elim, bytes_eq, le-leb, le-ltb, lt-ltb}
 use Rattle.std.specs.List.{list_any}
-use Rattle.std.proofs.lemmas.Bool.{cases_Bool, false≢true, eqb-true, eqb-false, ltb-true, ltb-false, leb-true}
+use Rattle.std.proofs.lemmas.Bool.{cases_Bool, false≢true, eqb-true, eqb-false, leb-true}
 use Rattle.jm_json.specs.Tree.{Tree}
 use Rattle.jm_json.specs.Order.{put as put_member}
 use Rattle.jm_json.specs.declared.invocation.Created.{Created}
@@ -14,13 +14,10 @@ use Rattle.mail_counts.specs.Tidy.{is_sibling, same_parent, same_role}
 use Rattle.jm_json.specs.Json.{member_of}
 use Rattle.jm_json.specs.declared.tree.Member.{Member}
 use Rattle.mail_counts.specs.Views.{mailbox_members}
-use Rattle.mailbox_set.specs.Asked.{Asked, asked}
-use Rattle.mailbox_set.specs.Beyond.{has_role, is_beyond, is_given}
-use Rattle.mailbox_set.specs.declared.faults.Faults.{Faults}
+use Rattle.mailbox_set.specs.Properties.{Asked, asked}
+use Rattle.mailbox_set.specs.Views.{has_role, is_beyond, is_given, holds, Knows, Follows, is_found}
+use Rattle.mailbox_set.specs.declared.checks.Faults.{Faults}
 use Rattle.mailbox_set.specs.Creates.{Create, Course, after_create, after_checks, after_made, bad_members, blank, created_tree, faults_of, made_under, mailbox_of, new_mailbox, refusal}
-use Rattle.mailbox_set.specs.Holds.{holds}
-use Rattle.mailbox_set.specs.Knows.{Knows}
-use Rattle.mailbox_set.specs.Follows.{Follows, is_found}
 use Rattle.mailbox_set.specs.declared.planner.Planner.{Planner}
 use Rattle.mailbox_set.proofs.Givens.{given_with_new, beyond_with_new, beyond_twice, tested_more}
 use Rattle.mailbox_set.proofs.Texts.{any_same}

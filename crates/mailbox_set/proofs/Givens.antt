@@ -1,13 +1,13 @@
 -- The mailboxes that a set has given numbers by now, and those from the next number on, as a new mailbox is put among them.
-use Rattle.std.proofs.Common.{◌≡◌, ◌≢◌, ◌==◌, ℕ, ◌+◌, ◌<◌, ◌≤◌, Bool, true, false, ◌&&◌, ◌||◌, not, eqb, ltb, leb, nat_le, nat_lt, List, [], ◌∷◌, ◌++◌, take, drop, refl, sym, ap, ap₂, ◌∙◌, subst, arith, ⊎_elim, ne_eqb, eq-eqb, le-leb, le-ltb, lt-ltb, take-append-drop}
+use Rattle.std.proofs.Common.{◌≡◌, ◌==◌, ℕ, ◌+◌, ◌<◌, ◌≤◌, Bool, true, false, ◌&&◌, ◌||◌, not, eqb, ltb, leb, nat_le, nat_lt, List, [], ◌∷◌, take, drop, refl, sym, ap, ap₂, ◌∙◌, subst, arith, ⊎_elim, ne_eqb, eq-eqb, le-leb, le-ltb, lt-ltb, take-append-drop}
 use Rattle.std.specs.List.{AllByRecursion, list_any}
 use Rattle.std.proofs.lemmas.Bool.{cases_Bool, eqb-true, eqb-false, ltb-true, ltb-false, leb-true}
 use Rattle.std.proofs.lemmas.List.Folds.{list_any-append}
 use Rattle.mail_records.specs.Contents.{mailbox_number}
 use Rattle.mail_records.specs.Tables.{IsPlace, IsTable, put}
 use Rattle.mail_records.specs.declared.records.Mailbox.{Mailbox}
-use Rattle.mailbox_set.specs.Beyond.{is_beyond, is_given}
-use Rattle.mailbox_set.proofs.Texts.{any_same, or_flip}
+use Rattle.mailbox_set.specs.Views.{is_beyond, is_given}
+use Rattle.mailbox_set.proofs.Texts.{any_same}
 
 -- below the next number but one: below the next one, or that one
 pub tested_more : (n next : ℕ) → (n ≡ next → ⊥) → ltb n (next + 1) ≡ ltb n next

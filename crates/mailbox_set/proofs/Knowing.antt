@@ -2,8 +2,8 @@
 use Rattle.std.proofs.Common.{◌≡◌, ℕ, Bool, true, false, cond, List, [], ◌∷◌, ◌++◌, Option, Some, None, refl, ap, ◌∙◌, bytes_eq}
 use Rattle.std.specs.Option.{option_or}
 use Rattle.jm_json.specs.declared.invocation.Created.{Created}
-use Rattle.mailbox_set.specs.Asked.{last_made}
-use Rattle.mailbox_set.specs.Known.{Means, IsKnown}
+use Rattle.mailbox_set.specs.Properties.{last_made}
+use Rattle.mailbox_set.specs.Views.{Means, IsKnown}
 
 or_after : (b : Bool) (id : List ℕ) (old other : Option (List ℕ)) → option_or (cond b (Some id) old) other ≡ cond b (Some id) (option_or old other)
 or_after true id old other = refl

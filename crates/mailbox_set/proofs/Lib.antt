@@ -6,5 +6,6 @@ pub mod Rising
 pub mod Givens
 pub mod Following
 pub mod Rounding
+pub mod Planning
 pub mod Promising
 pub mod Equal

@@ -1,19 +1,16 @@
 -- The mailbox that an identifier names, by its number.
-use Rattle.std.proofs.Common.{◌≡◌, ◌≢◌, ℕ, ◌<◌, ◌≤◌, ◌^◌, Bool, true, false, cond, eqb, List, [], ◌∷◌, Option, Some, None, is_some, option_map, option_and_then, refl, sym, ap, ◌∙◌, arith, ⊎_elim, bytes_eq}
-use Rattle.std.specs.Fmt.{decimal}
-use Rattle.std.specs.List as lists
-use Rattle.std.specs.List.{AllByRecursion, list_any}
-use Rattle.std.proofs.lemmas.Bool.{cases_Bool, eqb-true, eqb-false}
-use Rattle.std.proofs.lemmas.Fmt.{decimal_injective}
+use Rattle.std.proofs.Common.{◌≡◌, ◌≢◌, ℕ, true, false, cond, eqb, List, [], ◌∷◌, Option, Some, None, is_some, option_map, option_and_then, refl, sym, ap, ◌∙◌, ⊎_elim, bytes_eq}
+use Rattle.std.specs.List.{list_any}
+use Rattle.std.proofs.lemmas.Bool.{cases_Bool, eqb-true}
 use Rattle.std.proofs.lemmas.Slice.Eq.{bytes_eq-Decides}
 use Rattle.mail_records.specs.Tables.{lookup}
 use Rattle.mail_records.specs.Contents.{Content, mailbox_number, mailbox_at}
 use Rattle.mail_records.specs.declared.records.Mailbox.{Mailbox}
 use Rattle.mail_counts.specs.Tidy.{same_role}
 use Rattle.mail_counts.proofs.Named.{named_by_number, named_none}
-use Rattle.mailbox_set.specs.Asked.{named}
+use Rattle.mailbox_set.specs.Properties.{named}
 use Rattle.mailbox_set.specs.Creates.{is_role_taken}
-use Rattle.mailbox_set.specs.Known.{MeansIfAny}
+use Rattle.mailbox_set.specs.Views.{MeansIfAny}
 
 -- texts that are the same pass the test, and others don't
 pub texts_same : (s t : List ℕ) → s ≡ t → bytes_eq s t ≡ true

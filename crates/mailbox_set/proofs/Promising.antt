@@ -12,22 +12,26 @@ use Rattle.jm_json.specs.Find.{find, as_text, as_object}
 use Rattle.jm_json.specs.Order.{put}
 use Rattle.jm_json.specs.declared.invocation.Created.{Created}
 use Rattle.mail_records.specs.Tables.{lookup}
-use Rattle.mail_records.specs.Contents.{Content, mailbox_number, AreNumbered}
+use Rattle.jm_base.specs.declared.identifiers.Kind.TheVariants.{Mailbox as OfMailbox}
+use Rattle.mail_records.specs.Contents.{Content, mailbox_at, mailbox_number, AreNumbered}
 use Rattle.mail_records.specs.Edits.{after_edit, after_edits, AllFit, Fits}
 use Rattle.mail_records.specs.declared.edits.Edit.{Edit}
+use Rattle.mail_records.specs.declared.edits.Edit.TheVariants.{PutMailbox, DropMailbox, PutEmail, DropEmail, PutThread, DropThread}
 use Rattle.mail_records.specs.declared.records.Mailbox.{Mailbox}
 use Rattle.mail_records.proofs.Growth.{AreNumbered-after_edit, after_edits-append, AllFit-append}
 use Rattle.mail_counts.specs.Forms.{is_name, is_role, is_sort_order}
 use Rattle.mail_counts.specs.Tidy.{IsTidy, IsThere, IsNewMailbox, is_sibling}
 use Rattle.mail_counts.specs.Views.{is_id_of, mailbox_members, mailbox_named}
 use Rattle.mail_counts.proofs.Growth.{Fits-new_mailbox, Tidy_with_new_mailbox}
-use Rattle.mailbox_set.specs.Asked.{Asked, asked, asked_name, asked_parent, identifier, named, only_if, parent_in, role_in, sort_order_in}
+use Rattle.mailbox_set.specs.Properties.{Asked, asked, asked_name, asked_parent, identifier, named, only_if, parent_in, role_in, sort_order_in}
 use Rattle.mailbox_set.specs.Creates.{Create, Course, after_create, after_checks, after_made, bad_in, bad_members, blank, faults_of, is_bad, is_name_taken, is_role_taken, mailbox_of, new_mailbox, property, refusal}
 use Rattle.mailbox_set.specs.Rounds.{after_each, after_round, in_rounds, after_creates, stands, taken_out}
-use Rattle.mailbox_set.specs.Promises.{PutsNew}
-use Rattle.mailbox_set.specs.Arguments.{account_in, bad_argument, creates_in, text_at}
-use Rattle.mailbox_set.specs.Plans.{Ground, Plan, invalid, too_large, state_mismatch, planned, beginning, is_other_state, outcome_of_arguments, outcome_of_members, plan_after, set_outcome}
-use Rattle.mailbox_set.specs.declared.faults.Faults.{Faults}
+use Rattle.mailbox_set.specs.Plans.{PutsNew, HasNewState, Plan, invalid, too_large, state_mismatch, planned, beginning, is_other_state, outcome_of_arguments, outcome_of_members, plan_after, set_outcome}
+use Rattle.method_args.specs.declared.TheConstants.{MAX_OBJECTS_PER_CALL}
+use Rattle.mailbox_set.specs.Arguments.{account_in, creates_in, if_in_state, invalid_argument}
+use Rattle.mail_counts.specs.CountsFlag.{AreCountsFlagsRight, ChangesOnlyCounts, IsCountsFlagRight}
+use Rattle.mail_counts.specs.Plans.{Ground, present_state}
+use Rattle.mailbox_set.specs.declared.checks.Faults.{Faults}
 use Rattle.mailbox_set.proofs.Naming.{texts_tested, no_role_taken}
 
 abbrev Pairs : Type 0
@@ -304,20 +308,46 @@ Tidy-creates s xs tidy = by_rounds Tidied tidy_create (length xs) s xs tidy
 
 -- ---- a plan
 
--- what the edits of a plan are promised to be
-pub record Promised (c : Content) (es : List Edit) : Type 0 where
-  pub fits : AreNumbered c → AllFit c es
-  pub tidy : IsTidy c → IsTidy (after_edits c es)
-  pub puts : AllByRecursion PutsNew es
+-- a new mailbox is put without the flag, and rightly so
+nothing_changed : (o : Option Mailbox) (m : Mailbox) → is_some o ≡ false → ChangesOnlyCounts o m → ⊥
+nothing_changed None m none change = change
+nothing_changed (Some old) m none change = false≢true (sym none)
 
-promised_creates : (c : Content) (made : List Created) (xs : List Create) → Promised c (after_creates (beginning c made) xs).edits
-promised_creates c made xs =
+flag_right : (c : Content) (e : Edit) → Fits c e → PutsNew e → IsCountsFlagRight c e
+flag_right c (PutMailbox item was counts) fit puts = (
+  λ set. absurd (false≢true (sym puts.1 ∙ set)),
+  λ change. absurd (nothing_changed (mailbox_at c item.number) item (sym fit.0 ∙ puts.0) change),
+)
+flag_right c (DropMailbox n) fit puts = absurd puts
+flag_right c (PutEmail item was) fit puts = absurd puts
+flag_right c (DropEmail n thread) fit puts = absurd puts
+flag_right c (PutThread item was) fit puts = absurd puts
+flag_right c (DropThread n) fit puts = absurd puts
+
+flags_right : (es : List Edit) (c : Content) → AllFit c es → AllByRecursion PutsNew es → AreCountsFlagsRight c es
+flags_right [] c fit puts = tt
+flags_right (e ∷ es) c fit puts = (flag_right c e fit.0 puts.0, flags_right es (after_edit c e) fit.1 puts.1)
+
+-- what a plan is promised to be
+pub record Promised (g : Ground) (p : Plan) : Type 0 where
+  pub fits : AreNumbered g.content → AllFit g.content p.edits
+  pub tidy : IsTidy g.content → IsTidy (after_edits g.content p.edits)
+  pub puts : AllByRecursion PutsNew p.edits
+  pub new_state : HasNewState g p.reply p.edits
+  pub flags : AreNumbered g.content → AreCountsFlagsRight g.content p.edits
+
+promised_creates : (g : Ground) (account : List ℕ) (made : List Created) (xs : List Create) → Promised g (plan_after g account (after_creates (beginning g.content made) xs))
+promised_creates g account made xs =
+    let c = g.content in
     let first : Leading c (beginning c made) = record { content = refl; puts = tt } in
     let f = Leading-creates c (beginning c made) xs first in
+    let fit = λ (numbered : AreNumbered c). (Fitting-creates c (beginning c made) xs (record { leads = first; fits = tt; numbered = numbered })).fits in
     record {
-      fits = λ numbered. (Fitting-creates c (beginning c made) xs (record { leads = first; fits = tt; numbered = numbered })).fits;
+      fits = fit;
       tidy = λ tidy. subst IsTidy f.content (Tidy-creates (beginning c made) xs tidy);
       puts = f.puts;
+      new_state = refl;
+      flags = λ numbered. flags_right (after_creates (beginning c made) xs).edits c (fit numbered) f.puts;
     }
 
 planned_same : (p q : Plan) → planned p ≡ planned q → p ≡ q
@@ -332,23 +362,23 @@ not_mismatch p e = cc
 not_invalid : (k : List ℕ) (p : Plan) → invalid k ≢ planned p
 not_invalid k p e = cc
 
-promised_at : (c : Content) (a b : Bool) (p q : Plan) → Promised c p.edits → (if a then too_large else (if b then state_mismatch else planned p)) ≡ planned q → Promised c q.edits
-promised_at c true b p q h e = absurd (not_large q e)
-promised_at c false true p q h e = absurd (not_mismatch q e)
-promised_at c false false p q h e = subst (λ (r : Plan). Promised c r.edits) (planned_same p q e) h
+promised_at : (g : Ground) (a b : Bool) (p q : Plan) → Promised g p → (if a then too_large else (if b then state_mismatch else planned p)) ≡ planned q → Promised g q
+promised_at g true b p q h e = absurd (not_large q e)
+promised_at g false true p q h e = absurd (not_mismatch q e)
+promised_at g false false p q h e = subst (Promised g) (planned_same p q e) h
 
-promised_arguments : (g : Ground) (made : List Created) (ms : Pairs) (o : Option (List ℕ)) (q : Plan) → outcome_of_arguments g made ms o ≡ planned q → Promised g.content q.edits
+promised_arguments : (g : Ground) (made : List Created) (ms : Pairs) (o : Option (List ℕ)) (q : Plan) → outcome_of_arguments g made ms o ≡ planned q → Promised g q
 promised_arguments g made ms (Some k) q e = absurd (not_invalid k q e)
 promised_arguments g made ms None q e =
     let xs = creates_in ms in
-    promised_at g.content (nat_lt 500 (length xs)) (is_other_state g.state (text_at (codes "ifInState") ms)) (plan_after g (account_in ms) (after_creates (beginning g.content made) xs)) q
-    (promised_creates g.content made xs) e
+    promised_at g (nat_lt MAX_OBJECTS_PER_CALL (length xs)) (is_other_state (present_state OfMailbox g) (if_in_state ms)) (plan_after g (account_in ms) (after_creates (beginning g.content made) xs)) q
+    (promised_creates g (account_in ms) made xs) e
 
-promised_members : (g : Ground) (made : List Created) (o : Option Pairs) (q : Plan) → outcome_of_members g made o ≡ planned q → Promised g.content q.edits
+promised_members : (g : Ground) (made : List Created) (o : Option Pairs) (q : Plan) → outcome_of_members g made o ≡ planned q → Promised g q
 promised_members g made None q e = absurd (not_invalid [] q e)
-promised_members g made (Some ms) q e = promised_arguments g made ms (bad_argument ms) q e
+promised_members g made (Some ms) q e = promised_arguments g made ms (invalid_argument ms) q e
 
-pub promised : (g : Ground) (args : Tree) (made : List Created) (q : Plan) → set_outcome g args made ≡ planned q → Promised g.content q.edits
+pub promised : (g : Ground) (args : Tree) (made : List Created) (q : Plan) → set_outcome g args made ≡ planned q → Promised g q
 promised g args made q e = promised_members g made (as_object args) q e
 
 -- what holds of each value, and of each error

@@ -2,12 +2,10 @@
 use Rattle.std.proofs.Common.{◌≡◌, ℕ, zero, suc, ◌+◌, ◌<◌, ◌≤◌, Bool, true, false, List, [], ◌∷◌, ◌++◌, map, length, get_or, take, drop, Option, Some, None, is_some, option_map, refl, sym, ap, ◌∙◌, arith, append_assoc, add-one, length-append, length-take, length-drop}
 use Rattle.std.specs.List.{remove}
 use Rattle.std.proofs.lemmas.List.{drop_more, drop_all, take_more, map-append}
-use Rattle.mailbox_set.specs.Known.{IsKnown}
+use Rattle.mailbox_set.specs.Views.{IsKnown, create_of, IsFirst}
 use Rattle.mailbox_set.specs.Creates.{Create, Course, after_create}
-use Rattle.mailbox_set.specs.Drafts.{create_of}
 use Rattle.mailbox_set.specs.Rounds.{stands, taken_out, after_each, after_round, in_rounds}
-use Rattle.mailbox_set.specs.Firsts.{IsFirst}
-use Rattle.mailbox_set.specs.declared.draft.Draft.{Draft}
+use Rattle.mailbox_set.specs.declared.arguments.Draft.{Draft}
 
 -- something is known at a creation id exactly where something was made under it
 pub known_some : (o : Option (List ℕ)) (k : Option (Option ℕ)) → IsKnown o k → is_some k ≡ is_some o

@@ -5,7 +5,7 @@ use Rattle.jm_json.specs.Tree.{trees_of, fields_of}
 use Rattle.jm_json.specs.Json.{tree_of, member_of}
 use Rattle.jm_json.specs.declared.tree.Json.{Json}
 use Rattle.jm_json.specs.declared.tree.Member.{Member}
-use Rattle.mailbox_set.specs.Same.{is_same, are_same_trees, are_same_fields}
+use Rattle.mailbox_set.specs.Equality.{is_same, are_same_trees, are_same_fields}
 
 abbrev pub trees_tested : List Json → List Json → Bool
 trees_tested xs ys = are_same_trees (trees_of (map tree_of xs)) (trees_of (map tree_of ys))

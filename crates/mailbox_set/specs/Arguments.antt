@@ -1,71 +1,35 @@
--- The arguments of a set of mailboxes (RFC 8620, 5.3; RFC 8621, 2.5). Other arguments count for nothing.
-use Rattle.std.specs.Prelude.{ℕ, List, length, ◌==◌, [], Bool, true, false, Option, Some, None, is_some, unwrap_or, option_map, option_and_then, if◌then◌else◌, codes}
-use Rattle.std.specs.List.{list_all, filter_map}
-use Rattle.jm_json.specs.Tree.{Tree, null, boolean, text, list, object}
-use Rattle.jm_json.specs.Find.{find, as_text, as_object, list_of, pairs_of}
+-- The arguments of a Mailbox/set, and its creates (RFC 8620, 5.3; RFC 8621, 2.5).
+use Rattle.std.specs.Prelude.{ℕ, List, [], ◌∷◌, Option, unwrap_or, option_map, codes}
+use Rattle.std.specs.List.{filter_map}
+use Rattle.jm_json.specs.Tree.{Tree}
+use Rattle.jm_json.specs.Find.{as_object}
+use Rattle.method_args.specs.Arguments.{Form, find_invalid, object_in, text_in}
+use Rattle.method_args.specs.declared.form.Presence.TheVariants.{Required, Optional, Nullable}
+use Rattle.method_args.specs.declared.form.Shape.TheVariants.{String, Flag, Objects, EmptyList, EmptyObject}
 use Rattle.mailbox_set.specs.Creates.{Create}
 
--- the value is a text; an argument that must be given
-abbrev pub is_text : Option Tree → Bool
-is_text t = is_some (option_and_then as_text t)
+-- The arguments in byte order, in which they are checked. Until updates and destroys are built, there may be none.
+abbrev pub forms : List Form
+forms =
+    record { name = codes "accountId"; presence = Required; shape = String }
+    ∷ record { name = codes "create"; presence = Nullable; shape = Objects }
+    ∷ record { name = codes "destroy"; presence = Nullable; shape = EmptyList }
+    ∷ record { name = codes "ifInState"; presence = Nullable; shape = String }
+    ∷ record { name = codes "onDestroyRemoveEmails"; presence = Optional; shape = Flag }
+    ∷ record { name = codes "update"; presence = Nullable; shape = EmptyObject }
+    ∷ []
 
--- nothing, null or a text
-abbrev pub is_text_or_null : Option Tree → Bool
-is_text_or_null None = true
-is_text_or_null (Some null) = true
-is_text_or_null (Some (text s)) = true
-is_text_or_null _ = false
+-- the first argument in byte order that is missing or does not have its form
+abbrev pub invalid_argument : List (List ℕ × Tree) → Option (List ℕ)
+invalid_argument ms = find_invalid forms ms
 
--- nothing or a truth value
-abbrev pub is_truth_if_given : Option Tree → Bool
-is_truth_if_given None = true
-is_truth_if_given (Some (boolean b)) = true
-is_truth_if_given _ = false
-
--- nothing, null or an object of objects
-abbrev pub is_object_of_objects : Option Tree → Bool
-is_object_of_objects None = true
-is_object_of_objects (Some null) = true
-is_object_of_objects (Some (object fs)) = list_all (λ m. is_some (as_object m.1)) (pairs_of fs)
-is_object_of_objects _ = false
-
--- nothing, null or an empty list: what is to be destroyed, as long as destroying isn't built
-abbrev pub is_no_list : Option Tree → Bool
-is_no_list None = true
-is_no_list (Some null) = true
-is_no_list (Some (list ts)) = length (list_of ts) == 0
-is_no_list _ = false
-
--- nothing, null or an empty object: what is to be updated, as long as updating isn't built
-abbrev pub is_no_object : Option Tree → Bool
-is_no_object None = true
-is_no_object (Some null) = true
-is_no_object (Some (object fs)) = length (pairs_of fs) == 0
-is_no_object _ = false
-
--- the first argument in byte order that is missing or has a wrong form
-abbrev pub bad_argument : List (List ℕ × Tree) → Option (List ℕ)
-bad_argument ms =
-    if is_text (find (codes "accountId") ms) then
-    (if is_object_of_objects (find (codes "create") ms) then
-    (if is_no_list (find (codes "destroy") ms) then
-    (if is_text_or_null (find (codes "ifInState") ms) then
-    (if is_truth_if_given (find (codes "onDestroyRemoveEmails") ms) then
-    (if is_no_object (find (codes "update") ms) then None
-    else Some (codes "update"))
-    else Some (codes "onDestroyRemoveEmails"))
-    else Some (codes "ifInState"))
-    else Some (codes "destroy"))
-    else Some (codes "create"))
-    else Some (codes "accountId")
-
--- the text of an argument, where it is one
-abbrev pub text_at : List ℕ → List (List ℕ × Tree) → Option (List ℕ)
-text_at k ms = option_and_then as_text (find k ms)
-
--- the account
+-- the id of the account
 abbrev pub account_in : List (List ℕ × Tree) → List ℕ
-account_in ms = unwrap_or (text_at (codes "accountId") ms) []
+account_in ms = unwrap_or (text_in (codes "accountId") ms) []
+
+-- the state that the client asks for
+abbrev pub if_in_state : List (List ℕ × Tree) → Option (List ℕ)
+if_in_state ms = text_in (codes "ifInState") ms
 
 -- a create of an object's member
 abbrev pub create_in : List ℕ × Tree → Option Create
@@ -73,4 +37,4 @@ create_in m = option_map (λ ms. record { creation = m.0; members = ms }) (as_ob
 
 -- the creates, in byte order of their creation ids
 abbrev pub creates_in : List (List ℕ × Tree) → List Create
-creates_in ms = filter_map create_in (unwrap_or (option_and_then as_object (find (codes "create") ms)) [])
+creates_in ms = filter_map create_in (unwrap_or (object_in (codes "create") ms) [])

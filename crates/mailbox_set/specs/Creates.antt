@@ -14,9 +14,9 @@ use Rattle.mail_records.specs.declared.edits.Edit.TheVariants.{PutMailbox}
 use Rattle.mail_records.specs.declared.records.Mailbox.{Mailbox}
 use Rattle.mail_counts.specs.Tidy.{is_sibling, same_role}
 use Rattle.mail_counts.specs.Views.{mailbox_id, mailbox_members}
-use Rattle.mailbox_set.specs.Same.{is_same}
-use Rattle.mailbox_set.specs.Asked.{Asked, asked}
-use Rattle.mailbox_set.specs.declared.faults.Faults.{Faults}
+use Rattle.mailbox_set.specs.Equality.{is_same}
+use Rattle.mailbox_set.specs.Properties.{Asked, asked}
+use Rattle.mailbox_set.specs.declared.checks.Faults.{Faults}
 
 -- a create: its creation id, and the members of its object
 pub record Create : Type 0 where

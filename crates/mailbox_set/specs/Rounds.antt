@@ -3,7 +3,7 @@ use Rattle.std.specs.Prelude.{ℕ, zero, suc, List, [], ◌∷◌, length, Bool,
 use Rattle.jm_json.specs.Tree.{Tree}
 use Rattle.jm_json.specs.Find.{find, as_text}
 use Rattle.jm_json.specs.declared.invocation.Created.{Created}
-use Rattle.mailbox_set.specs.Asked.{reference, last_made}
+use Rattle.mailbox_set.specs.Properties.{reference, last_made}
 use Rattle.mailbox_set.specs.Creates.{Create, Course, after_create}
 
 -- the creation id that the parentId of a create refers to

@@ -1,43 +1,47 @@
-// Which properties of a create are bad, beside the creates before it.
-ghost use Rattle.std.specs.Prelude.{◌≡◌, ◌<◌, ◌^◌, false, map, filter, is_some, option_map, unwrap_or, codes, IfOk};
+// Which properties of a create are invalid, after the creates before it (RFC 8621, section 2.5).
+ghost use Rattle.std.specs.Prelude.{IfOk, codes, false, filter, is_some, map, option_map, unwrap_or, ◌<◌, ◌^◌, ◌≡◌};
 ghost use Rattle.std.specs.List.{list_any};
-ghost use Rattle.jm_json.specs.Json.{tree_of, member_of};
+ghost use Rattle.jm_json.specs.Json.{member_of, tree_of};
 ghost use Rattle.jm_json.specs.Order.{KeysRise};
 ghost use Rattle.jm_json.specs.Tree.{text as text_tree};
 ghost use Rattle.mail_records.specs.Contents.{mailbox_at};
 ghost use Rattle.mail_counts.specs.Tidy.{is_sibling};
 ghost use Rattle.mail_counts.specs.Views.{mailbox_members};
-ghost use Rattle.mailbox_set.specs.Asked.{asked, asked_parent, identifier, parent_in};
-ghost use Rattle.mailbox_set.specs.Beyond.{has_role};
+ghost use Rattle.mailbox_set.specs.Properties.{asked, asked_parent, identifier, parent_in};
+ghost use Rattle.mailbox_set.specs.Views.{has_role, Follows, MeansIfAny, asked_of};
 ghost use Rattle.mailbox_set.specs.Creates.{Course, bad_members, blank, differs, faults_of, is_bad, is_name_taken, is_role_taken, property};
-ghost use Rattle.mailbox_set.specs.Follows.{Follows};
-ghost use Rattle.mailbox_set.specs.Known.{MeansIfAny};
-ghost use Rattle.mailbox_set.specs.Wants.{asked_of};
 
-use crate::asked::{asked_name, asked_role, asked_sort_order, asked_subscribed};
-use crate::beyond::{is_name_beyond, is_role_beyond};
-use crate::faults::Faults;
-use crate::known::{known_at, mailbox_number, reference};
+use crate::creation_ids::{find_id, read_mailbox_number, read_reference};
+use crate::equality::is_same;
+use crate::names::{has_text, is_name_beyond, is_role_beyond};
 use crate::planner::Planner;
-use crate::same::is_same;
-use crate::taken::has;
-use crate::wanted::Asked;
+use crate::properties::{Asked, read_name, read_role, read_sort_order, read_subscribed};
 use jm_base::{Kind, NoMemory, Text};
 use jm_json::{Json, Member, Members};
 use mail_counts::mailbox_view;
 use mail_records::Mailbox;
 use std::alloc::Global;
 
+/// Which of the properties that a client may set are bad: a value isn't good by itself, or breaks a rule.
+#[derive(Clone, Copy, Debug, PartialEq, Eq)]
+pub struct Faults {
+    pub name: bool,
+    pub parent: bool,
+    pub role: bool,
+    pub sort_order: bool,
+    pub subscribed: bool,
+}
+
 // The number of the mailbox that a text names: by its identifier, or by a reference to one that was made.
-fn number_meant<'a>(planner: &Planner<'a>, text: &'a Text) -> Option<u64>
+fn find_number<'a>(planner: &Planner<'a>, text: &'a Text) -> Option<u64>
     ensures { (s : Course) → Follows planner.now s → MeansIfAny (identifier s.made text.now) result }
 {
-    match reference(text.as_bytes()) {
-        Some(creation) => match known_at(&planner.known, creation) {
+    match read_reference(text.as_bytes()) {
+        Some(creation) => match find_id(&planner.known, creation) {
             Some(number) => number,
             None => None,
         },
-        None => mailbox_number(text.as_bytes()),
+        None => read_mailbox_number(text.as_bytes()),
     }
 }
 
@@ -49,11 +53,11 @@ fn is_there(planner: &Planner, number: u64) -> bool
         || (planner.content.next(Kind::Mailbox) <= number && number < planner.next)
 }
 
-fn parent_named<'a>(planner: &Planner<'a>, text: &'a Text) -> Option<Option<u64>>
+fn find_parent<'a>(planner: &Planner<'a>, text: &'a Text) -> Option<Option<u64>>
     requires { planner.now.next < 2 ^ 53 }
     ensures { (s : Course) → Follows planner.now s → result ≡ parent_in s.content s.made (Some (text_tree text.now)) }
 {
-    match number_meant(planner, text) {
+    match find_number(planner, text) {
         Some(number) => if is_there(planner, number) {
             Some(Some(number))
         } else {
@@ -63,46 +67,46 @@ fn parent_named<'a>(planner: &Planner<'a>, text: &'a Text) -> Option<Option<u64>
     }
 }
 
-fn parent_of<'a>(planner: &Planner<'a>, tree: &'a Json) -> Option<Option<u64>>
+fn parse_parent<'a>(planner: &Planner<'a>, tree: &'a Json) -> Option<Option<u64>>
     requires { planner.now.next < 2 ^ 53 }
     ensures { (s : Course) → Follows planner.now s → result ≡ parent_in s.content s.made (Some (tree_of tree.now)) }
 {
     match tree {
         Json::Null => Some(None),
-        Json::Text(text) => parent_named(planner, text),
+        Json::Text(text) => find_parent(planner, text),
         Json::Bool(_) | Json::Int(_) | Json::List(_) | Json::Object(_) => None,
     }
 }
 
-fn asked_parent<'a>(planner: &Planner<'a>, members: &'a Members) -> Option<Option<u64>>
+fn read_parent<'a>(planner: &Planner<'a>, members: &'a Members) -> Option<Option<u64>>
     requires { planner.now.next < 2 ^ 53 }
     ensures { (s : Course) → Follows planner.now s → result ≡ asked_parent s.content s.made members.now }
 {
     match members.get("parentId") {
-        Some(tree) => parent_of(planner, tree),
+        Some(tree) => parse_parent(planner, tree),
         None => Some(None),
     }
 }
 
 /// What a create asks for.
-pub fn asked<'a>(planner: &Planner<'a>, members: &'a Members) -> Asked<'a>
+pub fn read_properties<'a>(planner: &Planner<'a>, members: &'a Members) -> Asked<'a>
     requires { planner.now.next < 2 ^ 53 }
     ensures { (s : Course) → Follows planner.now s → asked_of result ≡ asked s.content s.made members.now }
 {
     Asked {
-        name: asked_name(members),
-        parent: asked_parent(planner, members),
-        role: asked_role(members),
-        sort_order: asked_sort_order(members),
-        subscribed: asked_subscribed(members),
+        name: read_name(members),
+        parent: read_parent(planner, members),
+        role: read_role(members),
+        sort_order: read_sort_order(members),
+        subscribed: read_subscribed(members),
     }
 }
 
 // Whether some mailbox has this parent and name.
-fn is_name_used<'a>(planner: &Planner<'a>, parent: Option<u64>, name: &'a str) -> bool
+fn has_sibling_named<'a>(planner: &Planner<'a>, parent: Option<u64>, name: &'a str) -> bool
     ensures { (s : Course) → Follows planner.now s → result ≡ list_any (is_sibling parent name.now) s.content.mailboxes }
 {
-    if has(&planner.names, parent, name) {
+    if has_text(&planner.names, parent, name) {
         return true;
     }
     is_name_beyond(planner.beyond, planner.next, parent, name)
@@ -113,7 +117,7 @@ fn is_name_taken<'a>(planner: &Planner<'a>, asked: &Asked<'a>) -> bool
 {
     match asked.parent {
         Some(parent) => match asked.name {
-            Some(name) => is_name_used(planner, parent, name.as_str()),
+            Some(name) => has_sibling_named(planner, parent, name.as_str()),
             None => false,
         },
         None => false,
@@ -121,10 +125,10 @@ fn is_name_taken<'a>(planner: &Planner<'a>, asked: &Asked<'a>) -> bool
 }
 
 // Whether some mailbox has this role.
-fn is_role_held<'a>(planner: &Planner<'a>, role: &'a str) -> bool
+fn has_mailbox_with_role<'a>(planner: &Planner<'a>, role: &'a str) -> bool
     ensures { (s : Course) → Follows planner.now s → result ≡ list_any (has_role role.now) s.content.mailboxes }
 {
-    if has(&planner.roles, None, role) {
+    if has_text(&planner.roles, None, role) {
         return true;
     }
     is_role_beyond(planner.beyond, planner.next, role)
@@ -134,7 +138,7 @@ fn is_role_used<'a>(planner: &Planner<'a>, role: Option<&'a Text>) -> bool
     ensures { (s : Course) → Follows planner.now s → result ≡ is_role_taken s.content (option_map (λ t. t.now) role.entry) }
 {
     match role {
-        Some(role) => is_role_held(planner, role.as_str()),
+        Some(role) => has_mailbox_with_role(planner, role.as_str()),
         None => false,
     }
 }
@@ -158,7 +162,7 @@ fn is_role_bad<'a>(planner: &Planner<'a>, asked: &Asked<'a>) -> bool
 }
 
 /// Which of the properties that a client may set are bad.
-pub fn faults_of<'a>(planner: &Planner<'a>, asked: &Asked<'a>) -> Faults
+pub fn check_properties<'a>(planner: &Planner<'a>, asked: &Asked<'a>) -> Faults
     ensures { (s : Course) → Follows planner.now s → result ≡ faults_of s.content (asked_of asked.now) }
 {
     Faults {
@@ -192,7 +196,7 @@ fn is_bad(faults: &Faults, given: &Members, member: &Member) -> bool
     }
 }
 
-fn bad_among(
+fn collect_invalid(
     alloc: Global,
     faults: &Faults,
     given: &Members,
@@ -211,7 +215,7 @@ fn bad_among(
 }
 
 /// The bad properties of a create, in byte order, each with null in the place of its value.
-pub fn bad_members(
+pub fn find_invalid_members(
     alloc: Global,
     faults: &Faults,
     given: &Members,
@@ -219,7 +223,7 @@ pub fn bad_members(
 ) -> Result<Members, NoMemory>
     ensures { IfOk result (λ ms. ms ≡ bad_members faults.now given.now sent.now) }
 {
-    let mut bad = bad_among(alloc, faults, given, sent.as_slice())?;
+    let mut bad = collect_invalid(alloc, faults, given, sent.as_slice())?;
     if sent.get("name").is_none() {
         bad.set(alloc, "name", Json::Null)?;
     }
@@ -227,7 +231,7 @@ pub fn bad_members(
 }
 
 /// What a new mailbox of this number has where a client asks for nothing.
-pub fn given_members(alloc: Global, number: u64) -> Result<Members, NoMemory>
+pub fn build_default_members(alloc: Global, number: u64) -> Result<Members, NoMemory>
     ensures { IfOk result (λ ms. ms ≡ mailbox_members false (blank number)) }
 {
     let name = Text::from_str(alloc, "")?;

@@ -2,23 +2,17 @@
 #![tactic(auto)]
 
 mod arguments;
-mod asked;
-mod beginning;
-mod beyond;
 mod checks;
-mod draft;
-mod faults;
-mod known;
-mod making;
+mod create;
+mod creation_ids;
+mod equality;
+mod names;
 mod plan;
 mod planner;
-mod reply;
+mod properties;
+mod response;
 mod rounds;
-mod same;
-mod taken;
-mod telling;
 #[cfg(test)]
 mod tests;
-mod wanted;
 
 pub use plan::plan_mailbox_set;

@@ -1,45 +1,41 @@
-// The plan of a set of mailboxes (RFC 8620, section 5.3; RFC 8621, section 2.5).
-ghost use Rattle.std.specs.Prelude.{◌≡◌, ◌+◌, ◌<◌, ◌≤◌, ◌^◌, codes, map, length, IfOk, IfErr, MatchResult};
+// The plan of a Mailbox/set (RFC 8620, section 5.3; RFC 8621, section 2.5).
+ghost use Rattle.std.specs.Prelude.{IfErr, IfOk, MatchResult, codes, length, map, ◌+◌, ◌<◌, ◌^◌, ◌≡◌, ◌≤◌};
 ghost use Rattle.std.specs.List.{AllByRecursion};
 ghost use Rattle.jm_json.specs.Json.{tree_of};
-ghost use Rattle.mail_records.specs.Contents.{AreNumbered};
+ghost use Rattle.mail_records.specs.Contents.{AreNumbered, Content as Content'};
 ghost use Rattle.mail_records.specs.Edits.{AllFit, after_edits};
+ghost use Rattle.mail_counts.specs.CountsFlag.{AreCountsFlagsRight};
 ghost use Rattle.mail_counts.specs.Tidy.{IsTidy};
 ghost use Rattle.state_log.specs.Logs.{log_end};
-ghost use Rattle.mailbox_set.specs.Arguments.{account_in, bad_argument, creates_in, text_at};
+ghost use Rattle.mailbox_set.specs.Arguments.{account_in, creates_in, if_in_state, invalid_argument};
 ghost use Rattle.mailbox_set.specs.Creates.{Course};
-ghost use Rattle.mailbox_set.specs.Drafts.{create_of};
-ghost use Rattle.mailbox_set.specs.Follows.{Follows};
-ghost use Rattle.mailbox_set.specs.Plans.{ExplainsSet, Ground, beginning, ground_of, is_other_state, outcome_of_arguments, outcome_of_creates, plan_after, plan_of, planned, set_outcome};
-ghost use Rattle.mailbox_set.specs.Promises.{PutsNew};
+ghost use Rattle.mailbox_set.specs.Views.{create_of, Follows};
+ghost use Rattle.mailbox_set.specs.Plans.{ExplainsSet, HasNewState, beginning, ground_of, is_other_state, outcome_of_arguments, outcome_of_creates, plan_after, plan_of, planned, set_outcome, PutsNew};
 ghost use Rattle.mailbox_set.specs.Rounds.{after_creates};
 
-use crate::arguments::{account, bad_argument, creates, text_at};
-use crate::beginning::begin;
-use crate::draft::Draft;
-use crate::planner::Planner;
-use crate::reply::{is_other_state, reply, state_after};
+use crate::arguments::{
+    Draft, find_invalid_argument, read_account_id, read_creates, read_if_in_state,
+};
+use crate::planner::{Planner, start_planner};
+use crate::response::{build_response, find_new_state, is_other_state};
 use crate::rounds::do_creates;
 use jm_base::{Kind, NoMemory, Text};
 use jm_json::{Json, Made, Members};
 use mail_counts::{SetFault, SetPlan};
 use mail_records::{Content, Edits};
+use method_args::MAX_OBJECTS_PER_CALL;
 use state_log::Log;
 use std::alloc::Global;
 
-// The objects that a set may name (the bound is our own).
-const MOST_OBJECTS: usize = 500;
-
-// The plan that a planner has come to, where the mailboxes had this state and the history ended there.
-fn planned<'a>(
+// Returns the plan that a planner has come to, over an account with this log.
+fn finish_plan<'a>(
     alloc: Global,
     account: &str,
-    state: u64,
-    last: u64,
+    log: &Log,
     planner: Planner<'a>,
 ) -> Result<SetPlan, NoMemory>
-    requires { last ≤ 2 ^ 52 + 2 ^ 26 }
-    ensures { IfOk result (λ p. (g : Ground) (s : Course) → g.state ≡ state → g.last ≡ last → Follows planner.entry s → plan_of p ≡ plan_after g account.now s) }
+    requires last { log_end log.now ≤ 2 ^ 52 + 2 ^ 26 }
+    ensures { IfOk result (λ p. (c : Content') (s : Course) → Follows planner.entry s → plan_of p ≡ plan_after (ground_of c log.now) account.now s) }
 {
     let Planner {
         content: _,
@@ -53,8 +49,9 @@ fn planned<'a>(
         created,
         refused,
     } = planner;
-    let after = state_after(state, last, edits.as_slice());
-    let reply = reply(alloc, account, state, after, created, refused)?;
+    let before = log.state_of(Kind::Mailbox);
+    let after = find_new_state(log, edits.as_slice());
+    let reply = build_response(alloc, account, before, after, created, refused)?;
     Ok(SetPlan {
         reply,
         edits: Edits::from_vec(edits),
@@ -63,7 +60,7 @@ fn planned<'a>(
 }
 
 // The planner after all creates.
-fn after_all<'a>(
+fn perform_creates<'a>(
     alloc: Global,
     content: &'a Content,
     made: &'a Made,
@@ -72,7 +69,7 @@ fn after_all<'a>(
     requires room { content.now.content.next_mailbox + length drafts.items < 2 ^ 53 }
     ensures { IfOk result (λ p. Follows p (after_creates (beginning content.now.content made.now) (map create_of drafts.entry.items))) }
 {
-    let mut planner = begin(alloc, content, made.as_slice())?;
+    let mut planner = start_planner(alloc, content, made.as_slice())?;
     do_creates(alloc, &mut planner, drafts)?;
     Ok(planner)
 }
@@ -88,19 +85,19 @@ fn plan_creates<'a>(
     requires next { content.now.content.next_mailbox ≤ 2 ^ 52 + 2 ^ 26 }
     requires last { log_end log.now ≤ 2 ^ 52 + 2 ^ 26 }
     ensures { MatchResult result
-        (λ p. outcome_of_creates (ground_of content.now.content log.now) made.now (account_in members.now) (text_at (codes "ifInState") members.now) (creates_in members.now) ≡ planned (plan_of p))
-        (λ e. ExplainsSet e (outcome_of_creates (ground_of content.now.content log.now) made.now (account_in members.now) (text_at (codes "ifInState") members.now) (creates_in members.now))) }
+        (λ p. outcome_of_creates (ground_of content.now.content log.now) made.now (account_in members.now) (if_in_state members.now) (creates_in members.now) ≡ planned (plan_of p))
+        (λ e. ExplainsSet e (outcome_of_creates (ground_of content.now.content log.now) made.now (account_in members.now) (if_in_state members.now) (creates_in members.now))) }
 {
-    let drafts = creates(alloc, members)?;
-    if drafts.len() > MOST_OBJECTS {
+    let drafts = read_creates(alloc, members)?;
+    if drafts.len() > MAX_OBJECTS_PER_CALL {
         return Err(SetFault::TooLarge);
     }
     let state = log.state_of(Kind::Mailbox);
-    if is_other_state(alloc, state, text_at(members, "ifInState"))? {
+    if is_other_state(alloc, state, read_if_in_state(members))? {
         return Err(SetFault::StateMismatch);
     }
-    let planner = after_all(alloc, content, made, drafts)?;
-    Ok(planned(alloc, account(members), state, log.end(), planner)?)
+    let planner = perform_creates(alloc, content, made, drafts)?;
+    Ok(finish_plan(alloc, read_account_id(members), log, planner)?)
 }
 
 fn plan_members<'a>(
@@ -113,10 +110,10 @@ fn plan_members<'a>(
     requires next { content.now.content.next_mailbox ≤ 2 ^ 52 + 2 ^ 26 }
     requires last { log_end log.now ≤ 2 ^ 52 + 2 ^ 26 }
     ensures { MatchResult result
-        (λ p. outcome_of_arguments (ground_of content.now.content log.now) made.now members.now (bad_argument members.now) ≡ planned (plan_of p))
-        (λ e. ExplainsSet e (outcome_of_arguments (ground_of content.now.content log.now) made.now members.now (bad_argument members.now))) }
+        (λ p. outcome_of_arguments (ground_of content.now.content log.now) made.now members.now (invalid_argument members.now) ≡ planned (plan_of p))
+        (λ e. ExplainsSet e (outcome_of_arguments (ground_of content.now.content log.now) made.now members.now (invalid_argument members.now))) }
 {
-    match bad_argument(members) {
+    match find_invalid_argument(members) {
         Some(name) => Err(SetFault::Invalid(Text::from_str(alloc, name)?)),
         None => plan_creates(alloc, content, log, members, made),
     }
@@ -166,6 +163,8 @@ pub fn plan_mailbox_set(
     ensures fits { IfOk result (λ p. AreNumbered content.now.content → AllFit content.now.content p.edits) }
     ensures tidy { IfOk result (λ p. IsTidy content.now.content → IsTidy (after_edits content.now.content p.edits)) }
     ensures puts { IfOk result (λ p. AllByRecursion PutsNew p.edits) }
+    ensures new_state { IfOk result (λ p. HasNewState (ground_of content.now.content log.now) (tree_of p.reply) p.edits) }
+    ensures flags { IfOk result (λ p. AreNumbered content.now.content → AreCountsFlagsRight content.now.content p.edits) }
 {
     plan(alloc, content, log, args, made)
 }

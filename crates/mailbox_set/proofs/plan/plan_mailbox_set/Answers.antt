@@ -6,8 +6,9 @@ use Rattle.mail_records.specs.Edits.{AllFit, after_edits}
 use Rattle.mail_counts.specs.Tidy.{IsTidy}
 use Rattle.mail_counts.specs.declared.plan.SetPlan.{SetPlan}
 use Rattle.mail_counts.specs.declared.plan.SetFault.{SetFault}
-use Rattle.mailbox_set.specs.Plans.{ExplainsSet, Ground, ground_of, plan_of, planned, set_outcome}
-use Rattle.mailbox_set.specs.Promises.{PutsNew}
+use Rattle.mail_counts.specs.CountsFlag.{AreCountsFlagsRight}
+use Rattle.mail_counts.specs.Plans.{Ground}
+use Rattle.mailbox_set.specs.Plans.{ExplainsSet, HasNewState, ground_of, plan_of, planned, set_outcome, PutsNew}
 use Rattle.mailbox_set.proofs.Promising.{promised, if_ok, if_err}
 use Rattle.mailbox_set.proofs.plan.plan_mailbox_set.Goals as goal
 
@@ -23,4 +24,6 @@ returns c =
       fits = if_ok c.plan.result P (λ p. AreNumbered c.args.content.now.content → AllFit c.args.content.now.content p.edits) Q (λ p h. (told p h).fits) c.plan.ensures;
       tidy = if_ok c.plan.result P (λ p. IsTidy c.args.content.now.content → IsTidy (after_edits c.args.content.now.content p.edits)) Q (λ p h. (told p h).tidy) c.plan.ensures;
       puts = if_ok c.plan.result P (λ p. AllByRecursion PutsNew p.edits) Q (λ p h. (told p h).puts) c.plan.ensures;
+      new_state = if_ok c.plan.result P (λ p. HasNewState g (tree_of p.reply) p.edits) Q (λ p h. (told p h).new_state) c.plan.ensures;
+      flags = if_ok c.plan.result P (λ p. AreNumbered c.args.content.now.content → AreCountsFlagsRight c.args.content.now.content p.edits) Q (λ p h. (told p h).flags) c.plan.ensures;
     }

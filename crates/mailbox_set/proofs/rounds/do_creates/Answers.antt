@@ -2,11 +2,9 @@ use Rattle.std.proofs.Common.{◌≡◌, ◌<◌, ℕ, suc, List, Some, None, ma
 use Rattle.std.proofs.lemmas.List.{length-map}
 use Rattle.std.specs.List.{remove}
 use Rattle.mailbox_set.specs.Creates.{Course, after_create}
-use Rattle.mailbox_set.specs.Drafts.{create_of}
-use Rattle.mailbox_set.specs.Firsts.{IsFirst}
-use Rattle.mailbox_set.specs.Follows.{Follows}
+use Rattle.mailbox_set.specs.Views.{create_of, IsFirst, Follows}
 use Rattle.mailbox_set.specs.Rounds.{after_each, in_rounds, stands, taken_out}
-use Rattle.mailbox_set.specs.declared.draft.Draft.{Draft}
+use Rattle.mailbox_set.specs.declared.arguments.Draft.{Draft}
 use Rattle.mailbox_set.proofs.Following.{on_ok}
 use Rattle.mailbox_set.proofs.Rounding.{length_removed, round_by_draft, rounds_end}
 use Rattle.mailbox_set.proofs.rounds.do_creates.Goals as goal
@@ -23,7 +21,7 @@ rounds-preserved c =
     let items : List Draft = c.rounds.rest.items in
     let at : ℕ = c.in-Some.at in
     let room = c.rounds.invariant.room in
-    let next = c.in_ok-create.ensures.next in
+    let next = c.in_ok-perform_create.ensures.next in
     let within : at < length items = subst (λ (ds : List Draft). at < length ds) c.as_slice.ensures.value c.in-Some.ensures.within in
     let fewer : length items ≡ suc (length (remove items at)) = length_removed items at within in
     let same : length c.remove-draft.new.self.items ≡ length (remove items at) = ap length c.remove-draft.ensures.items in
@@ -33,7 +31,7 @@ rounds-preserved c =
           let was = c.rounds.invariant.follows s f in
           let first : IsFirst (stands was.0.made) items (Some at) = subst (λ ds. IsFirst (stands was.0.made) ds (Some at)) c.as_slice.ensures.value (c.in-Some.ensures.first was.0 was.1) in (
             after_create was.0 (create_of c.remove-draft.result),
-            c.in_ok-create.ensures.follows was.0 was.1,
+            c.in_ok-perform_create.ensures.follows was.0 was.1,
             sym (round_by_draft items c.remove-draft.new.self.items at c.remove-draft.result was.0 first c.remove-draft.ensures.value c.remove-draft.ensures.items) ∙ was.2,
           );
     }

@@ -1,7 +1,6 @@
 use Rattle.std.proofs.Common.{◌≡◌, ◌+◌, ◌<◌, ◌^◌, map, length}
 use Rattle.mailbox_set.specs.Creates.{Course}
-use Rattle.mailbox_set.specs.Drafts.{create_of}
-use Rattle.mailbox_set.specs.Follows.{Follows}
+use Rattle.mailbox_set.specs.Views.{create_of, Follows}
 use Rattle.mailbox_set.specs.Rounds.{after_creates, in_rounds}
 use Rattle.mailbox_set.proofs.rounds.do_creates.Given as goal
 

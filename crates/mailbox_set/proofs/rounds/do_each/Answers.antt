@@ -1,7 +1,6 @@
 use Rattle.std.proofs.Common.{refl, sym, ◌∙◌, subst, arith}
 use Rattle.mailbox_set.specs.Creates.{Course, after_create}
-use Rattle.mailbox_set.specs.Drafts.{create_of}
-use Rattle.mailbox_set.specs.Follows.{Follows}
+use Rattle.mailbox_set.specs.Views.{create_of, Follows}
 use Rattle.mailbox_set.proofs.Rounding.{each_step, each_end}
 use Rattle.mailbox_set.proofs.rounds.do_each.Goals as goal
 
@@ -11,13 +10,13 @@ loop-i-init c = record { room = omega arith; follows = λ (s : Course) f. (s, f,
 pub loop-i-preserved : goal.loop-i-preserved
 loop-i-preserved c =
     let room = c.loop-i.invariant.room in
-    let next = c.in_ok-create.ensures.next in
+    let next = c.in_ok-perform_create.ensures.next in
     record {
       room = omega arith;
       follows = λ (s : Course) f.
           let was = c.loop-i.invariant.follows s f in (
             after_create was.0 (create_of c.index-drafts-i.result),
-            c.in_ok-create.ensures.follows was.0 was.1,
+            c.in_ok-perform_create.ensures.follows was.0 was.1,
             sym (each_step was.0 c.args.drafts.now c.loop-i.i c.index-drafts-i.result c.loop-i-test.true c.index-drafts-i.is) ∙ was.2,
           );
     }

@@ -1,0 +1,24 @@
+use Rattle.std.proofs.Common.{◌||◌, sym, ap, ◌∙◌}
+use Rattle.std.specs.List.{list_any}
+use Rattle.mailbox_set.specs.Views.{has_role, is_beyond, Follows}
+use Rattle.mailbox_set.specs.Creates.{Course}
+use Rattle.mailbox_set.proofs.Givens.{any_split}
+use Rattle.mailbox_set.proofs.checks.has_mailbox_with_role.Goals as goal
+
+pub returns-then-has_text : goal.returns-then-has_text
+returns-then-has_text c =
+    λ (s : Course) (f : Follows c.args.planner.now s).
+    let n = c.args.planner.now.next in
+    let test = has_role c.args.role.now in
+    let rows = s.content.mailboxes in
+    sym (any_split n test rows ∙ ap (λ b. b || list_any (is_beyond n test) rows) (sym (f.roles c.args.role.now) ∙ (sym c.has_text.ensures ∙ c.if-has_text.true)))
+
+pub returns : goal.returns
+returns c =
+    λ (s : Course) (f : Follows c.args.planner.now s).
+    let n = c.args.planner.now.next in
+    let test = has_role c.args.role.now in
+    let rows = s.content.mailboxes in
+    c.is_role_beyond.ensures
+    ∙ (sym (f.beyond test)
+    ∙ sym (any_split n test rows ∙ ap (λ b. b || list_any (is_beyond n test) rows) (sym (f.roles c.args.role.now) ∙ (sym c.has_text.ensures ∙ c.if-has_text.false))))
