@@ -3,7 +3,8 @@ use Rattle.std.proofs.Common.{◌≡◌, ℕ, ◌+◌, [], ◌∷◌, codes, len
 use Rattle.mail_records.specs.Histories.{History, Entry, Committed, account_after, grown}
 use Rattle.mail_records.specs.declared.edits.Stamp.{Stamp}
 use Rattle.mail_records.proofs.Prefixes.{account_after-all, account_after-grown_by}
-use Rattle.account_book.specs.Replies.{IsIdle, IsReply, IsReplyTo, IsWithin, commit_of, edit_bytes, refusal}
+use Rattle.record_codec.specs.Sizes.{edit_bytes}
+use Rattle.account_book.specs.Replies.{IsIdle, IsReply, IsReplyTo, IsWithin, commit_of, refusal}
 use Rattle.account_book.specs.declared.asks.Call.{Call}
 use Rattle.account_book.specs.declared.plans.Out.{Out}
 use Rattle.account_book.specs.declared.plans.Plan.{Plan}

@@ -4,21 +4,24 @@ use Rattle.mail_records.specs.Contents.{Content, AreTables, AreNumbered}
 use Rattle.mail_records.specs.Histories.{History, edits_of, end_of}
 use Rattle.mail_records.proofs.Growth.{AreTables-after_edits, AreNumbered-after_edits, NextAtMost-founded}
 use Rattle.state_log.specs.Logs.{Notes}
+use Rattle.record_codec.specs.Sizes.{edit_bytes}
+use Rattle.record_codec.proofs.Lengths.{edit_bytes-least}
 use Rattle.account_book.specs.Accounts.{Stands, IsBounded}
-use Rattle.account_book.specs.Replies.{edit_bytes, edit_limit}
+use Rattle.account_book.specs.declared.limits.TheConstants.{MAX_EDIT_BYTES}
 use Rattle.account_book.specs.declared.entry.Entry.{Entry as KeptEntry}
 
-pub tables_of : (h : History) (content : Content) (log : Notes) (entries : List KeptEntry) (blobs : List (List ℕ)) (bytes : ℕ) → Stands h content log entries blobs bytes → AreTables content
-tables_of h content log entries blobs bytes s = subst AreTables (sym s.content_is) (AreTables-after_edits (edits_of h) h.base s.founded.tables)
+pub tables_of : (h : History) (content : Content) (log : Notes) (entries : List KeptEntry) (blobs : List (List ℕ)) (n bytes : ℕ) → Stands h content log entries blobs n bytes → AreTables content
+tables_of h content log entries blobs n bytes s = subst AreTables (sym s.content_is) (AreTables-after_edits (edits_of h) h.base s.founded.tables)
 
-pub numbered_of : (h : History) (content : Content) (log : Notes) (entries : List KeptEntry) (blobs : List (List ℕ)) (bytes : ℕ) → Stands h content log entries blobs bytes → AreNumbered content
-numbered_of h content log entries blobs bytes s = subst AreNumbered (sym s.content_is) (AreNumbered-after_edits (edits_of h) h.base s.fits s.founded.numbered)
+pub numbered_of : (h : History) (content : Content) (log : Notes) (entries : List KeptEntry) (blobs : List (List ℕ)) (n bytes : ℕ) → Stands h content log entries blobs n bytes → AreNumbered content
+numbered_of h content log entries blobs n bytes s = subst AreNumbered (sym s.content_is) (AreNumbered-after_edits (edits_of h) h.base s.fits s.founded.numbered)
 
-pub IsBounded-within : (h : History) (content : Content) (log : Notes) (entries : List KeptEntry) (blobs : List (List ℕ)) (bytes : ℕ) → Stands h content log entries blobs bytes → edit_bytes (edits_of h) ≤ edit_limit → IsBounded h
-IsBounded-within h content log entries blobs bytes s within =
+pub IsBounded-within : (h : History) (content : Content) (log : Notes) (entries : List KeptEntry) (blobs : List (List ℕ)) (n bytes : ℕ) → Stands h content log entries blobs n bytes → edit_bytes (edits_of h) ≤ MAX_EDIT_BYTES → IsBounded h
+IsBounded-within h content log entries blobs n bytes s within =
     let next = NextAtMost-founded h s.founded s.fits in
-    let low = s.low in
-    let most : end_of h + 1 ≤ 2 ^ 52 + 2 ^ 26 = omega arith in
+    let low = s.founded.low in
+    let few = edit_bytes-least (edits_of h) in
+    let most : end_of h + 1 ≤ 2 ^ 52 + 2 ^ 26 = omega (arith, low, few, within) in
     record {
       end = omega arith;
       numbers = record {

@@ -1,51 +1,74 @@
--- What contracts see of an account, and what holds of each.
-use Rattle.std.specs.Prelude.{◌≡◌, ℕ, ◌<◌, ◌≤◌, ◌+◌, ◌^◌, true, false, if◌then◌else◌, List, [], ◌∷◌, take, drop, length, map}
+-- How an account keeps its history, and what holds of each account.
+use Rattle.std.specs.Prelude.{◌≡◌, ℕ, ◌≤◌, ◌+◌, ◌^◌, true, false, not, if◌then◌else◌, List, [], ◌∷◌, take, drop, filter, length, map, sum}
 use Rattle.mail_records.specs.Contents.{Content, NextAtMost}
 use Rattle.mail_records.specs.Edits.{AllFit}
-use Rattle.mail_records.specs.Histories.{History, Entry, Committed, Refused, IsFounded, edits_of, content_of, blobs_of, end_of}
+use Rattle.mail_records.specs.Histories.{History, Entry, Committed, Refused, IsFounded, is_refused, edits_of, content_of, blobs_of, end_of}
 use Rattle.state_log.specs.Logs.{Notes, IsLogOf}
-use Rattle.account_book.specs.Replies.{edit_bytes}
+use Rattle.record_codec.specs.Sizes.{edit_bytes}
 use Rattle.account_book.specs.declared.entry.Entry.{Entry as KeptEntry}
-
--- a history, and for how many edits, entries and blobs room stands ready
-pub record Ledger : Type 0 where
-  pub history : History
-  pub spare : ℕ
-  pub entry_spare : ℕ
-  pub blob_spare : ℕ
 
 -- the entry that is kept so, with these blobs
 abbrev pub entry_with : KeptEntry → List (List ℕ) → Entry
-entry_with e blobs = if e.refused then Refused e.stamp else Committed (record { blobs = blobs; edits = e.edits; stamp = e.stamp })
+entry_with e blobs =
+    if e.refused
+    then Refused e.stamp
+    else Committed (record { blobs = blobs; edits = e.edits; stamp = e.stamp })
 
 -- the entries that are kept so: each takes its blobs from the front of the list
 abbrev pub entries_with : List KeptEntry → List (List ℕ) → List Entry
 entries_with [] blobs = []
-entries_with (e ∷ es) blobs = entry_with e (take e.blobs blobs) ∷ entries_with es (drop e.blobs blobs)
+entries_with (e ∷ es) blobs =
+    entry_with e (take e.blobs blobs) ∷ entries_with es (drop e.blobs blobs)
 
--- what is kept of an entry beside its blobs
+-- what is kept of an entry besides its blobs
 abbrev pub kept_entry : Entry → KeptEntry
-kept_entry (Committed commit) = record { stamp = commit.stamp; edits = commit.edits; blobs = length commit.blobs; refused = false }
+kept_entry (Committed commit) = record {
+  stamp = commit.stamp;
+  edits = commit.edits;
+  blobs = length commit.blobs;
+  refused = false;
+}
 kept_entry (Refused stamp) = record { stamp = stamp; edits = []; blobs = 0; refused = true }
 
--- the history that a log, a base, entries and their blobs are kept of
-abbrev pub history_of : Notes → Content → List KeptEntry → List (List ℕ) → History
-history_of log base entries blobs =
-    record { floor = log.floor; floors = log.floors; base = base; base_blobs = []; entries = entries_with entries blobs }
+-- The history that is kept by a log, a base, entries and blobs: so many of the blobs, from the
+-- first on, are the base's.
+abbrev pub history_of : Notes → Content → ℕ → List KeptEntry → List (List ℕ) → History
+history_of log base base_blobs entries blobs = record {
+  floor = log.floor;
+  floors = log.floors;
+  base = base;
+  base_blobs = take base_blobs blobs;
+  entries = entries_with entries (drop base_blobs blobs);
+}
 
--- Content, log, entries, blobs and the count of the bytes of edits are those of the history. Its base is in order, its edits
--- fit one after the other, and its floor leaves room for positions below 2^53.
-pub record Stands (h : History) (content : Content) (log : Notes) (entries : List KeptEntry) (blobs : List (List ℕ)) (bytes : ℕ) : Type 0 where
+-- Content, log, entries, blobs, the count of the base's blobs and the count of the bytes of edits
+-- are those of the history. The history is founded, and its edits fit one after the other.
+pub record Stands (h : History) (content : Content) (log : Notes) (entries : List KeptEntry) (blobs : List (List ℕ)) (base_blobs bytes : ℕ) : Type 0 where
   pub founded : IsFounded h
-  pub low : h.floor < 2 ^ 52
   pub fits : AllFit h.base (edits_of h)
   pub content_is : content ≡ content_of h
   pub log_is : IsLogOf h log
   pub entries_are : entries ≡ map kept_entry h.entries
   pub blobs_are : blobs ≡ blobs_of h
+  pub base_blobs_are : base_blobs ≡ length h.base_blobs
   pub bytes_are : bytes ≡ edit_bytes (edits_of h)
+
+-- The greatest last position of an account, and the greatest next number of a kind of record: a
+-- floor is at most 2^52, and the limit of edits keeps fewer than 2^26 edits after it. It is below
+-- 2^53, so that a JSON number holds it (RFC 8620, 1.3).
+abbrev pub max_position : ℕ
+max_position = 2 ^ 52 + 2 ^ 26
 
 -- the last position, and the next number of each kind, that a call on an account may meet
 pub record IsBounded (h : History) : Type 0 where
-  pub end : end_of h ≤ 2 ^ 52 + 2 ^ 26
-  pub numbers : NextAtMost (2 ^ 52 + 2 ^ 26) (content_of h)
+  pub end : end_of h ≤ max_position
+  pub numbers : NextAtMost max_position (content_of h)
+
+-- the history without its refusals
+abbrev pub without_refusals : History → History
+without_refusals h = record h { entries = filter (λ (e : Entry). not (is_refused e)) h.entries }
+
+-- an account's blobs are at most 1,000,000 and have at most 134,217,728 bytes
+pub record AreBlobsFew (blobs : List (List ℕ)) : Type 0 where
+  pub count : length blobs ≤ 1000000
+  pub bytes : sum (map length blobs) ≤ 134217728

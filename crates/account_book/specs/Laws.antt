@@ -1,34 +1,42 @@
--- What the rules of an account promise.
-use Rattle.std.specs.Prelude.{◌≡◌, ℕ, ◌≤◌, List, [], filter, length, map, not, sum, ⊤}
-use Rattle.mail_records.specs.Histories.{History, Entry, is_refused}
-use Rattle.account_book.specs.Replies.{IsIdle}
-use Rattle.account_book.specs.declared.asks.Ask.{Ask}
-use Rattle.account_book.specs.declared.asks.Ask.TheVariants.{Method, Upload, Blob, Fetch, Place, States}
-use Rattle.account_book.specs.declared.plans.Plan.{Plan}
+-- Lemmas that rules cite: refusals have no part in what is valid, and a floor that moves up leaves fewer bytes of edits.
+use Rattle.std.proofs.Common.{◌≡◌, ℕ, ◌+◌, ◌≤◌, List, [], ◌∷◌, ◌++◌, filter, not, length, refl, ap, ◌∙◌, arith}
+use Rattle.mail_records.specs.Edits.{after_edits}
+use Rattle.mail_records.specs.Histories.{History, Entry, IsFounded, account_after, Committed, Refused, is_refused, edits_in, blobs_in, edits_of, blobs_of, content_of, end_of}
+use Rattle.mail_records.specs.Moved.{moved_up}
+use Rattle.mail_records.proofs.Moved.{edits_of-moved_up}
+use Rattle.record_codec.specs.Sizes.{edit_bytes}
+use Rattle.record_codec.proofs.Lengths.{edit_bytes-append}
+use Rattle.account_book.specs.Accounts.{without_refusals}
 
--- the last second of the year 9999, in seconds since the beginning of 1970
-abbrev pub last_moment : ℕ
-last_moment = 253402300799
+edits_in-commits : (es : List Entry) → edits_in (filter (λ (e : Entry). not (is_refused e)) es) ≡ edits_in es
+edits_in-commits [] = refl
+edits_in-commits (Committed commit ∷ es) = ap (λ edits. commit.edits ++ edits) (edits_in-commits es)
+edits_in-commits (Refused stamp ∷ es) = edits_in-commits es
 
--- the history without its refusals
-abbrev pub without_refusals : History → History
-without_refusals h = record h { entries = filter (λ (e : Entry). not (is_refused e)) h.entries }
+blobs_in-commits : (es : List Entry) → blobs_in (filter (λ (e : Entry). not (is_refused e)) es) ≡ blobs_in es
+blobs_in-commits [] = refl
+blobs_in-commits (Committed commit ∷ es) = ap (λ blobs. commit.blobs ++ blobs) (blobs_in-commits es)
+blobs_in-commits (Refused stamp ∷ es) = blobs_in-commits es
 
--- What may be planned for what is asked: what only reads changes nothing, and an upload brings a blob and no edits.
-abbrev pub IsPlanFor : Ask → Plan → Type 0
-IsPlanFor (Upload bytes) p = p.edits ≡ []
-IsPlanFor (Blob name) p = IsIdle p
-IsPlanFor (Fetch call) p = IsIdle p
-IsPlanFor States p = IsIdle p
-IsPlanFor (Method call) p = ⊤
-IsPlanFor (Place call carried) p = ⊤
+pub edits_of-without_refusals : (h : History) → edits_of (without_refusals h) ≡ edits_of h
+edits_of-without_refusals h = edits_in-commits h.entries
 
--- an account's blobs are at most 1,000,000 and have at most 134,217,728 bytes
-pub record AreBlobsFew (blobs : List (List ℕ)) : Type 0 where
-  pub count : length blobs ≤ 1000000
-  pub bytes : sum (map length blobs) ≤ 134217728
+pub blobs_of-without_refusals : (h : History) → blobs_of (without_refusals h) ≡ blobs_of h
+blobs_of-without_refusals h = ap (λ blobs. h.base_blobs ++ blobs) (blobs_in-commits h.entries)
 
--- what contracts see of a book
-pub record Parts (R : Type 0) : Type 0 where
-  pub rules : R
-  pub history : History
+pub content_of-without_refusals : (h : History) → content_of (without_refusals h) ≡ content_of h
+content_of-without_refusals h = ap (after_edits h.base) (edits_of-without_refusals h)
+
+pub end_of-without_refusals : (h : History) → end_of (without_refusals h) ≡ end_of h
+end_of-without_refusals h = ap (λ edits. h.floor + length edits) (edits_of-without_refusals h)
+
+pub IsFounded-without_refusals : (h : History) → IsFounded h → IsFounded (without_refusals h)
+IsFounded-without_refusals h founded = record { low = founded.low; floors = founded.floors; tables = founded.tables; numbered = founded.numbered; next = founded.next }
+
+pub IsFounded-with_refusals : (h : History) → IsFounded (without_refusals h) → IsFounded h
+IsFounded-with_refusals h founded = record { low = founded.low; floors = founded.floors; tables = founded.tables; numbered = founded.numbered; next = founded.next }
+
+-- the edits after a floor that moved up take at most the bytes of all
+pub edit_bytes-moved_up : (h : History) (c : ℕ) → edit_bytes (edits_of (moved_up h c)) ≤ edit_bytes (edits_of h)
+edit_bytes-moved_up h c =
+    let all = ap edit_bytes (edits_of-moved_up h c) ∙ edit_bytes-append (edits_of (account_after h c)) (edits_of (moved_up h c)) in omega (arith, all)

@@ -1,6 +1,7 @@
+pub mod Views
 pub mod Replies
+pub mod Plans
 pub mod Accounts
 pub mod Laws
-pub mod Refusals
-pub mod Adding
-pub mod Added
+pub mod TestRules
+pub mod TestRulesLaws

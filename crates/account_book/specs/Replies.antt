@@ -1,11 +1,12 @@
 -- What a call on an account is answered, and what it does to the account's history. What a call plans, and how many
 -- bytes edits take where they are kept, are parameters.
-use Rattle.std.specs.Prelude.{◌≡◌, ℕ, ◌+◌, ◌≤◌, List, [], ◌∷◌, ◌⊎◌, codes, length}
+use Rattle.std.specs.Prelude.{◌≡◌, ℕ, ◌+◌, ◌≤◌, List, [], ◌∷◌, ◌⊎◌, codes}
 use Rattle.jm_json.specs.Call.{error_of}
 use Rattle.mail_records.specs.Histories.{History, Committed, edits_of, account_after, grown}
 use Rattle.mail_records.specs.declared.edits.Edit.{Edit}
 use Rattle.mail_records.specs.declared.edits.Commit.{Commit}
 use Rattle.mail_records.specs.declared.edits.Stamp.{Stamp}
+use Rattle.account_book.specs.declared.limits.TheConstants.{MAX_EDIT_BYTES}
 use Rattle.account_book.specs.declared.asks.Ask.{Ask}
 use Rattle.account_book.specs.declared.asks.Ask.TheVariants.{Method, Upload, Blob, Fetch, Place, States}
 use Rattle.account_book.specs.declared.asks.Call.{Call}
@@ -31,17 +32,9 @@ refusal kind States = Failed
 abbrev pub IsIdle : Plan → Type 0
 IsIdle p = (p.blobs ≡ []) × (p.edits ≡ [])
 
--- how many bytes the edits of an account may take: 64 MiB
-abbrev pub edit_limit : ℕ
-edit_limit = 67108864
-
--- until an account's commits are kept elsewhere each edit counts as one byte
-abbrev pub edit_bytes : List Edit → ℕ
-edit_bytes edits = length edits
-
 -- with these edits the account stays within the limit
 abbrev pub IsWithin : (List Edit → ℕ) → History → List Edit → Type 0
-IsWithin bytes h edits = bytes (edits_of h) + bytes edits ≤ edit_limit
+IsWithin bytes h edits = bytes (edits_of h) + bytes edits ≤ MAX_EDIT_BYTES
 
 -- the commit of a plan, under this stamp
 abbrev pub commit_of : Plan → Stamp → Commit

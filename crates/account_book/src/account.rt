@@ -1,54 +1,59 @@
 // An account: what it began with, its entries, and what they make of it.
-ghost use Rattle.std.specs.Prelude.{◌≡◌, ◌↔◌, ◌≤◌, OnOk, IsTrue, length, map};
+ghost use Rattle.std.specs.Prelude.{◌≡◌, ◌+◌, ◌≤◌, OnOk, MatchOption, length, map, ⊤};
 ghost use Rattle.std.specs.List.{AllByRecursion};
 ghost use Rattle.mail_records.specs.Contents.{AreNumbered, AreTables};
 ghost use Rattle.mail_records.specs.Edits.{AllFit, IsSmall};
 ghost use Rattle.mail_records.specs.Histories.{Committed, content_of, edits_of, empty_history, grown};
 ghost use Rattle.state_log.specs.Logs.{IsLogOf};
+ghost use Rattle.record_codec.specs.Sizes.{edit_bytes};
 ghost use Rattle.account_book.specs.Accounts.{IsBounded, kept_entry};
-ghost use Rattle.account_book.specs.Replies.{IsWithin, edit_bytes, edit_limit};
+ghost use Rattle.account_book.specs.Replies.{IsWithin};
 
-use crate::Entry;
 use crate::blobs::push_all_ready;
+use crate::{Entry, MAX_EDIT_BYTES};
 use jm_base::{Bytes, NoMemory};
 use mail_records::{Commit, Content, Edit, Edits, apply_all_ready};
+use record_codec::edit_bytes;
 use state_log::{Log, note_all_ready};
 use std::alloc::Global;
 use std::marker::Model;
 
-// How many bytes the edits of an account may take: 64 MiB.
-const EDIT_LIMIT: u64 = 67_108_864;
-
-/// An account. Contracts see its history, and for how many edits, entries and blobs room stands ready.
+/// An account. Contracts see its history, and for how many edits, entries and blobs memory is
+/// reserved.
 #[derive(Drop)]
 pub struct Account {
     base: Content,
     content: Content,
     log: Log,
     entries: Vec<Entry>,
+    // The base's blobs, and then those of the entries.
     blobs: Vec<Bytes>,
+    // How many of the blobs are the base's.
+    base_blobs: u64,
+    // How many bytes the encoded edits of all entries take.
     edit_bytes: u64,
 }
 
 impl Model for Account {
     ghost use Rattle.std.specs.Prelude.{min, ◌-◌, vec_len, vec_capacity};
-    ghost use Rattle.account_book.specs.Accounts.{Ledger, Stands, history_of};
+    ghost use Rattle.account_book.specs.Accounts.{Stands, history_of};
+    ghost use Rattle.account_book.specs.Views.{Ledger};
 
     ghost Value = { Ledger };
 
     ghost view = { λ a. record {
-      history = history_of a.log a.base.content a.entries.items a.blobs.items;
+      history = history_of a.log a.base.content a.base_blobs a.entries.items a.blobs.items;
       spare = min a.content.spare a.log.spare;
       entry_spare = vec_capacity a.entries - vec_len a.entries;
       blob_spare = vec_capacity a.blobs - vec_len a.blobs;
     } };
 
-    ghost invariant = { λ a. Stands (history_of a.log a.base.content a.entries.items a.blobs.items)
-        a.content.content a.log a.entries.items a.blobs.items a.edit_bytes };
+    ghost invariant = { λ a. Stands (history_of a.log a.base.content a.base_blobs a.entries.items a.blobs.items)
+        a.content.content a.log a.entries.items a.blobs.items a.base_blobs a.edit_bytes };
 }
 
 impl Account {
-    /// An account in which nothing has been yet. It takes no memory.
+    /// Returns an account in which nothing has been yet. It takes no memory.
     pub(crate) fn new(alloc: Global) -> Account
         ensures { result.history ≡ empty_history }
     {
@@ -58,6 +63,7 @@ impl Account {
             log: Log::new(alloc, 0, 0, 0, 0),
             entries: Vec::new(alloc),
             blobs: Vec::new(alloc),
+            base_blobs: 0,
             edit_bytes: 0,
         }
     }
@@ -102,20 +108,27 @@ impl Account {
     // It does nothing: its clause says that where the edits are within the limit, the last position and the next numbers are in
     // bounds, which callers can't see.
     pub(crate) fn bounds(&self)
-        requires { edit_bytes (edits_of self.now.history) ≤ edit_limit }
+        requires { edit_bytes (edits_of self.now.history) ≤ MAX_EDIT_BYTES }
         ensures { IsBounded self.now.history }
     {
         let _log = &self.log;
     }
 
-    // Whether with these edits the account would pass the limit.
-    pub(crate) fn would_pass(&self, edits: &[Edit]) -> bool
-        ensures { IsTrue result ↔ ¬ IsWithin edit_bytes self.now.history edits.now }
+    // Returns how many bytes the encoded edits of all entries and these edits take, or None where the account would pass
+    // its limit with them.
+    pub(crate) fn edit_bytes_with(&self, edits: &[Edit]) -> Option<u64>
+        ensures within { MatchOption result (¬ IsWithin edit_bytes self.now.history edits.now) (λ bytes. IsWithin edit_bytes self.now.history edits.now) }
+        ensures bytes { MatchOption result ⊤ (λ bytes. bytes ≡ edit_bytes (edits_of self.now.history) + edit_bytes edits.now) }
     {
-        self.edit_bytes.saturating_add(edits.len() as u64) > EDIT_LIMIT
+        let bytes = self.edit_bytes.saturating_add(edit_bytes(edits));
+        if bytes > MAX_EDIT_BYTES {
+            return None;
+        }
+        Some(bytes)
     }
 
-    // Makes room for an entry with these edits and so many blobs. Where there is none, all but the room is as before.
+    // Reserves memory for an entry with these edits and so many blobs. Fails if an allocation fails; all but the reserved
+    // memory is then as before.
     pub(crate) fn reserve(&mut self, edits: &[Edit], blobs: usize) -> Result<(), NoMemory>
         ensures same { self.new.history ≡ self.old.history }
         ensures spare { OnOk result (length edits.now ≤ self.new.spare) }
@@ -129,8 +142,9 @@ impl Account {
         Ok(())
     }
 
-    // Enters a commit, for which room stands ready. Its edits are noted, and their copy is applied. It takes no memory.
-    pub(crate) fn commit_ready(&mut self, commit: Commit, copy: Edits)
+    // Enters a commit, for which memory is reserved. Its edits are noted, and their copy is applied. With it the edits take
+    // so many bytes. It takes no memory.
+    pub(crate) fn commit_ready(&mut self, commit: Commit, copy: Edits, bytes: u64)
         requires spare { length commit.edits ≤ self.old.spare }
         requires entry_spare { 1 ≤ self.old.entry_spare }
         requires blob_spare { length commit.blobs ≤ self.old.blob_spare }
@@ -139,6 +153,7 @@ impl Account {
         requires small { AllByRecursion IsSmall commit.edits }
         requires bounded { IsBounded self.old.history }
         requires within { IsWithin edit_bytes self.old.history commit.edits }
+        requires bytes { bytes ≡ edit_bytes (edits_of self.old.history) + edit_bytes commit.edits }
         ensures { self.new.history ≡ grown self.old.history (Committed commit) }
     {
         let Commit {
@@ -149,7 +164,7 @@ impl Account {
         let count = blobs.len() as u64;
         apply_all_ready(&mut self.content, copy);
         note_all_ready(&mut self.log, edits.as_slice());
-        self.edit_bytes += edits.len() as u64;
+        self.edit_bytes = bytes;
         push_all_ready(&mut self.blobs, blobs);
         self.entries.push_reserved(Entry {
             stamp,

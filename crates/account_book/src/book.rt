@@ -1,12 +1,13 @@
 // The book of an account: its rules and its history.
-ghost use Rattle.std.specs.Prelude.{◌≡◌, ◌≤◌, ◌∷◌, [], ℕ, IfOk, OnOk, OnErr, length};
+ghost use Rattle.std.specs.Prelude.{◌≡◌, ◌≤◌, ◌+◌, ◌∷◌, [], ℕ, IfOk, OnOk, OnErr, length};
 ghost use Rattle.std.specs.List.{AllByRecursion};
 ghost use Rattle.mail_records.specs.Edits.{AllFit, IsSmall};
-ghost use Rattle.mail_records.specs.Histories.{Committed, account_after, content_of, empty_history, grown};
+ghost use Rattle.mail_records.specs.Histories.{Committed, account_after, content_of, edits_of, empty_history, grown};
 ghost use Rattle.mail_records.specs.declared.edits.Stamp.{Stamp as TheStamp};
+ghost use Rattle.record_codec.specs.Sizes.{edit_bytes};
 ghost use Rattle.account_book.specs.Accounts.{IsBounded};
-ghost use Rattle.account_book.specs.Laws.{last_moment};
-ghost use Rattle.account_book.specs.Replies.{IsReply, IsWithin, commit_of, edit_bytes};
+ghost use Rattle.account_book.specs.Plans.{last_moment};
+ghost use Rattle.account_book.specs.Replies.{IsReply, IsWithin, commit_of};
 
 use crate::plans::refusal;
 use crate::{Account, Call, Done, Plan, Rules};
@@ -15,8 +16,8 @@ use mail_records::{Commit, Stamp, copy_edits};
 use std::alloc::Global;
 use std::marker::Model;
 
-/// The book of an account, which performs its calls by rules. Contracts see the rules and the account's history. The account
-/// is always whole.
+/// The book of an account, which performs its calls by rules. Contracts see the rules and the
+/// account's history. The account is always valid by the rules.
 #[derive(Drop)]
 pub struct Book<R: Rules> {
     rules: R,
@@ -24,7 +25,7 @@ pub struct Book<R: Rules> {
 }
 
 impl<R: Rules> Model for Book<R> {
-    ghost use Rattle.account_book.specs.Laws.{Parts};
+    ghost use Rattle.account_book.specs.Views.{Parts};
 
     ghost Value = { Parts R };
 
@@ -34,7 +35,7 @@ impl<R: Rules> Model for Book<R> {
 }
 
 impl<R: Rules> Book<R> {
-    /// A book of an account in which nothing has been yet.
+    /// Returns a book of an account in which nothing has been yet.
     pub fn begin(alloc: Global, rules: R) -> Result<Book<R>, NoMemory>
         ensures rules { IfOk result (λ b. b.rules ≡ rules) }
         ensures history { IfOk result (λ b. b.history ≡ empty_history) }
@@ -45,7 +46,7 @@ impl<R: Rules> Book<R> {
         })
     }
 
-    /// Lends the account, which is whole.
+    /// Lends the account, which is valid.
     pub fn account(&self) -> &Account
         ensures history { result.now.history ≡ self.now.history }
         ensures whole { R.is_whole self.now.rules result.now.history }
@@ -83,13 +84,13 @@ impl<R: Rules> Book<R> {
                 after: before,
             });
         }
-        if self.account.would_pass(plan.edits.as_slice()) {
+        let Some(bytes) = self.account.edit_bytes_with(plan.edits.as_slice()) else {
             return Ok(Done {
                 out: refusal(alloc, "serverUnavailable", &call.ask)?,
                 before,
                 after: before,
             });
-        }
+        };
         let Plan { out, blobs, edits } = plan;
         self.enter(
             alloc,
@@ -98,6 +99,7 @@ impl<R: Rules> Book<R> {
                 edits,
                 stamp,
             },
+            bytes,
         )?;
         Ok(Done {
             out,
@@ -118,12 +120,13 @@ impl<R: Rules> Book<R> {
         self.rules.plan(alloc, self.account(), call, moment)
     }
 
-    // Enters a commit. All memory that it needs is taken first.
-    fn enter(&mut self, alloc: Global, commit: Commit) -> Result<(), NoMemory>
+    // Enters a commit, with which the edits take so many bytes. All memory that it needs is taken first.
+    fn enter(&mut self, alloc: Global, commit: Commit, bytes: u64) -> Result<(), NoMemory>
         requires fits { AllFit (content_of self.old.history) commit.edits }
         requires small { AllByRecursion IsSmall commit.edits }
         requires bounded { IsBounded self.old.history }
         requires within { IsWithin edit_bytes self.old.history commit.edits }
+        requires bytes { bytes ≡ edit_bytes (edits_of self.old.history) + edit_bytes commit.edits }
         requires keeps { R.is_whole self.old.rules (grown self.old.history (Committed commit)) }
         ensures rules { self.new.rules ≡ self.old.rules }
         ensures ok { OnOk result (self.new.history ≡ grown self.old.history (Committed commit)) }
@@ -132,7 +135,7 @@ impl<R: Rules> Book<R> {
         let copy = copy_edits(alloc, commit.edits.as_slice())?;
         self.account
             .reserve(commit.edits.as_slice(), commit.blobs.len())?;
-        self.account.commit_ready(commit, copy);
+        self.account.commit_ready(commit, copy, bytes);
         Ok(())
     }
 }

@@ -8,6 +8,8 @@ mod asks;
 mod blobs;
 mod book;
 mod entry;
+mod laws;
+mod limits;
 mod plans;
 mod rules;
 #[cfg(test)]
@@ -17,5 +19,7 @@ pub use account::Account;
 pub use asks::{Ask, Call, Carried};
 pub use book::Book;
 pub use entry::Entry;
+pub use laws::{history_outlasts_floor, reply_lasts};
+pub use limits::MAX_EDIT_BYTES;
 pub use plans::{Done, Out, Plan, Point};
 pub use rules::Rules;

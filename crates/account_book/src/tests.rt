@@ -1,24 +1,25 @@
-// Calls on a book whose rules add mailboxes.
+// Calls on a book whose rules add mailboxes, each named as the method is.
 ghost use Rattle.std.specs.Prelude.{◌≡◌, IfOk};
-ghost use Rattle.account_book.specs.Adding.{add, idle};
+ghost use Rattle.account_book.specs.TestRules.{add, idle};
 
 use crate::{Account, Ask, Book, Call, Done, Out, Plan, Rules};
-use jm_base::{Blobs, Kind, NoMemory, Text};
-use jm_json::{Invocation, Json, Made};
+use jm_base::{Blobs, Bytes, Kind, NoMemory, Text};
+use jm_json::{Invocation, Json, Made, write};
 use mail_records::{Edit, Edits, Mailbox, Stamp};
 use std::alloc::Global;
 use std::test::Fail;
 
-// A method of a user who may write adds a mailbox, and is answered with its number. Nothing else changes anything.
+// A method of a user who may write adds a mailbox that has the method's name, and is answered with its number. Nothing else
+// changes anything.
 #[derive(Drop)]
 struct Adding;
 
-fn add(alloc: Global, number: u64) -> Result<Plan, NoMemory>
-    ensures { IfOk result (λ p. p ≡ add number) }
+fn add(alloc: Global, number: u64, name: &Text) -> Result<Plan, NoMemory>
+    ensures { IfOk result (λ p. p ≡ add number name.now) }
 {
     let item = Mailbox {
         number,
-        name: Text::from_str(alloc, "")?,
+        name: name.copy()?,
         parent: None,
         role: None,
         sort_order: 0,
@@ -52,8 +53,8 @@ fn idle(alloc: Global) -> Plan
 }
 
 impl Rules for Adding {
-    ghost use Rattle.account_book.specs.Adding.{adding_plan, IsAdded};
-    ghost use Rattle.account_book.specs.Added.{adding_fits, adding_small, adding_formed, adding_keeps, adding_reads, adding_sound, adding_few, adding_ignores, adding_empty};
+    ghost use Rattle.account_book.specs.TestRules.{adding_plan, IsAdded};
+    ghost use Rattle.account_book.specs.TestRulesLaws.{adding_fits, adding_small, adding_formed, adding_keeps, adding_reads, adding_sound, adding_few, adding_ignores, adding_moves, adding_empty};
 
     ghost plan_of = { λ r h call moment. adding_plan h call };
 
@@ -68,11 +69,11 @@ impl Rules for Adding {
     ) -> Result<Plan, NoMemory> {
         let number = account.content().next(Kind::Mailbox);
         match &call.ask {
-            Ask::Method(_) => {
+            Ask::Method(method) => {
                 if call.read_only {
                     return Ok(idle(alloc));
                 }
-                add(alloc, number)
+                add(alloc, number, &method.name)
             }
             _ => Ok(idle(alloc)),
         }
@@ -90,20 +91,24 @@ impl Rules for Adding {
 
     ghost sound = { λ r h whole. adding_sound h whole };
 
+    ghost founded = { λ r h whole. whole.founded };
+
     ghost limits = { λ r h whole. whole.within };
 
     ghost blobs = { λ r h whole. adding_few h whole };
 
     ghost ignores = { λ r h. adding_ignores h };
 
+    ghost moves = { λ r h c low whole. adding_moves h c low whole };
+
     ghost empty = { λ r. adding_empty };
 }
 
-// A method of a user who may write, or may only read.
-fn call(alloc: Global, read_only: bool) -> Result<Call, NoMemory> {
+// A method of this name, of a user who may write, or may only read.
+fn call(alloc: Global, name: &str, read_only: bool) -> Result<Call, NoMemory> {
     Ok(Call {
         ask: Ask::Method(Invocation {
-            name: Text::from_str(alloc, "Mailbox/set")?,
+            name: Text::from_str(alloc, name)?,
             args: Json::Null,
             id: Text::from_str(alloc, "0")?,
         }),
@@ -125,10 +130,11 @@ fn numbers(done: &Done) -> (u64, u64, u64) {
 fn perform(
     alloc: Global,
     book: &mut Book<Adding>,
+    name: &str,
     read_only: bool,
     serial: u64,
 ) -> Result<(u64, u64, u64), NoMemory> {
-    let call = call(alloc, read_only)?;
+    let call = call(alloc, name, read_only)?;
     let done = book.perform(alloc, &call, Stamp { pass: 5, serial }, 0)?;
     Ok(numbers(&done))
 }
@@ -143,7 +149,7 @@ fn a_change_is_entered_and_what_changes_nothing_is_not(rt: HostRuntime) -> Resul
         (false, (2, 1, 2)),
     ];
     for (read_only, expected) in calls {
-        assert!(rt; perform(alloc, &mut book, read_only, 9)? == expected);
+        assert!(rt; perform(alloc, &mut book, "", read_only, 9)? == expected);
     }
     let account = book.account();
     assert_eq!(rt; account.content().next(Kind::Mailbox), 3);
@@ -156,7 +162,7 @@ fn an_entry_has_the_stamp_of_its_call(rt: HostRuntime) -> Result<(), Fail> {
     let alloc = rt.alloc();
     let mut book = Book::begin(alloc, Adding)?;
     for serial in [3u64, 8] {
-        let _ = perform(alloc, &mut book, false, serial)?;
+        let _ = perform(alloc, &mut book, "", false, serial)?;
     }
     let entries = book.account().entries();
     assert_eq!(rt; entries.len(), 2);
@@ -164,5 +170,64 @@ fn an_entry_has_the_stamp_of_its_call(rt: HostRuntime) -> Result<(), Fail> {
         let stamp = Stamp { pass: 5, serial };
         assert!(rt; entry.stamp == stamp && !entry.refused);
     }
+    Ok(())
+}
+
+// A name of 67,108,802 bytes, 62 less than 64 MiB, and of so many more. Each bit of that number after its first doubles what is
+// there, and a 1 adds one.
+fn long_name(alloc: Global, more: u8) -> Result<String, NoMemory> {
+    let mut name = String::from_str(alloc, "x")?;
+    for bit in 1..26u8 {
+        let half = name.clone()?;
+        name.push_str(half.as_str())?;
+        if bit < 20 || bit == 24 {
+            name.push('x')?;
+        }
+    }
+    for _ in 0..more {
+        name.push('x')?;
+    }
+    Ok(name)
+}
+
+// The edit that puts a mailbox with a name of n bytes and neither parent nor role takes 62 + n bytes: the tag, number, sort
+// order and length of the name 25, none twice 2, the truth values of the mailbox and of the edit 3, the four counts 32.
+#[test]
+fn past_64_mebibytes_of_edits_an_account_is_unavailable(rt: HostRuntime) -> Result<(), Fail> {
+    let alloc = rt.alloc();
+    let mut book = Book::begin(alloc, Adding)?;
+    let rows = [(1u8, (0u64, 0u64, 0u64)), (0, (1, 0, 1)), (0, (0, 1, 1))];
+    for (more, expected) in rows {
+        let name = long_name(alloc, more)?;
+        assert!(rt; perform(alloc, &mut book, name.as_str(), false, 9)? == expected);
+    }
+    Ok(())
+}
+
+// The arguments of the first response, and nothing where there is none.
+fn shown(alloc: Global, out: Out) -> Result<Bytes, NoMemory> {
+    match out {
+        Out::Replies(replied) => match replied.responses.as_slice() {
+            [first, ..] => write(alloc, &first.args),
+            [] => Ok(Bytes::new(alloc)),
+        },
+        _ => Ok(Bytes::new(alloc)),
+    }
+}
+
+// The arguments of the response to a method of this name.
+fn answer(alloc: Global, book: &mut Book<Adding>, name: &str) -> Result<Bytes, NoMemory> {
+    let call = call(alloc, name, false)?;
+    let done = book.perform(alloc, &call, Stamp { pass: 5, serial: 1 }, 0)?;
+    shown(alloc, done.out)
+}
+
+#[test]
+fn a_call_past_the_limit_is_answered_with_server_unavailable(rt: HostRuntime) -> Result<(), Fail> {
+    let alloc = rt.alloc();
+    let mut book = Book::begin(alloc, Adding)?;
+    let name = long_name(alloc, 1)?;
+    let args = answer(alloc, &mut book, name.as_str())?;
+    assert!(rt; args.as_slice() == b"{\"type\":\"serverUnavailable\"}".as_slice());
     Ok(())
 }

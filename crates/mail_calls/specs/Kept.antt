@@ -1,5 +1,5 @@
 -- What each plan keeps: the edits that it makes put new mailboxes, and leave a tidy content.
-use Rattle.std.proofs.Common.{◌≡◌, ℕ, Bool, true, false, List, [], ◌∷◌, codes, bytes_eq, if◌then◌else◌, refl, sym, ap₂, subst}
+use Rattle.std.proofs.Common.{◌≡◌, ℕ, Bool, false, List, [], ◌∷◌, Option, Some, None, refl, sym, ap₂, subst}
 use Rattle.std.specs.List.{AllByRecursion}
 use Rattle.jm_json.specs.Call.{Call as Invocation}
 use Rattle.jm_json.specs.Invoked.{call_of}
@@ -13,15 +13,18 @@ use Rattle.mail_records.specs.declared.edits.Edit.TheVariants.{PutMailbox, DropM
 use Rattle.mail_records.specs.declared.records.Mailbox.{Mailbox}
 use Rattle.mail_counts.specs.Tidy.{IsTidy}
 use Rattle.mail_view.specs.Gets.{Got, invalid, too_large, got, get_in}
-use Rattle.mailbox_set.specs.Plans.{Ground, Outcome, set_outcome}
+use Rattle.mailbox_set.specs.Plans.{Outcome, set_outcome}
 use Rattle.mailbox_set.specs.Plans as sets
-use Rattle.mailbox_set.specs.Promises.{PutsNew}
+use Rattle.mailbox_set.specs.Plans.{PutsNew}
 use Rattle.mailbox_set.proofs.Promising.{promised}
 use Rattle.account_book.specs.declared.asks.Ask.{Ask}
 use Rattle.account_book.specs.declared.asks.Ask.TheVariants.{Method, Upload, Blob, Fetch, Place, States}
 use Rattle.account_book.specs.declared.asks.Call.{Call}
 use Rattle.account_book.specs.declared.plans.Plan.{Plan}
-use Rattle.mail_calls.specs.Plans.{silent, answered, refused, get_plan, set_plan, ground_in, method_plan, ask_plan, call_plan}
+use Rattle.mail_calls.specs.Methods.{method_named}
+use Rattle.mail_calls.specs.Plans.{refused, get_plan, set_plan, ground_in, plan_by, ask_plan, call_plan}
+use Rattle.mail_calls.specs.declared.methods.Method.{Method as MailMethod}
+use Rattle.mail_calls.specs.declared.methods.Method.TheVariants.{MailboxGet, MailboxSet}
 
 -- the edit puts a new mailbox
 abbrev pub IsNew : Edit → Type 0
@@ -63,27 +66,18 @@ set_keeps h call made (sets.planned p) tidy is =
     let all = promised (ground_in h) call.args made p is in
     record { blobs = refl; fits = all.fits tidy.numbered; new = all_map PutsNew IsNew p.edits new_of all.puts; tidy = all.tidy tidy }
 
-by_set : (b : Bool) (h : History) (call : Invocation) (made : List Created) → IsTidy (content_of h)
-    → Keeps (content_of h) (if b then set_plan call (set_outcome (ground_in h) call.args made) else refused call (codes "unknownMethod"))
-by_set true h call made tidy = set_keeps h call made (set_outcome (ground_in h) call.args made) tidy refl
-by_set false h call made tidy = idle_keeps (content_of h) _ tidy refl refl
+by_method : (h : History) (call : Invocation) (made : List Created) (read_only : Bool) (moment : ℕ) (m : Option MailMethod) → IsTidy (content_of h) → Keeps (content_of h) (plan_by h call made read_only moment m)
+by_method h call made read_only moment None tidy = idle_keeps (content_of h) _ tidy refl refl
+by_method h call made read_only moment (Some MailboxGet) tidy = get_keeps (content_of h) call (get_in h call.args read_only) tidy
+by_method h call made read_only moment (Some MailboxSet) tidy = set_keeps h call made (set_outcome (ground_in h) call.args made) tidy refl
 
-by_get : (b : Bool) (h : History) (call : Invocation) (made : List Created) (read_only : Bool) (other : Plan) → IsTidy (content_of h) → Keeps (content_of h) other
-    → Keeps (content_of h) (if b then get_plan call (get_in h call.args read_only) else other)
-by_get true h call made read_only other tidy keep = get_keeps (content_of h) call (get_in h call.args read_only) tidy
-by_get false h call made read_only other tidy keep = keep
+ask_keeps : (h : History) (ask : Ask) (made : List Created) (read_only : Bool) (moment : ℕ) → IsTidy (content_of h) → Keeps (content_of h) (ask_plan h ask made read_only moment)
+ask_keeps h (Method c) made read_only moment tidy = by_method h (call_of c) made read_only moment (method_named (call_of c).name) tidy
+ask_keeps h (Upload bytes) made read_only moment tidy = idle_keeps (content_of h) _ tidy refl refl
+ask_keeps h (Blob name) made read_only moment tidy = idle_keeps (content_of h) _ tidy refl refl
+ask_keeps h (Fetch c) made read_only moment tidy = idle_keeps (content_of h) _ tidy refl refl
+ask_keeps h (Place c carried) made read_only moment tidy = idle_keeps (content_of h) _ tidy refl refl
+ask_keeps h States made read_only moment tidy = idle_keeps (content_of h) _ tidy refl refl
 
-method_keeps : (h : History) (call : Invocation) (made : List Created) (read_only : Bool) → IsTidy (content_of h) → Keeps (content_of h) (method_plan h call made read_only)
-method_keeps h call made read_only tidy =
-    by_get (bytes_eq call.name (codes "Mailbox/get")) h call made read_only _ tidy (by_set (bytes_eq call.name (codes "Mailbox/set")) h call made tidy)
-
-ask_keeps : (h : History) (ask : Ask) (made : List Created) (read_only : Bool) → IsTidy (content_of h) → Keeps (content_of h) (ask_plan h ask made read_only)
-ask_keeps h (Method c) made read_only tidy = method_keeps h (call_of c) made read_only tidy
-ask_keeps h (Upload bytes) made read_only tidy = idle_keeps (content_of h) _ tidy refl refl
-ask_keeps h (Blob name) made read_only tidy = idle_keeps (content_of h) _ tidy refl refl
-ask_keeps h (Fetch c) made read_only tidy = idle_keeps (content_of h) _ tidy refl refl
-ask_keeps h (Place c carried) made read_only tidy = idle_keeps (content_of h) _ tidy refl refl
-ask_keeps h States made read_only tidy = idle_keeps (content_of h) _ tidy refl refl
-
-pub call_keeps : (h : History) (call : Call) → IsTidy (content_of h) → Keeps (content_of h) (call_plan h call)
-call_keeps h call tidy = ask_keeps h call.ask call.made call.read_only tidy
+pub call_keeps : (h : History) (call : Call) (moment : ℕ) → IsTidy (content_of h) → Keeps (content_of h) (call_plan h call moment)
+call_keeps h call moment tidy = ask_keeps h call.ask call.made call.read_only moment tidy

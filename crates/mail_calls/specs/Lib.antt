@@ -1,3 +1,4 @@
+pub mod Methods
 pub mod Whole
 pub mod Plans
 pub mod Kept

@@ -1,20 +1,22 @@
 -- What the methods of mail plan (RFC 8621). Mailbox/get and creating by Mailbox/set are built.
-use Rattle.std.specs.Prelude.{ℕ, List, [], ◌∷◌, Bool, codes, bytes_eq, if◌then◌else◌}
-use Rattle.jm_base.specs.declared.identifiers.Kind.TheVariants.{Mailbox as OfMailbox}
+use Rattle.std.specs.Prelude.{ℕ, List, [], ◌∷◌, Bool, codes, Option, Some, None}
 use Rattle.jm_json.specs.Call.{Call as Invocation, error_of}
 use Rattle.jm_json.specs.Invoked.{call_of}
 use Rattle.jm_json.specs.Tree.{Tree}
 use Rattle.jm_json.specs.declared.invocation.Created.{Created}
-use Rattle.mail_records.specs.Histories.{History, content_of, end_of}
-use Rattle.mail_records.specs.States.{state_of}
+use Rattle.mail_records.specs.Histories.{History}
 use Rattle.mail_view.specs.Gets.{Got, invalid, too_large, got, get_in}
-use Rattle.mailbox_set.specs.Plans.{Ground, Outcome, set_outcome}
+use Rattle.mail_counts.specs.Plans.{Ground, ground_of_history}
+use Rattle.mailbox_set.specs.Plans.{Outcome, set_outcome}
 use Rattle.mailbox_set.specs.Plans as sets
 use Rattle.account_book.specs.declared.asks.Ask.{Ask}
 use Rattle.account_book.specs.declared.asks.Ask.TheVariants.{Method, Upload, Blob, Fetch, Place, States}
 use Rattle.account_book.specs.declared.asks.Call.{Call}
 use Rattle.account_book.specs.declared.plans.Out.TheVariants.{Replies}
 use Rattle.account_book.specs.declared.plans.Plan.{Plan}
+use Rattle.mail_calls.specs.Methods.{method_named}
+use Rattle.mail_calls.specs.declared.methods.Method.{Method as MailMethod}
+use Rattle.mail_calls.specs.declared.methods.Method.TheVariants.{MailboxGet, MailboxSet}
 
 -- nothing is answered, and nothing changed
 abbrev pub silent : Plan
@@ -47,25 +49,30 @@ set_plan c (sets.planned p) = record { out = Replies (record { responses = respo
 
 -- what a set of mailboxes is planned on
 abbrev pub ground_in : History → Ground
-ground_in h = record { content = content_of h; state = state_of h OfMailbox; last = end_of h }
+ground_in h = ground_of_history h
 
--- the plan of a method, over an account with this history, with what the request has made so far, of a user to whom the
--- account is read-only or not
-abbrev pub method_plan : History → Invocation → List Created → Bool → Plan
-method_plan h c made read_only =
-    if bytes_eq c.name (codes "Mailbox/get") then get_plan c (get_in h c.args read_only)
-    else (if bytes_eq c.name (codes "Mailbox/set") then set_plan c (set_outcome (ground_in h) c.args made)
-    else refused c (codes "unknownMethod"))
+-- The plan of a method of mail, or of a name that is none's: over an account with this history, with
+-- what the request has made so far, of a user to whom the account is read-only or not, at a moment.
+abbrev pub plan_by : History → Invocation → List Created → Bool → ℕ → Option MailMethod → Plan
+plan_by h c made read_only moment None = refused c (codes "unknownMethod")
+plan_by h c made read_only moment (Some MailboxGet) = get_plan c (get_in h c.args read_only)
+plan_by h c made read_only moment (Some MailboxSet) =
+    set_plan c (set_outcome (ground_in h) c.args made)
+
+-- the plan of a method, by its name
+abbrev pub method_plan : History → Invocation → List Created → Bool → ℕ → Plan
+method_plan h c made read_only moment =
+    plan_by h c made read_only moment (method_named c.name)
 
 -- of what is asked, methods alone are built
-abbrev pub ask_plan : History → Ask → List Created → Bool → Plan
-ask_plan h (Method c) made read_only = method_plan h (call_of c) made read_only
-ask_plan h (Upload bytes) made read_only = silent
-ask_plan h (Blob name) made read_only = silent
-ask_plan h (Fetch c) made read_only = silent
-ask_plan h (Place c carried) made read_only = silent
-ask_plan h States made read_only = silent
+abbrev pub ask_plan : History → Ask → List Created → Bool → ℕ → Plan
+ask_plan h (Method c) made read_only moment = method_plan h (call_of c) made read_only moment
+ask_plan h (Upload bytes) made read_only moment = silent
+ask_plan h (Blob name) made read_only moment = silent
+ask_plan h (Fetch c) made read_only moment = silent
+ask_plan h (Place c carried) made read_only moment = silent
+ask_plan h States made read_only moment = silent
 
--- what a call plans
-abbrev pub call_plan : History → Call → Plan
-call_plan h call = ask_plan h call.ask call.made call.read_only
+-- what a call plans at a moment, in seconds since the beginning of 1970
+abbrev pub call_plan : History → Call → ℕ → Plan
+call_plan h call moment = ask_plan h call.ask call.made call.read_only moment

@@ -1,15 +1,15 @@
--- When an account is whole: its history is sound, its records are tidy, its emails are those of its blobs, and it is within
--- the limits. What is kept of a message beside its bytes, and how many bytes edits take, are parameters.
-use Rattle.std.specs.Prelude.{◌≡◌, ℕ, ◌+◌, ◌-◌, ◌≤◌, ◌^◌, List, [], length, slice_index_or}
+-- When an account is valid: its history is founded and sound, its records are tidy, its emails are those of its blobs, and it
+-- is within the limits. What is kept of a message besides its bytes is a parameter.
+use Rattle.std.specs.Prelude.{◌≡◌, ℕ, ◌+◌, ◌-◌, ◌≤◌, List, [], length, slice_index_or}
 use Rattle.std.specs.List.{AllByRecursion}
 use Rattle.mail_records.specs.Contents.{Content, NextAtMost}
-use Rattle.mail_records.specs.Histories.{History, IsSound, edits_of, content_of, blobs_of, end_of}
-use Rattle.mail_records.specs.declared.edits.Edit.{Edit}
+use Rattle.mail_records.specs.Histories.{History, IsFounded, IsSound, edits_of, content_of, blobs_of, end_of}
 use Rattle.mail_records.specs.declared.records.Email.{Email}
 use Rattle.mail_records.specs.declared.records.Summary.{Summary}
 use Rattle.mail_counts.specs.Tidy.{IsTidy}
-use Rattle.account_book.specs.Laws.{AreBlobsFew}
-use Rattle.account_book.specs.Replies.{edit_limit}
+use Rattle.record_codec.specs.Sizes.{edit_bytes}
+use Rattle.account_book.specs.Accounts.{AreBlobsFew}
+use Rattle.account_book.specs.declared.limits.TheConstants.{MAX_EDIT_BYTES}
 
 -- the bytes are the email's message: it has their size and their summary
 pub record IsMessageOf (summary : List ℕ → Summary) (e : Email) (bytes : List ℕ) : Type 0 where
@@ -22,12 +22,12 @@ pub record HasMessage (summary : List ℕ → Summary) (blobs : List (List ℕ))
   pub there : e.blob ≤ length blobs
   pub message : IsMessageOf summary e (slice_index_or blobs (e.blob - 1) [])
 
--- an account with this history is whole
-pub record IsWhole (summary : List ℕ → Summary) (bytes : List Edit → ℕ) (h : History) : Type 0 where
+-- an account with this history is valid
+pub record IsWhole (summary : List ℕ → Summary) (h : History) : Type 0 where
+  pub founded : IsFounded h
   pub sound : IsSound h
   pub tidy : IsTidy (content_of h)
   pub messages : AllByRecursion (HasMessage summary (blobs_of h)) (content_of h).emails
   pub blobs : AreBlobsFew (blobs_of h)
-  pub limit : bytes (edits_of h) ≤ edit_limit
-  pub low : h.floor ≤ 2 ^ 52
+  pub limit : edit_bytes (edits_of h) ≤ MAX_EDIT_BYTES
   pub next : NextAtMost (end_of h + 1) (content_of h)

@@ -1,4 +1,4 @@
-// The plans of methods, each with its one response.
+// Plans of methods, each with its one response.
 ghost use Rattle.std.specs.Prelude.{◌≡◌, ◌∷◌, [], IfOk};
 ghost use Rattle.jm_json.specs.Invoked.{call_of};
 ghost use Rattle.jm_json.specs.Json.{tree_of};
@@ -7,6 +7,7 @@ ghost use Rattle.mailbox_set.specs.Plans.{set_outcome};
 ghost use Rattle.mail_calls.specs.Plans.{answered, get_plan, ground_in, method_plan, refused, response_to, set_plan, silent};
 ghost use Rattle.account_book.specs.Accounts.{IsBounded};
 
+use crate::methods::{Method, read_method};
 use account_book::{Account, Out, Plan};
 use get_calls::{GetFault, get};
 use jm_base::{Blobs, Kind, NoMemory};
@@ -16,8 +17,8 @@ use mail_records::Edits;
 use mailbox_set::plan_mailbox_set;
 use std::alloc::Global;
 
-/// Answers nothing, and changes nothing.
-pub(crate) fn silent(alloc: Global) -> Plan
+/// Returns the plan that answers nothing and changes nothing.
+pub(crate) fn plan_nothing(alloc: Global) -> Plan
     ensures { result ≡ silent }
 {
     Plan {
@@ -30,7 +31,7 @@ pub(crate) fn silent(alloc: Global) -> Plan
     }
 }
 
-// One response, with what was made and changed.
+// Returns the plan that answers one response, with what was created and the edits.
 fn plan_with(
     alloc: Global,
     response: Invocation,
@@ -48,16 +49,16 @@ fn plan_with(
     })
 }
 
-// An error of this type.
-fn refused(alloc: Global, call: &Invocation, kind: &str) -> Result<Plan, NoMemory>
+// Returns the plan that answers an error of this type (RFC 8620, section 3.6.2).
+fn plan_error(alloc: Global, call: &Invocation, kind: &str) -> Result<Plan, NoMemory>
     ensures { IfOk result (λ p. p ≡ refused (call_of call.now) kind.now) }
 {
     let response = Invocation::error(alloc, kind, call.id.copy()?)?;
     plan_with(alloc, response, Made::new(alloc), Edits::new(alloc))
 }
 
-// The response to a call, with these arguments.
-fn response_to(call: &Invocation, args: Json) -> Result<Invocation, NoMemory>
+// Returns the response to a call, with these arguments (RFC 8620, section 3.4).
+fn make_response(call: &Invocation, args: Json) -> Result<Invocation, NoMemory>
     ensures { IfOk result (λ c. call_of c ≡ response_to (call_of call.now) (tree_of args)) }
 {
     Ok(Invocation {
@@ -67,14 +68,15 @@ fn response_to(call: &Invocation, args: Json) -> Result<Invocation, NoMemory>
     })
 }
 
-fn answered(alloc: Global, call: &Invocation, args: Json) -> Result<Plan, NoMemory>
+// Returns the plan that answers a call with these arguments, and changes nothing.
+fn plan_response(alloc: Global, call: &Invocation, args: Json) -> Result<Plan, NoMemory>
     ensures { IfOk result (λ p. p ≡ answered (response_to (call_of call.now) (tree_of args))) }
 {
-    let response = response_to(call, args)?;
+    let response = make_response(call, args)?;
     plan_with(alloc, response, Made::new(alloc), Edits::new(alloc))
 }
 
-// The plan of a Mailbox/get.
+// Returns the plan of a Mailbox/get (RFC 8621, section 2.1).
 fn plan_get(
     alloc: Global,
     account: &Account,
@@ -84,14 +86,14 @@ fn plan_get(
     ensures { IfOk result (λ p. p ≡ get_plan (call_of call.now) (get_in account.now.history (tree_of call.now.args) read_only)) }
 {
     match get(alloc, Kind::Mailbox, account, &call.args, read_only) {
-        Ok(args) => answered(alloc, call, args),
-        Err(GetFault::Invalid(_)) => refused(alloc, call, "invalidArguments"),
-        Err(GetFault::TooLarge) => refused(alloc, call, "requestTooLarge"),
+        Ok(args) => plan_response(alloc, call, args),
+        Err(GetFault::Invalid(_)) => plan_error(alloc, call, "invalidArguments"),
+        Err(GetFault::TooLarge) => plan_error(alloc, call, "requestTooLarge"),
         Err(GetFault::NoMemory) => Err(NoMemory),
     }
 }
 
-// The plan of a Mailbox/set.
+// Returns the plan of a Mailbox/set (RFC 8621, section 2.5).
 fn plan_set(
     alloc: Global,
     account: &Account,
@@ -103,33 +105,33 @@ fn plan_set(
 {
     match plan_mailbox_set(alloc, account.content(), account.log(), &call.args, made) {
         Ok(plan) => {
-            let response = response_to(call, plan.reply)?;
+            let response = make_response(call, plan.reply)?;
             plan_with(alloc, response, plan.made, plan.edits)
         }
-        Err(SetFault::Invalid(_)) => refused(alloc, call, "invalidArguments"),
-        Err(SetFault::TooLarge) => refused(alloc, call, "requestTooLarge"),
-        Err(SetFault::StateMismatch) => refused(alloc, call, "stateMismatch"),
+        Err(SetFault::Invalid(_)) => plan_error(alloc, call, "invalidArguments"),
+        Err(SetFault::TooLarge) => plan_error(alloc, call, "requestTooLarge"),
+        Err(SetFault::StateMismatch) => plan_error(alloc, call, "stateMismatch"),
         Err(SetFault::NoMemory) => Err(NoMemory),
     }
 }
 
-/// The plan of a method over an account, with what the request has made so far, of a user to whom the account is read-only or
-/// not.
+/// Returns the plan of a method over an account, with what the request has made so far, of a user to
+/// whom the account is read-only or not, at a moment in seconds since the beginning of 1970. A name
+/// that no method has is answered with `unknownMethod` (RFC 8620, section 3.6.2).
 pub(crate) fn plan_method(
     alloc: Global,
     account: &Account,
     call: &Invocation,
     made: &Made,
     read_only: bool,
+    _moment: u64,
 ) -> Result<Plan, NoMemory>
     requires { IsBounded account.now.history }
-    ensures { IfOk result (λ p. p ≡ method_plan account.now.history (call_of call.now) made.now read_only) }
+    ensures { IfOk result (λ p. p ≡ method_plan account.now.history (call_of call.now) made.now read_only _moment) }
 {
-    if call.name.as_str() == "Mailbox/get" {
-        return plan_get(alloc, account, call, read_only);
+    match read_method(call.name.as_str()) {
+        None => plan_error(alloc, call, "unknownMethod"),
+        Some(Method::MailboxGet) => plan_get(alloc, account, call, read_only),
+        Some(Method::MailboxSet) => plan_set(alloc, account, call, made),
     }
-    if call.name.as_str() == "Mailbox/set" {
-        return plan_set(alloc, account, call, made);
-    }
-    refused(alloc, call, "unknownMethod")
 }

@@ -1,53 +1,54 @@
 // The rules of mail accounts.
 ghost use Rattle.std.specs.Prelude.{◌≡◌};
 
-use crate::plans::{plan_method, silent};
+use crate::plans::{plan_method, plan_nothing};
 use account_book::{Account, Ask, Call, Plan, Rules};
 use jm_base::NoMemory;
 use std::alloc::Global;
 
-/// The rules of mail accounts. What a call plans stands in `specs/Plans.antt`, and when an account is whole in
+/// The rules of mail accounts. What a call plans stands in `specs/Plans.antt`, and when an account is valid in
 /// `specs/Whole.antt`.
 #[derive(Drop)]
 pub struct MailRules;
 
 impl Rules for MailRules {
     ghost use Rattle.mail_summary.specs.Summaries.{summary};
-    ghost use Rattle.account_book.specs.Replies.{edit_bytes};
     ghost use Rattle.mail_calls.specs.Plans.{call_plan};
     ghost use Rattle.mail_calls.specs.Whole.{IsWhole};
-    ghost use Rattle.mail_calls.specs.Promises.{plan_fits, plan_small, plan_formed, plan_keeps, plan_reads, whole_sound, whole_limits, whole_blobs, whole_ignores, whole_empty};
+    ghost use Rattle.mail_calls.specs.Promises.{plan_fits, plan_small, plan_formed, plan_keeps, plan_reads, whole_founded, whole_sound, whole_limits, whole_blobs, whole_ignores, whole_moves, whole_empty};
 
-    ghost plan_of = { λ r h call moment. call_plan h call };
+    ghost plan_of = { λ r h call moment. call_plan h call moment };
 
-    ghost is_whole = { λ r h. IsWhole summary edit_bytes h };
+    ghost is_whole = { λ r h. IsWhole summary h };
 
     fn plan(
         &self,
         alloc: Global,
         account: &Account,
         call: &Call,
-        _moment: u64,
+        moment: u64,
     ) -> Result<Plan, NoMemory> {
         match &call.ask {
             Ask::Method(method) => {
-                plan_method(alloc, account, method, &call.made, call.read_only)
+                plan_method(alloc, account, method, &call.made, call.read_only, moment)
             }
             Ask::Upload(_) | Ask::Blob(_) | Ask::Fetch(_) | Ask::Place(_, _) | Ask::States => Ok(
-                silent(alloc),
+                plan_nothing(alloc),
             ),
         }
     }
 
-    ghost fits = { λ r h call moment low whole. plan_fits h call whole };
+    ghost fits = { λ r h call moment low whole. plan_fits h call moment whole };
 
-    ghost small = { λ r h call moment low whole. plan_small h call whole };
+    ghost small = { λ r h call moment low whole. plan_small h call moment whole };
 
-    ghost formed = { λ r h call moment stamp low whole. plan_formed h call stamp whole };
+    ghost formed = { λ r h call moment stamp low whole. plan_formed h call moment stamp whole };
 
-    ghost keeps = { λ r h call moment stamp low whole within. plan_keeps h call stamp whole within };
+    ghost keeps = { λ r h call moment stamp low whole within. plan_keeps h call moment stamp whole within };
 
-    ghost reads = { λ r h call moment low whole. plan_reads h call };
+    ghost reads = { λ r h call moment low whole. plan_reads h call moment };
+
+    ghost founded = { λ r h whole. whole_founded h whole };
 
     ghost sound = { λ r h whole. whole_sound h whole };
 
@@ -56,6 +57,8 @@ impl Rules for MailRules {
     ghost blobs = { λ r h whole. whole_blobs h whole };
 
     ghost ignores = { λ r h. whole_ignores h };
+
+    ghost moves = { λ r h c low whole. whole_moves h c low whole };
 
     ghost empty = { λ r. whole_empty };
 }

@@ -20,7 +20,7 @@ returns-in-Err-Invalid c =
     let outcome = set_outcome (ground_of c.content.result.now.content c.log.result.now) (tree_of c.args.call.now.args) c.args.made.now in
     let same = same_outcome h c.content.result.now.content c.log.result.now (tree_of c.args.call.now.args) c.args.made.now c.content.ensures.content c.log.ensures in
     let is = subst (λ (e : SetFault). ExplainsSet e outcome) c.in-Err-Invalid.field-0-is c.in-Err-Invalid.ensures.fault in
-    refused_set c.refused.result (call_of c.args.call.now) (set_outcome (ground_in h) (tree_of c.args.call.now.args) c.args.made.now) _ (codes "invalidArguments") (sym same ∙ is) refl c.refused.ensures
+    refused_set c.plan_error.result (call_of c.args.call.now) (set_outcome (ground_in h) (tree_of c.args.call.now.args) c.args.made.now) _ (codes "invalidArguments") (sym same ∙ is) refl c.plan_error.ensures
 
 pub returns-in-Err-TooLarge : goal.returns-in-Err-TooLarge
 returns-in-Err-TooLarge c =
@@ -28,8 +28,8 @@ returns-in-Err-TooLarge c =
     let outcome = set_outcome (ground_of c.content.result.now.content c.log.result.now) (tree_of c.args.call.now.args) c.args.made.now in
     let same = same_outcome h c.content.result.now.content c.log.result.now (tree_of c.args.call.now.args) c.args.made.now c.content.ensures.content c.log.ensures in
     let is = subst (λ (e : SetFault). ExplainsSet e outcome) c.in-Err-TooLarge.field-0-is c.in-Err-TooLarge.ensures.fault in
-    refused_set c.refused-in-Err-TooLarge.result (call_of c.args.call.now) (set_outcome (ground_in h) (tree_of c.args.call.now.args) c.args.made.now) too_large (codes "requestTooLarge") (sym same ∙ is) refl
-    c.refused-in-Err-TooLarge.ensures
+    refused_set c.plan_error-in-Err-TooLarge.result (call_of c.args.call.now) (set_outcome (ground_in h) (tree_of c.args.call.now.args) c.args.made.now) too_large (codes "requestTooLarge") (sym same ∙ is) refl
+    c.plan_error-in-Err-TooLarge.ensures
 
 pub returns-in-Err-StateMismatch : goal.returns-in-Err-StateMismatch
 returns-in-Err-StateMismatch c =
@@ -37,5 +37,5 @@ returns-in-Err-StateMismatch c =
     let outcome = set_outcome (ground_of c.content.result.now.content c.log.result.now) (tree_of c.args.call.now.args) c.args.made.now in
     let same = same_outcome h c.content.result.now.content c.log.result.now (tree_of c.args.call.now.args) c.args.made.now c.content.ensures.content c.log.ensures in
     let is = subst (λ (e : SetFault). ExplainsSet e outcome) c.in-Err-StateMismatch.field-0-is c.in-Err-StateMismatch.ensures.fault in
-    refused_set c.refused-in-Err-StateMismatch.result (call_of c.args.call.now) (set_outcome (ground_in h) (tree_of c.args.call.now.args) c.args.made.now) state_mismatch (codes "stateMismatch") (sym same ∙ is) refl
-    c.refused-in-Err-StateMismatch.ensures
+    refused_set c.plan_error-in-Err-StateMismatch.result (call_of c.args.call.now) (set_outcome (ground_in h) (tree_of c.args.call.now.args) c.args.made.now) state_mismatch (codes "stateMismatch") (sym same ∙ is) refl
+    c.plan_error-in-Err-StateMismatch.ensures

@@ -1,11 +1,12 @@
 use Rattle.std.proofs.Common.{rules, ◌≡◌, length}
 use Rattle.mail_records.specs.Histories.{Committed, grown}
-use Rattle.account_book.specs.Replies.{IsIdle, IsWithin, commit_of, edit_bytes}
+use Rattle.record_codec.specs.Sizes.{edit_bytes}
+use Rattle.account_book.specs.Replies.{IsIdle, IsWithin, commit_of}
 use Rattle.account_book.proofs.Answering.{IsReply-unavailable, IsReply-committed}
 use Rattle.account_book.proofs.book.Book.perform.Goals as goal
 
-pub returns-then-would_pass-clause-reply : goal.returns-then-would_pass-clause-reply
-returns-then-would_pass-clause-reply g c =
+pub returns-in_default-clause-reply : goal.returns-in_default-clause-reply
+returns-in_default-clause-reply g c =
     let h = c.args.self.now.history in
     let p = c.in_ok-plan.plan in
     let count : c.count-before.result ≡ length h.entries = search rules in

@@ -1,7 +1,8 @@
 use Rattle.std.proofs.Common.{◌≡◌, ap, ap₂, sym, ◌∙◌, subst}
 use Rattle.mail_records.specs.Histories.{Committed, grown}
 use Rattle.mail_records.specs.declared.edits.Stamp.{Stamp}
-use Rattle.account_book.specs.Replies.{IsWithin, commit_of, edit_bytes}
+use Rattle.record_codec.specs.Sizes.{edit_bytes}
+use Rattle.account_book.specs.Replies.{IsWithin, commit_of}
 use Rattle.account_book.specs.declared.plans.Plan.{Plan}
 use Rattle.account_book.proofs.Answering.{IfOk-weaken}
 use Rattle.account_book.proofs.book.Book.planned.Goals as goal

@@ -1,24 +1,25 @@
--- The rules that the tests perform calls by: a method of a user who may write adds a mailbox, and is answered with its number.
-use Rattle.std.specs.Prelude.{◌≡◌, ℕ, ◌≤◌, Bool, false, [], ◌∷◌, None, ⊤}
+-- The rules by which tests perform calls: a method of a user who may write adds a mailbox that has the method's name, and is
+-- answered with its number. No rules of the product use them.
+use Rattle.std.specs.Prelude.{◌≡◌, ℕ, ◌≤◌, Bool, false, List, [], ◌∷◌, None, ⊤}
 use Rattle.std.specs.List.{AllByRecursion}
-use Rattle.mail_records.specs.Contents.{AreNumbered}
 use Rattle.mail_records.specs.Edits.{AllFit}
-use Rattle.mail_records.specs.Histories.{History, blobs_of, edits_of, content_of}
+use Rattle.mail_records.specs.Histories.{History, IsFounded, blobs_of, edits_of, content_of}
 use Rattle.mail_records.specs.declared.records.Mailbox.{Mailbox}
 use Rattle.mail_records.specs.declared.edits.Edit.{Edit}
 use Rattle.mail_records.specs.declared.edits.Edit.TheVariants.{PutMailbox}
-use Rattle.account_book.specs.Replies.{edit_bytes, edit_limit}
+use Rattle.record_codec.specs.Sizes.{edit_bytes}
+use Rattle.account_book.specs.declared.limits.TheConstants.{MAX_EDIT_BYTES}
 use Rattle.account_book.specs.declared.asks.Ask.{Ask}
 use Rattle.account_book.specs.declared.asks.Ask.TheVariants.{Method}
 use Rattle.account_book.specs.declared.asks.Call.{Call}
 use Rattle.account_book.specs.declared.plans.Out.TheVariants.{Uploaded, Full}
 use Rattle.account_book.specs.declared.plans.Plan.{Plan}
 
--- the mailbox of a number, without a name
-abbrev pub added : ℕ → Mailbox
-added n = record {
+-- the mailbox of a number and a name
+abbrev pub added : ℕ → List ℕ → Mailbox
+added n name = record {
   number = n;
-  name = [];
+  name = name;
   parent = None;
   role = None;
   sort_order = 0;
@@ -30,8 +31,12 @@ added n = record {
 }
 
 -- the plan that adds it
-abbrev pub add : ℕ → Plan
-add n = record { out = Uploaded n; blobs = []; edits = PutMailbox (added n) false false ∷ [] }
+abbrev pub add : ℕ → List ℕ → Plan
+add n name = record {
+  out = Uploaded n;
+  blobs = [];
+  edits = PutMailbox (added n name) false false ∷ [];
+}
 
 -- the plan that changes nothing
 abbrev pub idle : Plan
@@ -39,7 +44,7 @@ idle = record { out = Full; blobs = []; edits = [] }
 
 -- what is planned for what is asked, by whether the user may only read
 abbrev pub plan_with : Ask → Bool → ℕ → Plan
-plan_with (Method call) false n = add n
+plan_with (Method call) false n = add n call.name
 plan_with _ _ n = idle
 
 abbrev pub adding_plan : History → Call → Plan
@@ -50,11 +55,11 @@ abbrev pub PutsMailbox : Edit → Type 0
 PutsMailbox (PutMailbox item was counts) = ⊤
 PutsMailbox _ = ⊥
 
--- there are no emails and no blobs, and all edits put mailboxes, and fit
+-- the history is founded, there are no emails and no blobs, and all edits put mailboxes, and fit
 pub record IsAdded (h : History) : Type 0 where
   pub no_emails : h.base.emails ≡ []
   pub no_blobs : blobs_of h ≡ []
-  pub numbered : AreNumbered h.base
+  pub founded : IsFounded h
   pub fits : AllFit h.base (edits_of h)
   pub puts : AllByRecursion PutsMailbox (edits_of h)
-  pub within : edit_bytes (edits_of h) ≤ edit_limit
+  pub within : edit_bytes (edits_of h) ≤ MAX_EDIT_BYTES

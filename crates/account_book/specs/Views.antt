@@ -1,0 +1,15 @@
+-- What contracts see of an account and of a book.
+use Rattle.std.specs.Prelude.{ℕ}
+use Rattle.mail_records.specs.Histories.{History}
+
+-- an account: its history, and for how many more edits, entries and blobs memory is reserved
+pub record Ledger : Type 0 where
+  pub history : History
+  pub spare : ℕ
+  pub entry_spare : ℕ
+  pub blob_spare : ℕ
+
+-- a book: its rules, and its account's history
+pub record Parts (R : Type 0) : Type 0 where
+  pub rules : R
+  pub history : History
