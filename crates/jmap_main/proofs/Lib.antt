@@ -1,9 +1,4 @@
-pub mod Outcomes
-pub mod Lines
-pub mod Held
-pub mod Feeds
-pub mod Runs
 pub mod Ends
 pub mod Messages
-pub mod Replied
-pub mod Written
+pub mod Performed
+pub mod OneOutput

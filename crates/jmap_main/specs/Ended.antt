@@ -1,46 +1,46 @@
--- When a run, or a part of it, ends in each way.
-use Rattle.std.specs.Prelude.{◌≡◌, ℕ, List, [], take, Option, None, Some, ⊤}
-use Rattle.std.specs.Io.KnownBytes.{Appends}
+-- Why a run, or a part of it, ends in each way.
+use Rattle.std.specs.Prelude.{◌≡◌, ℕ, ◌<◌, List, [], length, take, Option, None, Some, Result, Ok, Err, ⊤}
+use Rattle.std.specs.Io.KnownBytes.{Consumes, Appends}
 use Rattle.jm_edge.specs.Causes.{Rose}
+use Rattle.batch_lines.specs.Input.{Seen}
+use Rattle.jmap_main.specs.Run.{HasAnswered, HasAnsweredBeforeFault, HasAnsweredBeforeLimit}
+use Rattle.jmap_main.specs.declared.read.TheConstants.{MAX_MESSAGE_BYTES}
+use Rattle.batch_lines.specs.declared.fault.LinesFault.{LinesFault}
+use Rattle.batch_lines.specs.declared.fault.LinesFault.TheVariants as lines
 use Rattle.jmap_main.specs.declared.words.Command.{Command}
-use Rattle.jmap_main.specs.declared.words.Command.TheVariants.{Read}
-use Rattle.jmap_main.specs.Run.{HasAnsweredAll, IsLongerThan, IsTooLong}
-use Rattle.jmap_main.specs.Words.{out_of, most_of}
 use Rattle.jmap_main.specs.declared.ending.Ending.{Ending}
 use Rattle.jmap_main.specs.declared.ending.Ending.TheVariants.{Done, Usage, ReadFault, WriteFault, NoMemory, TooLong}
 
--- The source had these bytes left before and after, and failed so often before and after; likewise the output.
-pub record Seen : Type 0 where
-  pub left : Option (List ℕ)
-  pub left_after : Option (List ℕ)
-  pub reads : ℕ
-  pub reads_after : ℕ
-  pub held : Option (List ℕ)
-  pub held_after : Option (List ℕ)
-  pub writes : ℕ
-  pub writes_after : ℕ
+-- how a run ends whose lines were not all answered
+abbrev pub ending_of_fault : LinesFault → Ending
+ending_of_fault lines.ReadFault = ReadFault
+ending_of_fault lines.WriteFault = WriteFault
+ending_of_fault lines.NoMemory = NoMemory
+ending_of_fault lines.TooLong = TooLong
 
--- why a command came to this end that writes this for what it reads, and may read so many bytes
-abbrev pub ExplainsAll : (List ℕ → List ℕ) → ℕ → Ending → Seen → Type 0
-ExplainsAll out most Done s = HasAnsweredAll out most s.left s.left_after s.held s.held_after
-ExplainsAll out most Usage s = ⊥
-ExplainsAll out most ReadFault s = Rose s.reads s.reads_after
-ExplainsAll out most WriteFault s = Rose s.writes s.writes_after
-ExplainsAll out most NoMemory s = ⊤
-ExplainsAll out most TooLong s = IsLongerThan most s.left s.left_after
+-- how a run ends whose lines were answered so
+abbrev pub ending_of : Result (Unit {0}) LinesFault → Ending
+ending_of (Ok u) = Done
+ending_of (Err fault) = ending_of_fault fault
 
 -- why a command came to this end
 abbrev pub Explains : Command → Ending → Seen → Type 0
-Explains c = ExplainsAll (out_of c) (most_of c)
+Explains c Done v = HasAnswered c v
+Explains c Usage v = ⊥
+Explains c ReadFault v = Rose v.reads v.reads_after × HasAnsweredBeforeFault c v
+Explains c WriteFault v = Rose v.writes v.writes_after
+Explains c NoMemory v = ⊤
+Explains c TooLong v = HasAnsweredBeforeLimit c v
 
--- why the replies to a piece were not all put
-abbrev pub StopsFor : Ending → ℕ → ℕ → Type 0
-StopsFor Done writes writes_after = ⊥
-StopsFor Usage writes writes_after = ⊥
-StopsFor ReadFault writes writes_after = ⊥
-StopsFor WriteFault writes writes_after = Rose writes writes_after
-StopsFor NoMemory writes writes_after = ⊤
-StopsFor TooLong writes writes_after = ⊥
+-- why arguments came to this end: those that name no command are answered by how to use the program
+abbrev pub ExplainsBy : Option Command → Ending → Seen → Type 0
+ExplainsBy None e v = e ≡ Usage
+ExplainsBy (Some c) e v = Explains c e v
+
+-- more bytes came than a message may have
+abbrev pub IsMessageTooLong : Option (List ℕ) → Option (List ℕ) → Type 0
+IsMessageTooLong left left_after =
+    (bytes : List ℕ) × Consumes left left_after bytes × (MAX_MESSAGE_BYTES < length bytes)
 
 -- why reading a whole message failed
 abbrev pub Unread : Ending → Option (List ℕ) → Option (List ℕ) → ℕ → ℕ → Type 0
@@ -49,18 +49,14 @@ Unread Usage left left_after reads reads_after = ⊥
 Unread ReadFault left left_after reads reads_after = Rose reads reads_after
 Unread WriteFault left left_after reads reads_after = ⊥
 Unread NoMemory left left_after reads reads_after = ⊤
-Unread TooLong left left_after reads reads_after = IsTooLong Read left left_after
+Unread TooLong left left_after reads reads_after = IsMessageTooLong left left_after
 
--- why the words of a command line came to this end: words of no command are told how to use the program
-abbrev pub ExplainsWords : Option Command → Ending → Seen → Type 0
-ExplainsWords None e s = e ≡ Usage
-ExplainsWords (Some c) e s = Explains c e s
-
--- a line was written, or a front of it
+-- a line was written, or a prefix of it
 abbrev pub Written : Ending → Option (List ℕ) → Option (List ℕ) → ℕ → ℕ → List ℕ → Type 0
 Written Done held held_after writes writes_after line = Appends held held_after line
 Written Usage held held_after writes writes_after line = ⊥
 Written ReadFault held held_after writes writes_after line = ⊥
-Written WriteFault held held_after writes writes_after line = Rose writes writes_after × ((n : ℕ) × Appends held held_after (take n line))
+Written WriteFault held held_after writes writes_after line =
+    Rose writes writes_after × ((n : ℕ) × Appends held held_after (take n line))
 Written NoMemory held held_after writes writes_after line = Appends held held_after []
 Written TooLong held held_after writes writes_after line = ⊥

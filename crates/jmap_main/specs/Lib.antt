@@ -1,7 +1,5 @@
-pub mod Lines
-pub mod Steps
 pub mod Served
-pub mod Batch
+pub mod Stamps
 pub mod Read
 pub mod Words
 pub mod Status

@@ -3,7 +3,7 @@ use Rattle.std.specs.Prelude.{ℕ, List, true, None, codes}
 use Rattle.jm_json.specs.Tree.{Tree, null}
 use Rattle.mail_view.specs.Arguments.{Reading, invalid, asked, read_arguments, wanted_in}
 use Rattle.mail_view.specs.View.{view_tree}
-use Rattle.jmap_main.specs.Batch.{line_text}
+use Rattle.batch_lines.specs.Replies.{line_text}
 
 -- A message is shown as the blob b1, and as no email. The arguments have their form (`arguments_of_read_are_taken` of mail_view).
 abbrev pub shown_by : List ℕ → Reading → Tree

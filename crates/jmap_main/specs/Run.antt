@@ -1,60 +1,69 @@
--- What a run of a command has done.
+-- What a run of a command has read and written.
 use Rattle.std.specs.Prelude.{◌≡◌, ◌⊎◌, ℕ, ◌<◌, ◌≤◌, List, [], ◌++◌, length, Option, None, Some}
-use Rattle.std.specs.Io.KnownBytes.{Consumes, Appends, IsAtEnd}
-use Rattle.jmap_main.specs.Lines.{IsOneLine}
-use Rattle.jmap_main.specs.Batch.{Done}
-use Rattle.jmap_main.specs.Steps.{Steps}
-use Rattle.jmap_main.specs.Words.{out_of, most_of}
+use Rattle.mail_records.specs.Histories.{History, empty_history}
+use Rattle.batch_lines.specs.Input.{Seen, HasRead, HasWritten, HasReadAll, HasAnsweredInput, HasAnsweredEnded, HasAnsweredWithin, HasBegunInput}
+use Rattle.jmap_main.specs.Read.{read_out}
+use Rattle.jmap_main.specs.Served.{account_answers, account_stops}
+use Rattle.jmap_main.specs.declared.read.TheConstants.{MAX_MESSAGE_BYTES}
 use Rattle.jmap_main.specs.declared.words.Command.{Command}
+use Rattle.jmap_main.specs.declared.words.Command.TheVariants.{Batch, Read}
 
--- ---- of a command that writes this for what it reads, and may read so many bytes
+-- ---- of `read`
 
--- it read its input to the end, and wrote what it writes for the bytes read
-abbrev pub HasAnsweredAll : (List ℕ → List ℕ) → ℕ → Option (List ℕ) → Option (List ℕ) → Option (List ℕ) → Option (List ℕ) → Type 0
-HasAnsweredAll out most left left' held held' = (taken : List ℕ) × Consumes left left' taken × (length taken ≤ most) × IsAtEnd left' × Appends held held' (out taken)
+-- the input was read to its end, and the line of the message is written
+abbrev pub HasShownMessage : Seen → Type 0
+HasShownMessage v =
+    (bytes : List ℕ) × HasRead v bytes × (length bytes ≤ MAX_MESSAGE_BYTES) × HasReadAll v
+    × HasWritten v (read_out bytes)
 
--- What was written is a front of what it writes for the bytes read, however the input goes on; or the input was read to its
--- end, and it is a front of what it writes for it.
-abbrev pub IsFront : (List ℕ → List ℕ) → List ℕ → List ℕ → Option (List ℕ) → Type 0
-IsFront out taken written left' =
-    ((rest : List ℕ) → (more : List ℕ) × (out (taken ++ rest) ≡ written ++ more)) ⊎ (IsAtEnd left' × ((more : List ℕ) × (out taken ≡ written ++ more)))
+-- some of the input was read, and nothing is written
+abbrev pub HasShownNothing : Seen → Type 0
+HasShownNothing v = (bytes : List ℕ) × HasRead v bytes × HasWritten v []
 
--- it read these bytes, and what it wrote is a front for them
-abbrev pub HasBegunAll : (List ℕ → List ℕ) → Option (List ℕ) → Option (List ℕ) → Option (List ℕ) → Option (List ℕ) → Type 0
-HasBegunAll out left left' held held' = (taken : List ℕ) × (written : List ℕ) × Consumes left left' taken × Appends held held' written × IsFront out taken written left'
+-- more bytes came than a message may have, and nothing is written
+abbrev pub HasShownNone : Seen → Type 0
+HasShownNone v =
+    (bytes : List ℕ) × HasRead v bytes × (MAX_MESSAGE_BYTES < length bytes) × HasWritten v []
 
--- more bytes came than an input may have
-abbrev pub IsLongerThan : ℕ → Option (List ℕ) → Option (List ℕ) → Type 0
-IsLongerThan most left left' = (taken : List ℕ) × Consumes left left' taken × (most < length taken)
+-- nothing is written; or the input was read to its end, and what is written is a prefix of the line of the message
+abbrev pub HasBegunMessage : Seen → Type 0
+HasBegunMessage v =
+    (bytes : List ℕ) × (written : List ℕ) × HasRead v bytes × HasWritten v written
+    × ((written ≡ []) ⊎ (HasReadAll v × ((more : List ℕ) × (read_out bytes ≡ written ++ more))))
 
--- ---- of each command
+-- ---- of each command: `batch` begins over an account in which there is nothing, and h is its history at
+-- the end
 
-abbrev pub HasAnswered : Command → Option (List ℕ) → Option (List ℕ) → Option (List ℕ) → Option (List ℕ) → Type 0
-HasAnswered c = HasAnsweredAll (out_of c) (most_of c)
+abbrev pub HasAnswered : Command → Seen → Type 0
+HasAnswered Batch v = (h : History) × HasAnsweredInput account_answers empty_history h v
+HasAnswered Read v = HasShownMessage v
 
-abbrev pub HasBegun : Command → Option (List ℕ) → Option (List ℕ) → Option (List ℕ) → Option (List ℕ) → Type 0
-HasBegun c = HasBegunAll (out_of c)
+abbrev pub HasAnsweredBeforeFault : Command → Seen → Type 0
+HasAnsweredBeforeFault Batch v = (h : History) × HasAnsweredEnded account_answers empty_history h v
+HasAnsweredBeforeFault Read v = HasShownNothing v
 
-abbrev pub IsTooLong : Command → Option (List ℕ) → Option (List ℕ) → Type 0
-IsTooLong c = IsLongerThan (most_of c)
+abbrev pub HasAnsweredBeforeLimit : Command → Seen → Type 0
+HasAnsweredBeforeLimit Batch v = (h : History) × HasAnsweredWithin account_answers empty_history h v
+HasAnsweredBeforeLimit Read v = HasShownNone v
 
--- ---- by the words: where they are those of no command, nothing is read or written
+abbrev pub HasBegun : Command → Seen → Type 0
+HasBegun Batch v = (h : History) × HasBegunInput account_answers account_stops empty_history h v
+HasBegun Read v = HasBegunMessage v
 
-abbrev pub HasAnsweredBy : Option Command → Option (List ℕ) → Option (List ℕ) → Option (List ℕ) → Option (List ℕ) → Type 0
-HasAnsweredBy None left left' held held' = ⊥
-HasAnsweredBy (Some c) left left' held held' = HasAnswered c left left' held held'
+-- ---- by the arguments of the command line: where they name no command, nothing is read or written
 
-abbrev pub HasBegunBy : Option Command → Option (List ℕ) → Option (List ℕ) → Option (List ℕ) → Option (List ℕ) → Type 0
-HasBegunBy None left left' held held' = Consumes left left' [] × Appends held held' []
-HasBegunBy (Some c) left left' held held' = HasBegun c left left' held held'
+abbrev pub HasAnsweredBy : Option Command → Seen → Type 0
+HasAnsweredBy None v = ⊥
+HasAnsweredBy (Some c) v = HasAnswered c v
 
-abbrev pub IsTooLongBy : Option Command → Option (List ℕ) → Option (List ℕ) → Type 0
-IsTooLongBy None left left' = ⊥
-IsTooLongBy (Some c) left left' = IsTooLong c left left'
+abbrev pub HasAnsweredBeforeFaultBy : Option Command → Seen → Type 0
+HasAnsweredBeforeFaultBy None v = ⊥
+HasAnsweredBeforeFaultBy (Some c) v = HasAnsweredBeforeFault c v
 
--- ---- of `batch`, between two reads: this many bytes were taken, what was answered is written, and the unfinished line is held;
--- the port went from the first state to the second
+abbrev pub HasAnsweredBeforeLimitBy : Option Command → Seen → Type 0
+HasAnsweredBeforeLimitBy None v = ⊥
+HasAnsweredBeforeLimitBy (Some c) v = HasAnsweredBeforeLimit c v
 
-abbrev pub IsUnderWay : {S : Type 0} → Steps S → S → S → Option (List ℕ) → Option (List ℕ) → Option (List ℕ) → Option (List ℕ) → List ℕ → ℕ → Type 0
-IsUnderWay steps s s' left left' held held' line total =
-    (taken : List ℕ) × (written : List ℕ) × Consumes left left' taken × Appends held held' written × Done steps s s' taken written line × IsOneLine line × (length taken ≡ total)
+abbrev pub HasBegunBy : Option Command → Seen → Type 0
+HasBegunBy None v = HasRead v [] × HasWritten v []
+HasBegunBy (Some c) v = HasBegun c v

@@ -1,5 +1,7 @@
--- What the port of `batch` replies to a call: it serves one account, which its one user may change.
-use Rattle.std.specs.Prelude.{◌≡◌, ℕ, ◌+◌, ◌^◌, ◌-◌, min, List, [], ◌∷◌, length, Bool, true, false, not, ◌&&◌, ◌||◌, nat_le, Option, Some, None, is_some, is_none, unwrap_or, option_and_then, cond, codes, bytes_eq}
+-- What the account of `batch` answers to a call. The port serves one account, which its one user may
+-- change. Its state is the account's history.
+use Rattle.std.specs.Prelude.{◌≡◌, ℕ, List, [], ◌∷◌, drop, length, Bool, false, ◌&&◌, ◌||◌, Option, Some, None, is_none, option_and_then, cond, codes, bytes_eq}
+use Rattle.std.specs.List.{list_any}
 use Rattle.jm_json.specs.Call.{Call as Invocation, error_of}
 use Rattle.jm_json.specs.Invoked.{call_of}
 use Rattle.jm_json.specs.declared.invocation.Invocation.{Invocation as TheInvocation}
@@ -7,17 +9,16 @@ use Rattle.jm_json.specs.Find.{find, as_text, as_object}
 use Rattle.jm_json.specs.Tree.{Tree}
 use Rattle.jm_json.specs.declared.invocation.Created.{Created}
 use Rattle.jm_json.specs.declared.invocation.Replied.{Replied}
-use Rattle.mail_records.specs.Histories.{History, Committed, edits_of, account_after, grown}
+use Rattle.mail_records.specs.Histories.{History, is_refused, account_after}
 use Rattle.mail_records.specs.declared.edits.Stamp.{Stamp}
-use Rattle.account_book.specs.Replies.{IsReply, edit_bytes, edit_limit, commit_of}
+use Rattle.record_codec.specs.Sizes.{edit_bytes}
+use Rattle.account_book.specs.Replies.{IsReply}
 use Rattle.account_book.specs.declared.asks.Ask.TheVariants.{Method}
 use Rattle.account_book.specs.declared.asks.Call.{Call as TheCall}
 use Rattle.account_book.specs.declared.plans.Point.{Point}
 use Rattle.account_book.specs.declared.plans.Out.{Out}
 use Rattle.account_book.specs.declared.plans.Out.TheVariants.{Replies, Uploaded, Full, Failed, Blob, Carried, States}
-use Rattle.account_book.specs.declared.plans.Plan.{Plan}
-use Rattle.mail_calls.specs.Plans.{method_plan, call_plan}
-use Rattle.jmap_main.specs.Steps.{Steps}
+use Rattle.mail_calls.specs.Plans.{call_plan}
 
 -- the account's identifier
 abbrev pub account_id : List ℕ
@@ -49,63 +50,52 @@ to_error copies from (Some id) =
 abbrev pub account_error : Invocation → Option (List ℕ)
 account_error c = to_error (is_copy c.name) (text_in (codes "fromAccountId") c.args) (text_in (codes "accountId") c.args)
 
--- the one session has one pass, and numbers its entries
-abbrev pub stamp_after : History → Stamp
-stamp_after h = record { pass = 1; serial = min (length h.entries + 1) (2 ^ 64 - 1) }
+-- the reply that is one error
+abbrev pub error_alone : List ℕ → Invocation → Replied
+error_alone kind c = record { responses = error_of kind c.id ∷ []; made = [] }
 
--- what a call is replied, and the account's history after it
-pub record Step : Type 0 where
-  pub replied : Replied
-  pub history : History
-
--- this was replied, with which the history came to this
-abbrev pub IsStep : Step → Replied → History → Type 0
-IsStep s r h = (r ≡ s.replied) × (h ≡ s.history)
-
--- what is replied where methods are asked
+-- the reply to a method that an account's answer is
 abbrev pub replied_of : Out → Replied
 replied_of (Replies r) = r
 replied_of _ = record { responses = []; made = [] }
 
-abbrev pub is_empty : {A : Type 0} → List A → Bool
-is_empty [] = true
-is_empty (x ∷ xs) = false
-
--- a plan that changes nothing is answered; one whose edits would pass the limit is refused; any other is answered, and its
--- commit entered
-abbrev pub after_plan : History → Invocation → Plan → Step
-after_plan h c p =
-    cond (is_empty p.blobs && is_empty p.edits) (record { replied = replied_of p.out; history = h })
-    (cond (nat_le (edit_bytes (edits_of h) + edit_bytes p.edits) edit_limit)
-    (record { replied = replied_of p.out; history = grown h (Committed (commit_of p (stamp_after h))) })
-    (record { replied = record { responses = error_of (codes "serverUnavailable") c.id ∷ []; made = [] }; history = h }))
-
-abbrev pub unless_error : History → Invocation → List Created → Option (List ℕ) → Step
-unless_error h c made (Some kind) = record { replied = record { responses = error_of kind c.id ∷ []; made = [] }; history = h }
-unless_error h c made None = after_plan h c (method_plan h c made false)
-
--- the step that a call takes
-abbrev pub step : History → Invocation → List Created → Step
-step h c made = unless_error h c made (account_error c)
-
--- the steps of the port
-abbrev pub account_steps : Steps History
-account_steps = record { replied = λ h c made. (step h c made).replied; next = λ h c made. (step h c made).history }
-
--- ---- the law of the steps
+-- ---- the account's answer at a point
 
 -- the call on the account that a method call is
 abbrev pub asked : TheInvocation → List Created → TheCall
 asked c made = record { ask = Method c; made = made; read_only = false }
 
--- the point from one history to the next, of the one account, at the moment 0
+-- The point of a call that takes the history from h to h': of the one account, numbered 0, at the
+-- timestamp 0. Before and after count the entries, so each point goes on from the one before it.
 abbrev pub point_between : History → History → Point
-point_between h next = record { account = 0; before = length h.entries; after = length next.entries; moment = 0 }
+point_between h h' =
+    record { account = 0; before = length h.entries; after = length h'.entries; moment = 0 }
 
--- What the call is replied is the written reply at a point of the history that it leaves: the point has the entries that were
--- there before the call.
-abbrev pub IsWritten : History → TheInvocation → List Created → Type 0
-IsWritten h c made =
-    (out : Out) × ((step h (call_of c) made).replied ≡ replied_of out)
-    × IsReply (λ x call moment. call_plan x call) edit_bytes (step h (call_of c) made).history (point_between h (step h (call_of c) made).history) (asked c made) (stamp_after h) out
-    × (account_after (step h (call_of c) made).history (length h.entries) ≡ h)
+-- The account's answer at a point of a history, by the rules of mail.
+abbrev pub IsMailReply : History → Point → TheCall → Stamp → Out → Type 0
+IsMailReply = IsReply call_plan edit_bytes
+
+-- A call took the account's history from h to h', and is replied so: by the account's answer at the
+-- point between them, with the entry under some stamp. The history goes on from what it was, and the
+-- account, which is in memory, refused nothing.
+pub record IsPerformed (h : History) (c : Invocation) (made : List Created) (r : Replied) (h' : History) : Type 0 where
+  pub call : TheInvocation
+  pub stamp : Stamp
+  pub out : Out
+  pub same : call_of call ≡ c
+  pub begins : account_after h' (length h.entries) ≡ h
+  pub kept : list_any is_refused (drop (length h.entries) h'.entries) ≡ false
+  pub reply : IsMailReply h' (point_between h h') (asked call made) stamp out
+  pub shown : r ≡ replied_of out
+
+abbrev pub AnswersUnless : Option (List ℕ) → History → Invocation → List Created → Replied → History → Type 0
+AnswersUnless (Some kind) h c made r h' = (h' ≡ h) × (r ≡ error_alone kind c)
+AnswersUnless None h c made r h' = IsPerformed h c made r h'
+
+-- a call that names another account is answered by that error, and any other one is performed
+abbrev pub account_answers : History → Invocation → List Created → Replied → History → Type 0
+account_answers h c made r h' = AnswersUnless (account_error c) h c made r h'
+
+-- a call that ends out of memory leaves the account as it was
+abbrev pub account_stops : History → Invocation → List Created → History → Type 0
+account_stops h c made h' = h' ≡ h

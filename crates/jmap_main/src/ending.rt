@@ -1,11 +1,23 @@
-// How a run ends: its status, and what it says on the error output.
+// How a run ends: its exit status, and what it writes on the error output.
 ghost use Rattle.std.specs.Prelude.{◌≡◌};
 
 use jm_edge::{Sink, put_all};
+use std::process::ExitCode;
 
-/// How a run ended, as the status of the process.
+/// The exit status of a run.
 #[derive(Clone, Copy, Debug, PartialEq, Eq)]
 pub struct Status(pub u8);
+
+impl Status {
+    ghost use Rattle.std.specs.Process.{exit_status};
+
+    /// Returns the exit code of the process.
+    pub(crate) fn exit_code(self) -> ExitCode
+        ensures { exit_status result ≡ self.0 }
+    {
+        ExitCode::from(self.0)
+    }
+}
 
 /// Why a run ended.
 #[derive(Clone, Copy, Debug, PartialEq, Eq)]
@@ -47,7 +59,8 @@ impl Ending {
         }
     }
 
-    /// Says on the error output why the run ended, where that can be written.
+    /// Writes on the error output why the run ended, and returns its exit status. Where the text can't be
+    /// written, the status stays.
     pub(crate) fn say<E: Sink>(self, err: &mut E) -> Status
         ensures status { result.0 ≡ status_of self }
         ensures text { WritesOrFails (E.held err.old) (E.held err.new) (E.faults err.old) (E.faults err.new) (text_of self) }

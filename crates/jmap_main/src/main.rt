@@ -1,14 +1,12 @@
 //! The program `jmap`: a JMAP mail server and a synchronising client.
 #![tactic(auto)]
 
-mod batch;
 mod ending;
-mod line;
+mod laws;
 mod read;
 mod run;
 mod served;
 mod shown;
-mod steps;
 #[cfg(test)]
 mod tests;
 mod words;
@@ -34,13 +32,13 @@ fn main(rt: HostRuntime) -> ExitCode {
                 &mut err,
                 &mut NoWorld,
             );
-            ExitCode::from(status.0)
+            status.exit_code()
         }
-        Err(refused) => ExitCode::from(refused.say(&mut err).0),
+        Err(refused) => refused.say(&mut err).exit_code(),
     }
 }
 
-// The words behind the program's name. Words that are no UTF-8 are words of no command.
+// Returns the arguments after the program's name. Arguments that are not UTF-8 name no command.
 fn words_of(rt: &(impl env::Env + AllocGlobal)) -> Result<Vec<String>, Ending> {
     let all = match env::args(rt) {
         Ok(all) => all,

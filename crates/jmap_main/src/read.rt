@@ -1,6 +1,7 @@
 // The command `read`: what a message is shown as, on one line.
 ghost use Rattle.std.specs.Prelude.{◌≡◌, ◌≤◌, ◌<◌, ◌^◌, ℕ, List, [], ◌++◌, length, take, IfOk, IfErr, OnOk, OnErr};
 ghost use Rattle.std.specs.Io.KnownBytes.{Consumes, IsAtEnd};
+ghost use Rattle.batch_lines.specs.Input.{seen};
 ghost use Rattle.jmap_main.specs.Read.{read_out};
 ghost use Rattle.jmap_main.specs.Run.{HasBegun};
 ghost use Rattle.jmap_main.specs.Ended.{Explains, Unread, Written};
@@ -12,25 +13,16 @@ use jm_base::Bytes;
 use jm_edge::{Sink, Source, put_all};
 use std::alloc::Global;
 
-// The bytes that a message may have.
-const MOST_MESSAGE: u64 = 50000000;
+// The most bytes that a message may have.
+const MAX_MESSAGE_BYTES: u64 = 50000000;
 
 // The bytes that are read at once.
-const ROOM: usize = 65536;
+const READ_BUFFER_BYTES: usize = 65536;
 
 /// Reads a message to its end, and writes the line of what it is shown as.
 pub(crate) fn read_message<S: Source, O: Sink>(alloc: Global, source: &mut S, out: &mut O) -> Ending
-    ensures cause { Explains Command.Read result (record {
-      left = S.left source.old;
-      left_after = S.left source.new;
-      reads = S.faults source.old;
-      reads_after = S.faults source.new;
-      held = O.held out.old;
-      held_after = O.held out.new;
-      writes = O.faults out.old;
-      writes_after = O.faults out.new;
-    }) }
-    ensures begun { HasBegun Command.Read (S.left source.old) (S.left source.new) (O.held out.old) (O.held out.new) }
+    ensures cause { Explains Command.Read result (seen S.left S.faults source.old source.new O.held O.faults out.old out.new) }
+    ensures begun { HasBegun Command.Read (seen S.left S.faults source.old source.new O.held O.faults out.old out.new) }
 {
     match take_message(alloc, source) {
         Ok(message) => write_message(alloc, message.as_slice(), out),
@@ -59,11 +51,11 @@ fn write_line<O: Sink>(line: &[u8], out: &mut O) -> Ending
 
 // The bytes of the input, read to its end.
 fn take_message<S: Source>(alloc: Global, source: &mut S) -> Result<Bytes, Ending>
-    ensures ok { IfOk result (λ b. Consumes (S.left source.old) (S.left source.new) b × (length b ≤ MOST_MESSAGE) × IsAtEnd (S.left source.new)) }
+    ensures ok { IfOk result (λ b. Consumes (S.left source.old) (S.left source.new) b × (length b ≤ MAX_MESSAGE_BYTES) × IsAtEnd (S.left source.new)) }
     ensures taken { OnErr result ((b : List ℕ) × Consumes (S.left source.old) (S.left source.new) b) }
     ensures reason { IfErr result (λ e. Unread e (S.left source.old) (S.left source.new) (S.faults source.old) (S.faults source.new)) }
 {
-    match vec![in alloc; 0u8; ROOM] {
+    match vec![in alloc; 0u8; READ_BUFFER_BYTES] {
         Ok(mut room) => take_reads(alloc, source, room.as_mut_slice()),
         Err(_) => Err(Ending::NoMemory),
     }
@@ -71,12 +63,12 @@ fn take_message<S: Source>(alloc: Global, source: &mut S) -> Result<Bytes, Endin
 
 fn take_reads<S: Source>(alloc: Global, source: &mut S, room: &mut [u8]) -> Result<Bytes, Ending>
     requires { 0 < length room.old }
-    ensures ok { IfOk result (λ b. Consumes (S.left source.old) (S.left source.new) b × (length b ≤ MOST_MESSAGE) × IsAtEnd (S.left source.new)) }
+    ensures ok { IfOk result (λ b. Consumes (S.left source.old) (S.left source.new) b × (length b ≤ MAX_MESSAGE_BYTES) × IsAtEnd (S.left source.new)) }
     ensures taken { OnErr result ((b : List ℕ) × Consumes (S.left source.old) (S.left source.new) b) }
     ensures reason { IfErr result (λ e. Unread e (S.left source.old) (S.left source.new) (S.faults source.old) (S.faults source.new)) }
 {
     let mut message = Bytes::new(alloc);
-    'turns: for _turn in 0..MOST_MESSAGE + 2 {
+    'turns: for _turn in 0..MAX_MESSAGE_BYTES + 2 {
         let count = match source.read(room) {
             Ok(count) => count,
             Err(_) => return Err(Ending::ReadFault),
@@ -84,7 +76,7 @@ fn take_reads<S: Source>(alloc: Global, source: &mut S, room: &mut [u8]) -> Resu
         if count == 0 {
             return Ok(message);
         }
-        if count as u64 > MOST_MESSAGE - message.len() as u64 {
+        if count as u64 > MAX_MESSAGE_BYTES - message.len() as u64 {
             return Err(Ending::TooLong);
         }
         match message.append(&room[..count]) {

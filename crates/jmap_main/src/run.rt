@@ -2,15 +2,16 @@
 ghost use Rattle.std.specs.Prelude.{◌≡◌, ◌↔◌, None, map, string_bytes};
 ghost use Rattle.jm_edge.specs.Causes.{Rose};
 ghost use Rattle.jmap_main.specs.Words.{command_of};
-ghost use Rattle.jmap_main.specs.Run.{HasBegun, HasAnsweredBy, HasBegunBy, IsTooLongBy};
+ghost use Rattle.batch_lines.specs.Input.{seen};
+ghost use Rattle.jmap_main.specs.Run.{HasBegun, HasAnsweredBy, HasAnsweredBeforeFaultBy, HasAnsweredBeforeLimitBy, HasBegunBy};
 ghost use Rattle.jmap_main.specs.Status.{Says};
-ghost use Rattle.jmap_main.specs.Ended.{Explains, ExplainsWords};
+ghost use Rattle.jmap_main.specs.Ended.{Explains, ExplainsBy, ending_of};
 
-use crate::batch::answer_input;
 use crate::ending::{Ending, Status};
 use crate::read::read_message;
 use crate::served::AccountPort;
 use crate::words::Command;
+use batch_lines::{LinesFault, answer_lines};
 use jm_edge::{Sink, Source};
 use std::alloc::Global;
 use std::sync::Wait;
@@ -25,8 +26,8 @@ pub struct NoWorld;
 
 impl World for NoWorld {}
 
-/// Does what the words of the command line say, over a source, an output, an error output and a world, and gives the status
-/// of the process.
+/// Does what the arguments of the command line say, over a source, an output, an error output and a
+/// world, and returns the exit status of the process.
 pub fn run<S: Source, O: Sink, E: Sink, W: World>(
     _rt: &(impl Threads + Wait + Sync),
     alloc: Global,
@@ -36,42 +37,39 @@ pub fn run<S: Source, O: Sink, E: Sink, W: World>(
     err: &mut E,
     _world: &mut W,
 ) -> Status
-    // With status 0 the input was read to its end, and what was written is what the command writes for its bytes.
-    ensures done { result.0 ≡ 0 → HasAnsweredBy (command_of (map string_bytes words.now)) (S.left source.old) (S.left source.new) (O.held out.old) (O.held out.new) }
+    // With status 0 the input was read to its end, and all that the command writes for it is written.
+    ensures done { result.0 ≡ 0 → HasAnsweredBy (command_of (map string_bytes words.now)) (seen S.left S.faults source.old source.new O.held O.faults out.old out.new) }
 
-    // With every status, what was written is a front of that; where the words are those of no command, nothing was read.
-    ensures begun { HasBegunBy (command_of (map string_bytes words.now)) (S.left source.old) (S.left source.new) (O.held out.old) (O.held out.new) }
+    // With every status, a prefix of that is written; if the arguments name no command, nothing is read.
+    ensures begun { HasBegunBy (command_of (map string_bytes words.now)) (seen S.left S.faults source.old source.new O.held O.faults out.old out.new) }
 
-    // Each status comes exactly where, or only where:
+    // With statuses 3 and 14 each reply is written to a line that ended before the fault, or within the
+    // limit of the input.
+    ensures fault { result.0 ≡ 3 → HasAnsweredBeforeFaultBy (command_of (map string_bytes words.now)) (seen S.left S.faults source.old source.new O.held O.faults out.old out.new) }
+    ensures limit { result.0 ≡ 14 → HasAnsweredBeforeLimitBy (command_of (map string_bytes words.now)) (seen S.left S.faults source.old source.new O.held O.faults out.old out.new) }
+
+    // Status 2 comes if and only if the arguments name no command, 3 and 4 only if the source or the
+    // output failed in this run, and 14 only past the limit of the input, as the clause above says.
     ensures usage { (result.0 ≡ 2) ↔ (command_of (map string_bytes words.now) ≡ None) }
     ensures read { result.0 ≡ 3 → Rose (S.faults source.old) (S.faults source.new) }
     ensures write { result.0 ≡ 4 → Rose (O.faults out.old) (O.faults out.new) }
-    ensures long { result.0 ≡ 14 → IsTooLongBy (command_of (map string_bytes words.now)) (S.left source.old) (S.left source.new) }
 
-    // It is one of the statuses, and its text stands on the error output, as far as that can be written.
+    // The status is one of those that are written down, and its text is on the error output, as far as
+    // that can be written.
     ensures says { Says result.0 (E.held err.old) (E.held err.new) (E.faults err.old) (E.faults err.new) }
 {
     perform(alloc, words, source, out).say(err)
 }
 
-// Does what the words say.
+// Does what the arguments say.
 fn perform<S: Source, O: Sink>(
     alloc: Global,
     words: &[String],
     source: &mut S,
     out: &mut O,
 ) -> Ending
-    ensures cause { ExplainsWords (command_of (map string_bytes words.now)) result (record {
-      left = S.left source.old;
-      left_after = S.left source.new;
-      reads = S.faults source.old;
-      reads_after = S.faults source.new;
-      held = O.held out.old;
-      held_after = O.held out.new;
-      writes = O.faults out.old;
-      writes_after = O.faults out.new;
-    }) }
-    ensures begun { HasBegunBy (command_of (map string_bytes words.now)) (S.left source.old) (S.left source.new) (O.held out.old) (O.held out.new) }
+    ensures cause { ExplainsBy (command_of (map string_bytes words.now)) result (seen S.left S.faults source.old source.new O.held O.faults out.old out.new) }
+    ensures begun { HasBegunBy (command_of (map string_bytes words.now)) (seen S.left S.faults source.old source.new O.held O.faults out.old out.new) }
 {
     match Command::of_words(words) {
         Some(command) => perform_command(alloc, command, source, out),
@@ -85,17 +83,8 @@ fn perform_command<S: Source, O: Sink>(
     source: &mut S,
     out: &mut O,
 ) -> Ending
-    ensures cause { Explains command result (record {
-      left = S.left source.old;
-      left_after = S.left source.new;
-      reads = S.faults source.old;
-      reads_after = S.faults source.new;
-      held = O.held out.old;
-      held_after = O.held out.new;
-      writes = O.faults out.old;
-      writes_after = O.faults out.new;
-    }) }
-    ensures begun { HasBegun command (S.left source.old) (S.left source.new) (O.held out.old) (O.held out.new) }
+    ensures cause { Explains command result (seen S.left S.faults source.old source.new O.held O.faults out.old out.new) }
+    ensures begun { HasBegun command (seen S.left S.faults source.old source.new O.held O.faults out.old out.new) }
 {
     match command {
         Command::Batch => answer_batch(alloc, source, out),
@@ -103,22 +92,26 @@ fn perform_command<S: Source, O: Sink>(
     }
 }
 
-// Answers the lines of the input over an account in which nothing has been yet.
+// Answers the lines of the input over an account in which there is nothing yet.
 fn answer_batch<S: Source, O: Sink>(alloc: Global, source: &mut S, out: &mut O) -> Ending
-    ensures cause { Explains Command.Batch result (record {
-      left = S.left source.old;
-      left_after = S.left source.new;
-      reads = S.faults source.old;
-      reads_after = S.faults source.new;
-      held = O.held out.old;
-      held_after = O.held out.new;
-      writes = O.faults out.old;
-      writes_after = O.faults out.new;
-    }) }
-    ensures begun { HasBegun Command.Batch (S.left source.old) (S.left source.new) (O.held out.old) (O.held out.new) }
+    ensures cause { Explains Command.Batch result (seen S.left S.faults source.old source.new O.held O.faults out.old out.new) }
+    ensures begun { HasBegun Command.Batch (seen S.left S.faults source.old source.new O.held O.faults out.old out.new) }
 {
     match AccountPort::begin(alloc) {
-        Ok(mut port) => answer_input(alloc, &mut port, source, out),
+        Ok(mut port) => ending_of(answer_lines(alloc, &mut port, source, out)),
         Err(_) => Ending::NoMemory,
+    }
+}
+
+// How a run ends whose lines were answered so.
+fn ending_of(answered: Result<(), LinesFault>) -> Ending
+    ensures { result ≡ ending_of answered }
+{
+    match answered {
+        Ok(()) => Ending::Done,
+        Err(LinesFault::ReadFault) => Ending::ReadFault,
+        Err(LinesFault::WriteFault) => Ending::WriteFault,
+        Err(LinesFault::NoMemory) => Ending::NoMemory,
+        Err(LinesFault::TooLong) => Ending::TooLong,
     }
 }

@@ -1,18 +1,11 @@
 // The port of `batch`: one account, in memory.
-ghost use Rattle.std.specs.Prelude.{◌≡◌, ◌∷◌, [], ℕ, List, ◌||◌, codes, bytes_eq, min, ◌+◌, ◌^◌, ◌-◌, length, IfOk, OnErr, MatchOption, option_map, Some, None, false};
+ghost use Rattle.std.specs.Prelude.{◌≡◌, ◌∷◌, [], ◌||◌, IfOk, OnErr, option_map};
 ghost use Rattle.jm_json.specs.Json.{tree_of};
 ghost use Rattle.jm_json.specs.Invoked.{call_of};
-ghost use Rattle.jm_json.specs.declared.invocation.Replied.{Replied as TheReplied};
 ghost use Rattle.jm_json.specs.Call.{error_of};
 ghost use Rattle.mail_records.specs.Histories.{empty_history};
-ghost use Rattle.mail_records.specs.Histories.{History};
-ghost use Rattle.mail_calls.specs.Plans.{method_plan};
-ghost use Rattle.mail_calls.specs.Promises.{IsWholeMail};
-ghost use Rattle.jm_json.specs.declared.invocation.Invocation.{Invocation as TheInvocation};
-ghost use Rattle.jm_json.specs.declared.invocation.Created.{Created as TheCreated};
-ghost use Rattle.jmap_main.specs.Served.{IsStep, IsWritten, account_error, account_steps, after_plan, from_error, is_account, is_copy, replied_of, stamp_after, step, text_in, to_error};
+ghost use Rattle.jmap_main.specs.Served.{IsPerformed, account_error, from_error, is_account, is_copy, replied_of, text_in, to_error};
 
-use crate::steps::StepPort;
 use account_book::{Ask, Book, Call, Out};
 use jm_base::{NoMemory, Sequence};
 use jm_json::{Created, Invocation, Invocations, Json, Made, Replied};
@@ -49,10 +42,8 @@ impl AccountPort {
         })
     }
 
-    // The stamp of the next entry.
-    fn stamp(&self) -> Stamp
-        ensures { result ≡ stamp_after self.now }
-    {
+    // The stamp of the next entry. The one session has pass 1, and numbers its entries from 1.
+    fn stamp(&self) -> Stamp {
         Stamp {
             pass: 1,
             serial: self.book.account().count().saturating_add(1),
@@ -61,7 +52,7 @@ impl AccountPort {
 
     // Performs a call on the account.
     fn perform(&mut self, alloc: Global, call: Invocation, made: Made) -> Result<Replied, NoMemory>
-        ensures step { IfOk result (λ r. IsStep (after_plan self.old (call_of call) (method_plan self.old (call_of call) made false)) r self.new) }
+        ensures performed { IfOk result (λ r. IsPerformed self.old (call_of call) made r self.new) }
         ensures same { OnErr result (self.new ≡ self.old) }
     {
         let stamp = self.stamp();
@@ -191,9 +182,14 @@ fn error_reply(alloc: Global, kind: &str, call: &Invocation) -> Result<Replied, 
 }
 
 impl Port for AccountPort {
-    ghost use Rattle.jmap_main.specs.Served.{IsStep, step};
+    ghost use Rattle.std.specs.Prelude.{refl};
+    ghost use Rattle.jmap_main.specs.Served.{account_answers, account_stops};
 
-    ghost answers = { λ s c made r t. IsStep (step s c made) r t };
+    ghost answers = { account_answers };
+
+    ghost stops = { account_stops };
+
+    ghost stays = { λ s c made. refl };
 
     fn call(&mut self, alloc: Global, call: &Invocation, made: &Made) -> Result<Replied, NoMemory> {
         match account_error(call) {
@@ -202,16 +198,3 @@ impl Port for AccountPort {
         }
     }
 }
-
-impl StepPort for AccountPort {
-    ghost steps = { account_steps };
-
-    ghost determined = { λ s c made r t h. h };
-}
-
-/// The law of the account that `batch` serves. A call that names it is replied by the written reply at a point of the history
-/// that the call leaves, which begins with the history before it; and a whole account stays whole.
-pub(crate) fn steps_are_written()
-    ensures written { (h : History) (c : TheInvocation) (made : List TheCreated) → account_error (call_of c) ≡ None → IsWritten h c made }
-    ensures whole { (h : History) (c : TheInvocation) (made : List TheCreated) → IsWholeMail h → IsWholeMail (step h (call_of c) made).history }
-{}

@@ -1,11 +1,12 @@
 // What `read` shows of a message, as a line of JSON.
 ghost use Rattle.std.specs.Prelude.{◌≡◌, IfOk};
 ghost use Rattle.jm_json.specs.Json.{tree_of as json_of};
-ghost use Rattle.jmap_main.specs.Batch.{line_text};
+ghost use Rattle.batch_lines.specs.Replies.{line_text};
 ghost use Rattle.jmap_main.specs.Read.{read_tree, read_out};
 
+use batch_lines::append_line;
 use jm_base::{Bytes, NoMemory};
-use jm_json::{Json, write_after};
+use jm_json::Json;
 use mail_view::{view, wanted_for_read};
 use std::alloc::Global;
 
@@ -22,8 +23,7 @@ fn json_line(alloc: Global, tree: &Json) -> Result<Bytes, NoMemory>
     ensures { IfOk result (λ b. b ≡ line_text (json_of tree.now)) }
 {
     let mut line = Bytes::new(alloc);
-    write_after(alloc, &mut line, tree)?;
-    line.append(b"\n")?;
+    append_line(alloc, tree, &mut line)?;
     Ok(line)
 }
 

@@ -1,10 +1,9 @@
-// Runs over inputs in memory. The expected lines are those of RFC 8620 and of the rules in docs/rules/requests.md.
-mod accounts;
-mod edges;
+// Runs over inputs in memory. The expected lines are those of RFC 8620 and RFC 8621, and of the rules in
+// docs/rules.
+mod endings;
+mod grown;
 mod limits;
-mod messages;
-mod requests;
-mod streams;
+mod rows;
 
 use crate::ending::Status;
 use crate::run::{NoWorld, run};
@@ -15,22 +14,22 @@ use std::sync::Wait;
 use std::test::Fail;
 use std::thread::Threads;
 
-const ECHO: &str =
-    "{\"using\":[\"urn:ietf:params:jmap:core\",\"urn:ietf:params:jmap:mail\"],\"methodCalls\":[[\"Core/echo\",{},\"a\"]]}";
+// The calls that fail in a run: of the source, of the output and of the error output, each counted from 1,
+// and 0 where none does.
+#[derive(Clone, Copy)]
+struct Faults {
+    read: u64,
+    write: u64,
+    said: u64,
+}
 
-const ECHOED: &str = "{\"methodResponses\":[[\"Core/echo\",{},\"a\"]],\"sessionState\":\"0\"}\n";
+const NO_FAULTS: Faults = Faults {
+    read: 0,
+    write: 0,
+    said: 0,
+};
 
-const NOT_JSON: &str = "{\"status\":400,\"type\":\"urn:ietf:params:jmap:error:notJSON\"}\n";
-
-const NOT_REQUEST: &str = "{\"status\":400,\"type\":\"urn:ietf:params:jmap:error:notRequest\"}\n";
-
-const UNKNOWN_CAPABILITY: &str =
-    "{\"status\":400,\"type\":\"urn:ietf:params:jmap:error:unknownCapability\"}\n";
-
-const TOO_LARGE: &str =
-    "{\"limit\":\"maxSizeRequest\",\"status\":413,\"type\":\"urn:ietf:params:jmap:error:limit\"}\n";
-
-// What a run of `batch` over an input in pieces left: its status, its output and its error output.
+// What a run left: its status, its output and its error output.
 #[derive(Drop)]
 struct Ran {
     status: Status,
@@ -38,21 +37,28 @@ struct Ran {
     err: Bytes,
 }
 
-fn answer(
+// Returns the list of the one call of this number.
+fn call(alloc: Global, number: u64) -> Result<Numbers, Fail> {
+    let mut calls = Numbers::new(alloc);
+    calls.push(number)?;
+    Ok(calls)
+}
+
+// Runs the program with these arguments, over an input that is read in pieces of this size.
+fn run_over(
     rt: &(impl Threads + Wait + Sync),
     alloc: Global,
-    word: &str,
-    input: &str,
+    arguments: &str,
+    input: Vec<u8>,
     piece: usize,
-    reads: Numbers,
-    writes: Numbers,
+    faults: Faults,
 ) -> Result<Ran, Fail> {
-    let mut source = MemorySource::in_pieces(input.as_bytes().to_vec(alloc)?, piece.max(1), reads);
-    let mut out = MemorySink::failing(alloc, writes);
-    let mut err = MemorySink::new(alloc);
+    let mut source = MemorySource::in_pieces(input, piece.max(1), call(alloc, faults.read)?);
+    let mut out = MemorySink::failing(alloc, call(alloc, faults.write)?);
+    let mut err = MemorySink::failing(alloc, call(alloc, faults.said)?);
     let mut words = Vec::new(alloc);
-    for part in word.split(' ') {
-        words.push(String::from_str(alloc, part)?)?;
+    for word in arguments.split(' ') {
+        words.push(String::from_str(alloc, word)?)?;
     }
     let status = run(
         rt,
@@ -68,8 +74,4 @@ fn answer(
         out: Bytes::from_slice(alloc, out.bytes())?,
         err: Bytes::from_slice(alloc, err.bytes())?,
     })
-}
-
-fn never(alloc: Global) -> Numbers {
-    Numbers::new(alloc)
 }

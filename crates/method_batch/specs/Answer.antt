@@ -1,5 +1,5 @@
 -- What is answered to the calls of a request, one after the other (RFC 8620, section 3.4).
-use Rattle.std.specs.Prelude.{◌≡◌, ◌⊎◌, ℕ, List, [], ◌∷◌, ◌++◌, take, Bool, cond, codes, bytes_eq}
+use Rattle.std.specs.Prelude.{◌≡◌, ◌⊎◌, List, [], ◌∷◌, ◌++◌, Bool, cond, codes, bytes_eq}
 use Rattle.jm_json.specs.Call.{Call}
 use Rattle.jm_json.specs.declared.invocation.Created.{Created}
 use Rattle.jm_json.specs.declared.invocation.Replied.{Replied}
@@ -49,15 +49,45 @@ Answers core mail (c ∷ cs) before asked after =
 -- ---- of a port that goes from the state s to s' meanwhile
 
 -- one call was performed, from one progress to another
-abbrev pub HasPerformed : {S : Type 0} → (S → Call → List Created → Replied → S → Type 0) → S → S → Bool → Bool → Call → Progress → Progress → Type 0
+abbrev pub HasPerformed : {S : Type 0} → (S → Call → List Created → Replied → S → Type 0)
+    → S → S → Bool → Bool → Call → Progress → Progress → Type 0
 HasPerformed answers s s' core mail c before after =
-    (asked : List Asked) × (replied : Replied) × Runs answers s asked s' × RepliesOne core mail c before asked replied × (after ≡ after_reply before replied)
+    (asked : List Asked) × (replied : Replied) × Runs answers s asked s'
+    × RepliesOne core mail c before asked replied × (after ≡ after_reply before replied)
 
--- it was not, or it was
-abbrev pub MayHavePerformed : {S : Type 0} → (S → Call → List Created → Replied → S → Type 0) → S → S → Bool → Bool → Call → Progress → Type 0
-MayHavePerformed answers s s' core mail c before = (s' ≡ s) ⊎ ((after : Progress) × HasPerformed answers s s' core mail c before after)
+-- The port is left so by a call that ended out of memory. A call that is not asked of the port
+-- leaves it as it was.
+abbrev pub StopsPrepared : {S : Type 0} → (S → Call → List Created → S → Type 0)
+    → S → S → Preparation → List Created → Type 0
+StopsPrepared stops s s' (refused response) made = s' ≡ s
+StopsPrepared stops s s' (ready c) made = cond (is_echo c) (s' ≡ s) (stops s c made s')
 
--- the first calls were performed, and no other
-abbrev pub HasBegunCalls : {S : Type 0} → (S → Call → List Created → Replied → S → Type 0) → S → S → Bool → Bool → List Call → Progress → Type 0
-HasBegunCalls answers s s' core mail cs before =
-    (n : ℕ) × (asked : List Asked) × (after : Progress) × Runs answers s asked s' × Answers core mail (take n cs) before asked after
+-- the same of a call of a request that has come so far
+abbrev pub StopsOne : {S : Type 0} → (S → Call → List Created → S → Type 0)
+    → S → S → Bool → Bool → Call → Progress → Type 0
+StopsOne stops s s' core mail c before =
+    StopsPrepared stops s s' (preparation core mail c before.responses) before.made
+
+-- A call of a request ended out of memory: the port stopped at it, or it was performed and its
+-- responses were lost.
+abbrev pub StopsOrPerforms : {S : Type 0} → (S → Call → List Created → Replied → S → Type 0)
+    → (S → Call → List Created → S → Type 0) → S → S → Bool → Bool → Call → Progress → Type 0
+StopsOrPerforms answers stops s s' core mail c before =
+    StopsOne stops s s' core mail c before
+    ⊎ ((after : Progress) × HasPerformed answers s s' core mail c before after)
+
+-- The port is left so where the first of these calls ended out of memory. Where there is no call, it
+-- is as it was.
+abbrev pub StopsAtFirst : {S : Type 0} → (S → Call → List Created → S → Type 0)
+    → S → S → Bool → Bool → List Call → Progress → Type 0
+StopsAtFirst stops s s' core mail [] before = s' ≡ s
+StopsAtFirst stops s s' core mail (c ∷ cs) before = StopsOne stops s s' core mail c before
+
+-- Calls of a request that ended out of memory: the first ones were performed, each once and in order,
+-- the port stopped at the next one, and no other was performed.
+abbrev pub HasBegunCalls : {S : Type 0} → (S → Call → List Created → Replied → S → Type 0)
+    → (S → Call → List Created → S → Type 0) → S → S → Bool → Bool → List Call → Progress → Type 0
+HasBegunCalls {S} answers stops s s' core mail cs before =
+    (done : List Call) × (more : List Call) × (asked : List Asked) × (after : Progress) × (m : S)
+    × (cs ≡ done ++ more) × Runs answers s asked m × Answers core mail done before asked after
+    × StopsAtFirst stops m s' core mail more after

@@ -111,26 +111,39 @@ IsAnswerBy answers s s' (whole t) o = IsOutcome answers s s' t o
 abbrev pub IsAnswer : {S : Type 0} → (S → Call → List Created → Replied → S → Type 0) → S → S → List ℕ → Outcome → Type 0
 IsAnswer answers s s' bytes o = cond (nat_lt 10000000 (length bytes)) ((s' ≡ s) × IsRefusal TooLarge o) (IsAnswerBy answers s s' (reading_of bytes) o)
 
--- ---- and of one that stopped early, for want of memory: the first calls were performed, and no other
+-- ---- A request that ended out of memory: the first calls were performed, the port stopped at the next
+-- one, and no other was performed. A request that is rejected as a whole performs none.
 
-abbrev pub HasBegunRequest : {S : Type 0} → (S → Call → List Created → Replied → S → Type 0) → S → S → Request → Type 0
-HasBegunRequest answers s s' r = HasBegunCalls answers s s' (uses core_capability r.using) (uses mail_capability r.using) r.calls (beginning r.created)
+abbrev pub HasBegunRequest : {S : Type 0} → (S → Call → List Created → Replied → S → Type 0)
+    → (S → Call → List Created → S → Type 0) → S → S → Request → Type 0
+HasBegunRequest answers stops s s' r =
+    HasBegunCalls answers stops s s' (uses core_capability r.using) (uses mail_capability r.using)
+    r.calls (beginning r.created)
 
-abbrev pub HasBegunUnless : {S : Type 0} → (S → Call → List Created → Replied → S → Type 0) → S → S → Request → Option Problem → Type 0
-HasBegunUnless answers s s' r None = HasBegunRequest answers s s' r
-HasBegunUnless answers s s' r (Some p) = s' ≡ s
+abbrev pub HasBegunUnless : {S : Type 0} → (S → Call → List Created → Replied → S → Type 0)
+    → (S → Call → List Created → S → Type 0) → S → S → Request → Option Problem → Type 0
+HasBegunUnless answers stops s s' r None = HasBegunRequest answers stops s s' r
+HasBegunUnless answers stops s s' r (Some p) = s' ≡ s
 
-abbrev pub HasBegunBy : {S : Type 0} → (S → Call → List Created → Replied → S → Type 0) → S → S → Option Request → Type 0
-HasBegunBy answers s s' None = s' ≡ s
-HasBegunBy answers s s' (Some r) = HasBegunUnless answers s s' r (problem_in r)
+abbrev pub HasBegunBy : {S : Type 0} → (S → Call → List Created → Replied → S → Type 0)
+    → (S → Call → List Created → S → Type 0) → S → S → Option Request → Type 0
+HasBegunBy answers stops s s' None = s' ≡ s
+HasBegunBy answers stops s s' (Some r) = HasBegunUnless answers stops s s' r (problem_in r)
 
-abbrev pub HasBegun : {S : Type 0} → (S → Call → List Created → Replied → S → Type 0) → S → S → Tree → Type 0
-HasBegun answers s s' t = HasBegunBy answers s s' (request_of t)
+-- of a request's tree
+abbrev pub HasBegun : {S : Type 0} → (S → Call → List Created → Replied → S → Type 0)
+    → (S → Call → List Created → S → Type 0) → S → S → Tree → Type 0
+HasBegun answers stops s s' t = HasBegunBy answers stops s s' (request_of t)
 
-abbrev pub HasBegunReading : {S : Type 0} → (S → Call → List Created → Replied → S → Type 0) → S → S → Reading → Type 0
-HasBegunReading answers s s' not_json = s' ≡ s
-HasBegunReading answers s s' (not_whole path) = s' ≡ s
-HasBegunReading answers s s' (whole t) = HasBegun answers s s' t
+abbrev pub HasBegunReading : {S : Type 0} → (S → Call → List Created → Replied → S → Type 0)
+    → (S → Call → List Created → S → Type 0) → S → S → Reading → Type 0
+HasBegunReading answers stops s s' not_json = s' ≡ s
+HasBegunReading answers stops s s' (not_whole path) = s' ≡ s
+HasBegunReading answers stops s s' (whole t) = HasBegun answers stops s s' t
 
-abbrev pub HasBegunAnswer : {S : Type 0} → (S → Call → List Created → Replied → S → Type 0) → S → S → List ℕ → Type 0
-HasBegunAnswer answers s s' bytes = cond (nat_lt 10000000 (length bytes)) (s' ≡ s) (HasBegunReading answers s s' (reading_of bytes))
+-- of a request's bytes
+abbrev pub HasBegunAnswer : {S : Type 0} → (S → Call → List Created → Replied → S → Type 0)
+    → (S → Call → List Created → S → Type 0) → S → S → List ℕ → Type 0
+HasBegunAnswer answers stops s s' bytes =
+    cond (nat_lt 10000000 (length bytes)) (s' ≡ s)
+    (HasBegunReading answers stops s s' (reading_of bytes))

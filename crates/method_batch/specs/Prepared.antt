@@ -1,6 +1,6 @@
 -- What a call comes to before it is performed: its name is looked up, and then its arguments are resolved (RFC 8620, sections
 -- 3.6.2 and 3.7).
-use Rattle.std.specs.Prelude.{ℕ, List, [], ◌∷◌, Bool, false, cond, codes, Option, Some, None}
+use Rattle.std.specs.Prelude.{ℕ, List, Bool, false, cond, codes, Option, Some, None}
 use Rattle.std.specs.List.{list_any}
 use Rattle.jm_json.specs.Tree.{Tree}
 use Rattle.jm_json.specs.Find.{as_object}

@@ -19,35 +19,35 @@ use std::alloc::Global;
 // The bytes that a request may have.
 const MOST_BYTES: usize = 10000000;
 
-/// Answers the tree of a request, whose methods the port performs. After want of memory the first calls were performed, and
-/// no other.
+/// Answers the tree of a request, whose methods the port performs. If memory runs out, the first
+/// calls were performed, the port stopped at the next one, and no other was performed.
 pub fn answer_tree<P: Port>(
     alloc: Global,
     port: &mut P,
     request: &Json,
 ) -> Result<Outcome, NoMemory>
     ensures outcome { IfOk result (λ o. IsOutcome P.answers port.old port.new (tree_of request.now) o) }
-    ensures begun { OnErr result (HasBegun P.answers port.old port.new (tree_of request.now)) }
+    ensures begun { OnErr result (HasBegun P.answers P.stops port.old port.new (tree_of request.now)) }
 {
     let tree = copy(alloc, request)?;
     answer_moved(alloc, port, tree)
 }
 
-/// Answers the bytes of a request, of which there may be 10,000,000. After want of memory the first calls were performed,
-/// and no other.
+/// Answers the bytes of a request, which may be 10,000,000 bytes long. If memory runs out, the first
+/// calls were performed, the port stopped at the next one, and no other was performed.
 pub fn answer_request<P: Port>(
     alloc: Global,
     port: &mut P,
     request: &[u8],
 ) -> Result<Outcome, NoMemory>
     ensures outcome { IfOk result (λ o. IsAnswer P.answers port.old port.new request.now o) }
-    ensures begun { OnErr result (HasBegunAnswer P.answers port.old port.new request.now) }
+    ensures begun { OnErr result (HasBegunAnswer P.answers P.stops port.old port.new request.now) }
 {
     let mut scratch = Scratch::new(alloc);
     answer_request_with(alloc, &mut scratch, port, request)
 }
 
-/// The same, with room for reading that is kept from one call to the next.
+/// Answers the bytes of a request like `answer_request`, but reuses the reader's buffers.
 pub fn answer_request_with<P: Port>(
     alloc: Global,
     scratch: &mut Scratch,
@@ -55,7 +55,7 @@ pub fn answer_request_with<P: Port>(
     request: &[u8],
 ) -> Result<Outcome, NoMemory>
     ensures outcome { IfOk result (λ o. IsAnswer P.answers port.old port.new request.now o) }
-    ensures begun { OnErr result (HasBegunAnswer P.answers port.old port.new request.now) }
+    ensures begun { OnErr result (HasBegunAnswer P.answers P.stops port.old port.new request.now) }
 {
     if request.len() > MOST_BYTES {
         return Outcome::refusal(alloc, Problem::TooLarge);
@@ -70,7 +70,7 @@ pub fn answer_request_with<P: Port>(
 
 fn answer_moved<P: Port>(alloc: Global, port: &mut P, request: Json) -> Result<Outcome, NoMemory>
     ensures outcome { IfOk result (λ o. IsOutcome P.answers port.old port.new (tree_of request) o) }
-    ensures begun { OnErr result (HasBegun P.answers port.old port.new (tree_of request)) }
+    ensures begun { OnErr result (HasBegun P.answers P.stops port.old port.new (tree_of request)) }
 {
     match Request::of_tree(alloc, request)? {
         Some(request) => answer_form(alloc, port, request),
@@ -80,7 +80,7 @@ fn answer_moved<P: Port>(alloc: Global, port: &mut P, request: Json) -> Result<O
 
 fn answer_form<P: Port>(alloc: Global, port: &mut P, request: Request) -> Result<Outcome, NoMemory>
     ensures outcome { IfOk result (λ o. IsOutcomeBy P.answers port.old port.new (Some request) o) }
-    ensures begun { OnErr result (HasBegunBy P.answers port.old port.new (Some request)) }
+    ensures begun { OnErr result (HasBegunBy P.answers P.stops port.old port.new (Some request)) }
 {
     match request.problem() {
         Some(problem) => Outcome::refusal(alloc, problem),
@@ -90,7 +90,7 @@ fn answer_form<P: Port>(alloc: Global, port: &mut P, request: Request) -> Result
 
 fn answer_calls<P: Port>(alloc: Global, port: &mut P, request: Request) -> Result<Outcome, NoMemory>
     ensures outcome { IfOk result (λ o. IsResponse P.answers port.old port.new request o) }
-    ensures begun { OnErr result (HasBegunRequest P.answers port.old port.new request) }
+    ensures begun { OnErr result (HasBegunRequest P.answers P.stops port.old port.new request) }
 {
     let Request {
         using,

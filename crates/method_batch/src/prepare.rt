@@ -26,6 +26,7 @@ impl Prepared {
     /// What a call comes to behind these responses, in a request that uses the capabilities of the core and of mail, or not.
     pub(crate) fn of_call(
         alloc: Global,
+        room: &mut u64,
         core: bool,
         mail: bool,
         call: Invocation,
@@ -36,12 +37,13 @@ impl Prepared {
         if !is_allowed(core, mail, call.name.as_str()) {
             return Prepared::refusal(alloc, "unknownMethod", call.id);
         }
-        Prepared::of_known(alloc, call, responses)
+        Prepared::of_known(alloc, room, call, responses)
     }
 
     // Arguments without a reference are moved as they are.
     fn of_known(
         alloc: Global,
+        room: &mut u64,
         call: Invocation,
         responses: &[Invocation],
     ) -> Result<Prepared, NoMemory>
@@ -49,13 +51,14 @@ impl Prepared {
             ≡ by_resolution (call_of call) (resolution (call_of call).args (map call_of responses.now))) }
     {
         if has_reference(&call.args) {
-            return Prepared::resolved(alloc, call, responses);
+            return Prepared::resolved(alloc, room, call, responses);
         }
         Ok(Prepared::Ready(call))
     }
 
     fn resolved(
         alloc: Global,
+        room: &mut u64,
         call: Invocation,
         responses: &[Invocation],
     ) -> Result<Prepared, NoMemory>
@@ -63,7 +66,7 @@ impl Prepared {
             ≡ by_resolution (call_of call) (resolution (call_of call).args (map call_of responses.now))) }
     {
         let Invocation { name, args, id } = call;
-        match resolve(alloc, &args, responses) {
+        match resolve(alloc, room, &args, responses) {
             Ok(args) => Ok(Prepared::Ready(Invocation { name, args, id })),
             Err(RefFault::BadReference) => Prepared::refusal(alloc, "invalidResultReference", id),
             Err(RefFault::Both) => Prepared::refusal(alloc, "invalidArguments", id),

@@ -6,6 +6,7 @@ use crate::port::Port;
 use crate::reply::reply;
 use jm_base::NoMemory;
 use jm_json::{Invocation, Invocations, Made, Replied};
+use result_refs::MAX_REFERENCE_BYTES;
 use std::alloc::Global;
 use std::collections::VecDeque;
 
@@ -17,7 +18,7 @@ pub struct Progress {
 }
 
 impl Progress {
-    ghost use Rattle.method_batch.specs.Answer.{Asked, Runs, Answers, after_reply, HasPerformed, MayHavePerformed, HasBegunCalls};
+    ghost use Rattle.method_batch.specs.Answer.{Asked, Runs, Answers, after_reply, HasPerformed, StopsOrPerforms, HasBegunCalls};
     ghost use Rattle.method_batch.specs.Outcome.{beginning};
 
     /// The beginning of a request, which may say what was created before.
@@ -30,7 +31,8 @@ impl Progress {
         }
     }
 
-    /// Performs calls in order. After want of memory the first ones were performed, and no other.
+    /// Performs calls in order. If memory runs out, the first ones were
+    /// performed, the port stopped at the next one, and no other was performed.
     pub(crate) fn after_calls<P: Port>(
         self,
         alloc: Global,
@@ -41,12 +43,13 @@ impl Progress {
     ) -> Result<Progress, NoMemory>
         ensures done { IfOk result (λ after. (asked : List Asked) × Runs P.answers port.old asked port.new
             × Answers core mail calls self asked after) }
-        ensures begun { OnErr result (HasBegunCalls P.answers port.old port.new core mail calls self) }
+        ensures begun { OnErr result (HasBegunCalls P.answers P.stops port.old port.new core mail calls self) }
     {
         let mut progress = self;
+        let mut room = MAX_REFERENCE_BYTES;
         let mut rest = VecDeque::from_vec(calls.into_vec());
         while let Some(call) = rest.pop_front() {
-            match progress.go_on(alloc, port, core, mail, call) {
+            match progress.go_on(alloc, port, &mut room, core, mail, call) {
                 Ok(()) => {}
                 Err(refused) => return Err(refused),
             }
@@ -58,14 +61,15 @@ impl Progress {
         &mut self,
         alloc: Global,
         port: &mut P,
+        room: &mut u64,
         core: bool,
         mail: bool,
         call: Invocation,
     ) -> Result<(), NoMemory>
         ensures ok { OnOk result (HasPerformed P.answers port.old port.new core mail (call_of call) self.old self.new) }
-        ensures err { OnErr result (MayHavePerformed P.answers port.old port.new core mail (call_of call) self.old) }
+        ensures err { OnErr result (StopsOrPerforms P.answers P.stops port.old port.new core mail (call_of call) self.old) }
     {
-        match reply(alloc, port, core, mail, call, self) {
+        match reply(alloc, port, room, core, mail, call, self) {
             Ok(replied) => self.take(replied),
             Err(refused) => Err(refused),
         }

@@ -2,7 +2,7 @@
 ghost use Rattle.std.specs.Prelude.{◌≡◌, List, [], ◌∷◌, IfOk, OnErr};
 ghost use Rattle.jm_json.specs.Invoked.{call_of};
 ghost use Rattle.method_batch.specs.Prepared.{preparation_of, ready};
-ghost use Rattle.method_batch.specs.Answer.{Asked, Runs, RepliesOne, RepliesPrepared, is_echo};
+ghost use Rattle.method_batch.specs.Answer.{Asked, Runs, RepliesOne, RepliesPrepared, StopsOne, StopsPrepared, is_echo};
 
 use crate::port::Port;
 use crate::prepare::Prepared;
@@ -11,10 +11,14 @@ use jm_base::NoMemory;
 use jm_json::{Invocation, Invocations, Made, Replied};
 use std::alloc::Global;
 
+/// Returns the reply to a call of a request. What its references make is taken from the room, which is
+/// what is left for the request.
+///
 /// The reply to a call of a request that uses the capabilities of the core and of mail, or not, and that has come so far.
 pub(crate) fn reply<P: Port>(
     alloc: Global,
     port: &mut P,
+    room: &mut u64,
     core: bool,
     mail: bool,
     call: Invocation,
@@ -22,9 +26,9 @@ pub(crate) fn reply<P: Port>(
 ) -> Result<Replied, NoMemory>
     ensures replied { IfOk result (λ r. (asked : List Asked) × Runs P.answers port.old asked port.new
         × RepliesOne core mail (call_of call) before.now asked r) }
-    ensures same { OnErr result (port.new ≡ port.old) }
+    ensures stopped { OnErr result (StopsOne P.stops port.old port.new core mail (call_of call) before.now) }
 {
-    let prepared = Prepared::of_call(alloc, core, mail, call, before.responses.as_slice())?;
+    let prepared = Prepared::of_call(alloc, room, core, mail, call, before.responses.as_slice())?;
     reply_prepared(alloc, port, prepared, &before.made)
 }
 
@@ -36,7 +40,7 @@ fn reply_prepared<P: Port>(
 ) -> Result<Replied, NoMemory>
     ensures replied { IfOk result (λ r. (asked : List Asked) × Runs P.answers port.old asked port.new
         × RepliesPrepared (preparation_of prepared) made.now asked r) }
-    ensures same { OnErr result (port.new ≡ port.old) }
+    ensures stopped { OnErr result (StopsPrepared P.stops port.old port.new (preparation_of prepared) made.now) }
 {
     match prepared {
         Prepared::Refused(response) => alone(alloc, response),
@@ -52,7 +56,7 @@ fn reply_ready<P: Port>(
 ) -> Result<Replied, NoMemory>
     ensures replied { IfOk result (λ r. (asked : List Asked) × Runs P.answers port.old asked port.new
         × RepliesPrepared (ready (call_of call)) made.now asked r) }
-    ensures same { OnErr result (port.new ≡ port.old) }
+    ensures stopped { OnErr result (StopsPrepared P.stops port.old port.new (ready (call_of call)) made.now) }
 {
     if is_echo(&call) {
         return alone(alloc, call);

@@ -10,9 +10,13 @@ use std::test::Fail;
 struct Maker;
 
 impl Port for Maker {
-    ghost use Rattle.std.specs.Prelude.{◌≡◌};
+    ghost use Rattle.std.specs.Prelude.{◌≡◌, refl};
 
     ghost answers = { λ s c made r t. s ≡ t };
+
+    ghost stops = { λ s c made t. t ≡ s };
+
+    ghost stays = { λ s c made. refl };
 
     fn call(&mut self, alloc: Global, call: &Invocation, made: &Made) -> Result<Replied, NoMemory> {
         let mut args = Members::new(alloc);
@@ -42,9 +46,13 @@ impl Port for Maker {
 struct Empty;
 
 impl Port for Empty {
-    ghost use Rattle.std.specs.Prelude.{◌≡◌};
+    ghost use Rattle.std.specs.Prelude.{◌≡◌, refl};
 
     ghost answers = { λ s c made r t. s ≡ t };
+
+    ghost stops = { λ s c made t. t ≡ s };
+
+    ghost stays = { λ s c made. refl };
 
     fn call(
         &mut self,

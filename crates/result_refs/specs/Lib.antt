@@ -1,3 +1,4 @@
 pub mod References
 pub mod Explained
 pub mod Parts
+pub mod Room

@@ -4,8 +4,10 @@
 mod fault;
 mod path;
 mod references;
+mod room;
 #[cfg(test)]
 mod tests;
 
 pub use fault::RefFault;
 pub use references::resolve;
+pub use room::MAX_REFERENCE_BYTES;

@@ -9,48 +9,61 @@ ghost use Rattle.result_refs.specs.Parts.{later_parts};
 ghost use Rattle.result_refs.specs.Explained.{Fails};
 
 use crate::RefFault;
+use crate::room::copy_within;
 use jm_base::NoMemory;
-use jm_json::{Items, Json, child, copy, part_end};
+use jm_json::{Items, Json, child, part_end};
 use std::alloc::Global;
 
 // What a path names in a tree, in memory of its own.
-pub(crate) fn pick(alloc: Global, tree: &Json, path: &[u8]) -> Result<Json, RefFault>
+pub(crate) fn pick(
+    alloc: Global,
+    room: &mut u64,
+    tree: &Json,
+    path: &[u8],
+) -> Result<Json, RefFault>
     ensures { MatchResult result (λ t. picked path.now (tree_of tree.now) ≡ Some (tree_of t))
         (λ e. Fails e (picked path.now (tree_of tree.now))) }
 {
     if path.is_empty() {
-        return Ok(copy(alloc, tree)?);
+        return Ok(copy_within(alloc, tree, room)?);
     }
     if path[0] != b'/' {
         return Err(RefFault::BadReference);
     }
-    walk(alloc, tree, &path[1..])
+    walk(alloc, room, tree, &path[1..])
 }
 
 #[cycle(walk)]
-fn walk(alloc: Global, tree: &Json, path: &[u8]) -> Result<Json, RefFault>
+fn walk(alloc: Global, room: &mut u64, tree: &Json, path: &[u8]) -> Result<Json, RefFault>
     ensures { MatchResult result (λ t. walked (cut path.now) (tree_of tree.now) ≡ Some (tree_of t))
         (λ e. Fails e (walked (cut path.now) (tree_of tree.now))) }
 {
     let (part, more) = path.split_at(part_end(path));
-    take_step(alloc, tree, part, more)
+    take_step(alloc, room, tree, part, more)
 }
 
 #[cycle(walk)]
-fn take_step(alloc: Global, tree: &Json, part: &[u8], more: &[u8]) -> Result<Json, RefFault>
+fn take_step(
+    alloc: Global,
+    room: &mut u64,
+    tree: &Json,
+    part: &[u8],
+    more: &[u8],
+) -> Result<Json, RefFault>
     ensures { MatchResult result
         (λ t. step part.now (walked (later_parts more.now)) (tree_of tree.now) ≡ Some (tree_of t))
         (λ e. Fails e (step part.now (walked (later_parts more.now)) (tree_of tree.now))) }
 {
     match tree.as_list() {
-        Some(items) => take_list_step(alloc, tree, items, part, more),
-        None => take_child(alloc, tree, part, more),
+        Some(items) => take_list_step(alloc, room, tree, items, part, more),
+        None => take_child(alloc, room, tree, part, more),
     }
 }
 
 #[cycle(walk)]
 fn take_list_step(
     alloc: Global,
+    room: &mut u64,
     tree: &Json,
     items: &Items,
     part: &[u8],
@@ -62,48 +75,54 @@ fn take_list_step(
         (λ e. Fails e (step part.now (walked (later_parts more.now)) (tree_of tree.now))) }
 {
     if part == b"*".as_slice() {
-        match gather(alloc, items.as_slice(), more) {
+        match gather(alloc, room, items.as_slice(), more) {
             Ok(found) => Ok(Json::List(found)),
             Err(fault) => Err(fault),
         }
     } else {
-        take_child(alloc, tree, part, more)
+        take_child(alloc, room, tree, part, more)
     }
 }
 
 #[cycle(walk)]
-fn take_child(alloc: Global, tree: &Json, part: &[u8], more: &[u8]) -> Result<Json, RefFault>
+fn take_child(
+    alloc: Global,
+    room: &mut u64,
+    tree: &Json,
+    part: &[u8],
+    more: &[u8],
+) -> Result<Json, RefFault>
     ensures { MatchResult result
         (λ t. option_and_then (walked (later_parts more.now)) (child_of part.now (tree_of tree.now)) ≡ Some (tree_of t))
         (λ e. Fails e (option_and_then (walked (later_parts more.now)) (child_of part.now (tree_of tree.now)))) }
 {
     match child(tree, part) {
-        Some(next) => walk_on(alloc, next, more),
+        Some(next) => walk_on(alloc, room, next, more),
         None => Err(RefFault::BadReference),
     }
 }
 
 // The parts behind the first, with the slash before them, or nothing.
 #[cycle(walk)]
-fn walk_on(alloc: Global, tree: &Json, path: &[u8]) -> Result<Json, RefFault>
+fn walk_on(alloc: Global, room: &mut u64, tree: &Json, path: &[u8]) -> Result<Json, RefFault>
     ensures { MatchResult result (λ t. walked (later_parts path.now) (tree_of tree.now) ≡ Some (tree_of t))
         (λ e. Fails e (walked (later_parts path.now) (tree_of tree.now))) }
 {
     if path.is_empty() {
-        return Ok(copy(alloc, tree)?);
+        return Ok(copy_within(alloc, tree, room)?);
     }
-    walk(alloc, tree, &path[1..])
+    walk(alloc, room, tree, &path[1..])
 }
 
 #[cycle(walk)]
-fn gather(alloc: Global, items: &[Json], path: &[u8]) -> Result<Items, RefFault>
+fn gather(alloc: Global, room: &mut u64, items: &[Json], path: &[u8]) -> Result<Items, RefFault>
     ensures { MatchResult result
         (λ ts. gathered (walked (later_parts path.now)) (map tree_of items.now) ≡ Some ts)
         (λ e. Fails e (gathered (walked (later_parts path.now)) (map tree_of items.now))) }
 {
     let mut found = Items::with_room(alloc, items.len())?;
     for item in items {
-        match walk_on(alloc, item, path) {
+        match walk_on(alloc, room, item, path) {
             Ok(value) => add(&mut found, value)?,
             Err(fault) => return Err(fault),
         }

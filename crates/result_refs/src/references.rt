@@ -15,19 +15,28 @@ use std::alloc::Global;
 /// The arguments of a call in which each member whose name begins with `#` is replaced: the name loses the mark, and the value
 /// is what the reference names in the responses so far (RFC 8620, section 3.7). The first response with the id of a reference
 /// is taken, and its name must be that of the reference.
-pub fn resolve(alloc: Global, args: &Json, responses: &[Invocation]) -> Result<Json, RefFault>
+///
+/// What the references make is taken from the room, which is what is left for the request. If the room
+/// does not suffice, this ends out of memory.
+pub fn resolve(
+    alloc: Global,
+    room: &mut u64,
+    args: &Json,
+    responses: &[Invocation],
+) -> Result<Json, RefFault>
     ensures { MatchResult result
         (λ t. resolution (tree_of args.now) (map call_of responses.now) ≡ resolved (tree_of t))
         (λ e. Explains e (resolution (tree_of args.now) (map call_of responses.now))) }
 {
     match args.as_object() {
-        Some(members) => resolve_members(alloc, members, responses),
+        Some(members) => resolve_members(alloc, room, members, responses),
         None => Ok(copy(alloc, args)?),
     }
 }
 
 fn resolve_members(
     alloc: Global,
+    room: &mut u64,
     members: &Members,
     responses: &[Invocation],
 ) -> Result<Json, RefFault>
@@ -35,7 +44,7 @@ fn resolve_members(
         (λ t. by_arguments (arguments [] members.now (map call_of responses.now)) (clashes members.now members.now) ≡ resolved (tree_of t))
         (λ e. Explains e (by_arguments (arguments [] members.now (map call_of responses.now)) (clashes members.now members.now))) }
 {
-    let found = match replace_members(alloc, members.as_slice(), responses) {
+    let found = match replace_members(alloc, room, members.as_slice(), responses) {
         Ok(found) => found,
         Err(fault) => return Err(fault),
     };
@@ -47,6 +56,7 @@ fn resolve_members(
 
 fn replace_members(
     alloc: Global,
+    room: &mut u64,
     members: &[Member],
     responses: &[Invocation],
 ) -> Result<Members, RefFault>
@@ -56,7 +66,7 @@ fn replace_members(
 {
     let mut found = Members::with_room(alloc, members.len())?;
     for member in members {
-        match replace(alloc, member, responses) {
+        match replace(alloc, room, member, responses) {
             Ok(put) => found.put(put.name, put.value)?,
             Err(fault) => return Err(fault),
         }
@@ -64,13 +74,18 @@ fn replace_members(
     Ok(found)
 }
 
-fn replace(alloc: Global, member: &Member, responses: &[Invocation]) -> Result<Member, RefFault>
+fn replace(
+    alloc: Global,
+    room: &mut u64,
+    member: &Member,
+    responses: &[Invocation],
+) -> Result<Member, RefFault>
     ensures { MatchResult result
         (λ m. argument (member_of member.now) (map call_of responses.now) ≡ Some (member_of m))
         (λ e. Fails e (argument (member_of member.now) (map call_of responses.now))) }
 {
     match unmarked(member.name.as_str()) {
-        Some(name) => match refer(alloc, &member.value, responses) {
+        Some(name) => match refer(alloc, room, &member.value, responses) {
             Ok(value) => Ok(Member {
                 name: Text::from_str(alloc, name)?,
                 value,
@@ -92,18 +107,28 @@ fn unmarked(name: &str) -> Option<&str>
     name.strip_prefix('#')
 }
 
-fn refer(alloc: Global, reference: &Json, responses: &[Invocation]) -> Result<Json, RefFault>
+fn refer(
+    alloc: Global,
+    room: &mut u64,
+    reference: &Json,
+    responses: &[Invocation],
+) -> Result<Json, RefFault>
     ensures { MatchResult result
         (λ t. referred (tree_of reference.now) (map call_of responses.now) ≡ Some (tree_of t))
         (λ e. Fails e (referred (tree_of reference.now) (map call_of responses.now))) }
 {
     match reference.as_object() {
-        Some(members) => ask(alloc, members, responses),
+        Some(members) => ask(alloc, room, members, responses),
         None => Err(RefFault::BadReference),
     }
 }
 
-fn ask(alloc: Global, members: &Members, responses: &[Invocation]) -> Result<Json, RefFault>
+fn ask(
+    alloc: Global,
+    room: &mut u64,
+    members: &Members,
+    responses: &[Invocation],
+) -> Result<Json, RefFault>
     ensures { MatchResult result
         (λ t. asked members.now (map call_of responses.now) ≡ Some (tree_of t))
         (λ e. Fails e (asked members.now (map call_of responses.now))) }
@@ -117,7 +142,7 @@ fn ask(alloc: Global, members: &Members, responses: &[Invocation]) -> Result<Jso
     let Some(path) = text_of(members, "path") else {
         return Err(RefFault::BadReference);
     };
-    take(alloc, id, name, path, responses)
+    take(alloc, room, id, name, path, responses)
 }
 
 fn text_of<'a>(members: &'a Members, key: &str) -> Option<&'a Text>
@@ -131,6 +156,7 @@ fn text_of<'a>(members: &'a Members, key: &str) -> Option<&'a Text>
 
 fn take(
     alloc: Global,
+    room: &mut u64,
     id: &Text,
     name: &Text,
     path: &Text,
@@ -145,7 +171,7 @@ fn take(
             if response.name.as_str() != name.as_str() {
                 return Err(RefFault::BadReference);
             }
-            pick(alloc, &response.args, path.as_bytes())
+            pick(alloc, room, &response.args, path.as_bytes())
         }
         None => Err(RefFault::BadReference),
     }

@@ -1,5 +1,5 @@
 // Tables of references. The expected values are worked out from RFC 8620, section 3.7, and RFC 6901.
-use crate::{RefFault, resolve};
+use crate::{MAX_REFERENCE_BYTES, RefFault, resolve};
 use jm_base::Text;
 use jm_json::{Invocation, Json, read, write};
 use std::alloc::{AllocError, Global};
@@ -79,7 +79,8 @@ fn responses(alloc: Global) -> Result<Vec<Invocation>, AllocError> {
 
 // The text of what arguments become, or why they are refused.
 fn outcome(alloc: Global, args: &str) -> Result<Vec<u8>, AllocError> {
-    match resolve(alloc, &tree(alloc, args)?, &responses(alloc)?) {
+    let mut room = MAX_REFERENCE_BYTES;
+    match resolve(alloc, &mut room, &tree(alloc, args)?, &responses(alloc)?) {
         Ok(tree) => match write(alloc, &tree) {
             Ok(text) => Ok(text.into_vec()),
             Err(_) => Err(AllocError),

@@ -1,5 +1,5 @@
 // Inputs and lines at their longest.
-use super::{NOT_JSON, Ran, TOO_LARGE};
+use super::Ran;
 use crate::ending::Status;
 use crate::run::{NoWorld, run};
 use jm_base::Bytes;
@@ -62,23 +62,35 @@ fn repeats(
     })
 }
 
+const NOT_JSON: &str = "{\"status\":400,\"type\":\"urn:ietf:params:jmap:error:notJSON\"}\n";
+
+const TOO_LARGE: &str =
+    "{\"limit\":\"maxSizeRequest\",\"status\":413,\"type\":\"urn:ietf:params:jmap:error:limit\"}\n";
+
+// The arguments, the byte, how often it comes, the status, and the output. A byte of 0 is left as it is in
+// the room.
+const ROWS: &[(&str, u8, u64, u8, &str)] = &[
+    ("batch", 0, 1073741825, 14, ""),
+    ("read", 0, 50000001, 14, ""),
+    ("batch", b' ', 10000000, 0, NOT_JSON),
+    ("batch", b' ', 10000001, 0, TOO_LARGE),
+    ("batch", b'+', 10000001, 0, NOT_JSON),
+];
+
 #[test]
-fn ends_past_the_longest_input(rt: HostRuntime) -> Result<(), Fail> {
-    let longest = repeats(&rt, rt.alloc(), "batch", 0, 1073741824)?;
-    assert_eq!(rt; longest.status, Status(0));
-    let longer = repeats(&rt, rt.alloc(), "batch", 0, 1073741825)?;
-    assert_eq!(rt; longer.status, Status(14));
-    assert_eq!(rt; longer.err.as_slice(), b"too long\n".as_slice());
+fn ends_past_the_limits(rt: HostRuntime) -> Result<(), Fail> {
+    for (arguments, byte, left, status, out) in ROWS {
+        let ran = repeats(&rt, rt.alloc(), arguments, *byte, *left)?;
+        assert_eq!(rt; ran.status, Status(*status));
+        assert_eq!(rt; ran.out.as_slice(), out.as_bytes());
+    }
     Ok(())
 }
 
 #[test]
-fn refuses_a_long_line_unread(rt: HostRuntime) -> Result<(), Fail> {
-    let blank = repeats(&rt, rt.alloc(), "batch", b' ', 10000000)?;
-    assert_eq!(rt; blank.out.as_slice(), NOT_JSON.as_bytes());
-    let longer = repeats(&rt, rt.alloc(), "batch", b' ', 10000001)?;
-    assert_eq!(rt; longer.out.as_slice(), TOO_LARGE.as_bytes());
-    let upload = repeats(&rt, rt.alloc(), "batch", b'+', 10000001)?;
-    assert_eq!(rt; upload.out.as_slice(), NOT_JSON.as_bytes());
+fn takes_the_longest_input(rt: HostRuntime) -> Result<(), Fail> {
+    let ran = repeats(&rt, rt.alloc(), "batch", 0, 1073741824)?;
+    assert_eq!(rt; ran.status, Status(0));
+    assert_eq!(rt; ran.out.as_slice(), TOO_LARGE.as_bytes());
     Ok(())
 }

@@ -1,14 +1,27 @@
-use Rattle.std.proofs.Common.{ℕ, List, subst}
+use Rattle.std.proofs.Common.{refl, ℕ, List, subst}
 use Rattle.jmap_main.specs.Read.{read_out}
+use Rattle.batch_lines.specs.Input.{seen}
 use Rattle.jmap_main.specs.Ended.{Written}
-use Rattle.jmap_main.proofs.Messages.{written_begun}
+use Rattle.jmap_main.proofs.Messages.{begun_untold, written_begun, written_cause, unread_cause}
+use Rattle.jm_edge.proofs.Known.{appends_none}
 use Rattle.jmap_main.proofs.read.read_message.Goals as goal
 
 pub returns-in-Ok-clause-begun : goal.returns-in-Ok-clause-begun
 returns-in-Ok-clause-begun g c =
-    let o = g.O.Sink.held c.args.out.now in
-    let o' = g.O.Sink.held c.write_message.new.out in
-    let f = g.O.Sink.faults c.args.out.now in
-    let f' = g.O.Sink.faults c.write_message.new.out in
-    written_begun c.write_message.result (g.S.Source.left c.args.source.now) (g.S.Source.left c.take_message.new.source) o o' f f' c.in-Ok.message c.in-Ok.ensures.ok.0 c.in-Ok.ensures.ok.2
-    (subst (λ (m : List ℕ). Written c.write_message.result o o' f f' (read_out m)) c.as_slice.ensures c.write_message.ensures)
+    let v = (seen g.S.Source.left g.S.Source.faults c.args.source.now c.take_message.new.source g.O.Sink.held g.O.Sink.faults c.args.out.now c.write_message.new.out) in
+    written_begun c.write_message.result v c.in-Ok.message c.in-Ok.ensures.ok.0 c.in-Ok.ensures.ok.2
+    (subst (λ (m : List ℕ). Written c.write_message.result v.held v.held_after v.writes v.writes_after (read_out m)) c.as_slice.ensures c.write_message.ensures)
+
+pub returns-in-Ok-clause-cause : goal.returns-in-Ok-clause-cause
+returns-in-Ok-clause-cause g c =
+    let v = (seen g.S.Source.left g.S.Source.faults c.args.source.now c.take_message.new.source g.O.Sink.held g.O.Sink.faults c.args.out.now c.write_message.new.out) in
+    written_cause c.write_message.result v c.in-Ok.message c.in-Ok.ensures.ok.0 c.in-Ok.ensures.ok.1 c.in-Ok.ensures.ok.2
+    (subst (λ (m : List ℕ). Written c.write_message.result v.held v.held_after v.writes v.writes_after (read_out m)) c.as_slice.ensures c.write_message.ensures)
+
+pub returns-in-Err-clause-begun : goal.returns-in-Err-clause-begun
+returns-in-Err-clause-begun g c =
+    begun_untold (seen g.S.Source.left g.S.Source.faults c.args.source.now c.take_message.new.source g.O.Sink.held g.O.Sink.faults c.args.out.now c.args.out.now) c.in-Err.ensures.taken.0 c.in-Err.ensures.taken.1 (appends_none (g.O.Sink.held c.args.out.now))
+
+pub returns-in-Err-clause-cause : goal.returns-in-Err-clause-cause
+returns-in-Err-clause-cause g c =
+    unread_cause c.in-Err.ending (seen g.S.Source.left g.S.Source.faults c.args.source.now c.take_message.new.source g.O.Sink.held g.O.Sink.faults c.args.out.now c.args.out.now) c.in-Err.ensures.taken.0 refl c.in-Err.ensures.taken.1 c.in-Err.ensures.reason

@@ -1,6 +1,6 @@
 use Rattle.std.proofs.Common.{◌≡◌, IfOk, subst}
 use Rattle.jm_json.specs.Tree.{Tree}
-use Rattle.jmap_main.specs.Batch.{line_text}
+use Rattle.batch_lines.specs.Replies.{line_text}
 use Rattle.jmap_main.specs.Read.{read_out}
 use Rattle.jmap_main.proofs.shown.message_line.Goals as goal
 

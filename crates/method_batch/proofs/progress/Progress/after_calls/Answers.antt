@@ -18,5 +18,5 @@ loop-call-preserved g c =
 pub returns-in-Err-clause-begun : goal.returns-in-Err-clause-begun
 returns-in-Err-clause-begun g c =
     let l = c.loop-call in
-    begun g.P.Port.answers c.args.port.now l.port c.go_on.new.port c.args.core c.args.mail c.args.calls l.invariant.0 (map call_of c.pop_front.new.self.items) (call_of c.in-Some.call) l.invariant.1 c.args.self l.progress
+    begun g.P.Port.answers g.P.Port.stops c.args.port.now l.port c.go_on.new.port c.args.core c.args.mail c.args.calls l.invariant.0 (map call_of c.pop_front.new.self.items) (call_of c.in-Some.call) l.invariant.1 c.args.self l.progress g.met.P.Port.stays
     (next_call c.args.calls l.invariant.0 l.rest.items c.pop_front.new.self.items c.in-Some.call l.invariant.2 c.in-Some.ensures.items) l.invariant.3 l.invariant.4 c.in-Err.ensures.err

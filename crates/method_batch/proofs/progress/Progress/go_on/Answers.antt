@@ -4,4 +4,4 @@ use Rattle.method_batch.proofs.progress.Progress.go_on.Goals as goal
 
 pub returns-in-Ok-clause-err : goal.returns-in-Ok-clause-err
 returns-in-Ok-clause-err g c =
-    may_have g.P.Port.answers c.args.port.now c.reply.new.port c.args.core c.args.mail (call_of c.args.call) c.args.self.now c.in-Ok.replied c.take.result c.in-Ok.ensures.replied
+    may_have g.P.Port.answers g.P.Port.stops c.args.port.now c.reply.new.port c.args.core c.args.mail (call_of c.args.call) c.args.self.now c.in-Ok.replied c.take.result c.in-Ok.ensures.replied

@@ -1,0 +1,144 @@
+// The reply to one line, and the line that is held until it ends.
+ghost use Rattle.std.specs.Prelude.{◌≡◌, ◌≢◌, ◌-◌, ℕ, [], ◌∷◌, ◌++◌, length, take, IfOk, OnOk, OnErr, MatchOption};
+ghost use Rattle.jm_json.specs.Json.{tree_of};
+ghost use Rattle.batch_lines.specs.Lines.{IsOneLine};
+ghost use Rattle.batch_lines.specs.Replies.{HasBegunLine, IsLineReply, begins_with_plus, line_text};
+ghost use Rattle.batch_lines.specs.Pieces.{HasAnsweredLine, HasStopped};
+
+use crate::limits::MAX_HELD_LINE_BYTES;
+use jm_base::{Bytes, NoMemory};
+use jm_json::{Json, Scratch, write_after};
+use memchr::memchr;
+use method_batch::{Outcome, Port, Problem, answer_request_with};
+use std::alloc::Global;
+
+/// The line that ends first, and what follows its line feed.
+#[derive(Clone, Copy)]
+pub(crate) struct Cut<'a> {
+    pub line: &'a [u8],
+    pub rest: &'a [u8],
+}
+
+/// Cuts off the line that ends first.
+pub(crate) fn cut_line(bytes: &[u8]) -> Option<Cut<'_>>
+    ensures { MatchOption result (IsOneLine bytes.now)
+        (λ c. (bytes.now ≡ c.line.now ++ 10 ∷ c.rest.now) × IsOneLine c.line.now) }
+{
+    match memchr(b'\n', bytes) {
+        Some(at) => {
+            let (line, more) = bytes.split_at(at);
+            Some(Cut {
+                line,
+                rest: &more[1..],
+            })
+        }
+        None => None,
+    }
+}
+
+/// Appends bytes to a held line, as far as they count.
+pub(crate) fn hold(line: &mut Bytes, more: &[u8]) -> Result<(), NoMemory>
+    ensures ok { OnOk result (line.new ≡ line.old ++ take (MAX_HELD_LINE_BYTES - length line.old) more.now) }
+    ensures err { OnErr result (line.new ≡ line.old) }
+{
+    let count = more
+        .len()
+        .min(MAX_HELD_LINE_BYTES.saturating_sub(line.len()));
+    line.append(&more[..count])
+}
+
+/// Answers the line that is held and ends with these bytes, and begins the next line. If memory runs
+/// out, the first calls of the line were performed, or all, and a prefix of the reply was appended.
+pub(crate) fn end_line<P: Port>(
+    alloc: Global,
+    scratch: &mut Scratch,
+    port: &mut P,
+    line: &mut Bytes,
+    last: &[u8],
+    replies: &mut Bytes,
+) -> Result<(), NoMemory>
+    ensures ok { OnOk result (HasAnsweredLine P.answers port.old port.new (line.old ++ last.now) replies.old replies.new) }
+    ensures begun { OnOk result (line.new ≡ []) }
+    ensures err { OnErr result (HasStopped P.answers P.stops port.old port.new (line.old ++ last.now) replies.old replies.new) }
+{
+    if line.is_empty() {
+        return answer_line(alloc, scratch, port, last, replies);
+    }
+    match hold(line, last) {
+        Ok(()) => answer_held(alloc, scratch, port, line, replies),
+        Err(refused) => Err(refused),
+    }
+}
+
+fn answer_held<P: Port>(
+    alloc: Global,
+    scratch: &mut Scratch,
+    port: &mut P,
+    line: &mut Bytes,
+    replies: &mut Bytes,
+) -> Result<(), NoMemory>
+    ensures ok { OnOk result (HasAnsweredLine P.answers port.old port.new line.old replies.old replies.new) }
+    ensures begun { OnOk result (line.new ≡ []) }
+    ensures err { OnErr result (HasStopped P.answers P.stops port.old port.new line.old replies.old replies.new) }
+{
+    match answer_line(alloc, scratch, port, line.as_slice(), replies) {
+        Ok(()) => {
+            line.clear();
+            Ok(())
+        }
+        Err(refused) => Err(refused),
+    }
+}
+
+fn answer_line<P: Port>(
+    alloc: Global,
+    scratch: &mut Scratch,
+    port: &mut P,
+    line: &[u8],
+    replies: &mut Bytes,
+) -> Result<(), NoMemory>
+    ensures ok { OnOk result (HasAnsweredLine P.answers port.old port.new line.now replies.old replies.new) }
+    ensures err { OnErr result (HasStopped P.answers P.stops port.old port.new line.now replies.old replies.new) }
+{
+    if line.is_empty() {
+        return Ok(());
+    }
+    match answer_some(alloc, scratch, port, line) {
+        Ok(outcome) => append_line(alloc, &outcome.tree, replies),
+        Err(refused) => Err(refused),
+    }
+}
+
+/// Appends the text of a JSON value and a line feed. If memory runs out, a prefix of them is appended.
+pub fn append_line(alloc: Global, tree: &Json, line: &mut Bytes) -> Result<(), NoMemory>
+    ensures ok { OnOk result (line.new ≡ line.old ++ line_text (tree_of tree.now)) }
+    ensures err { OnErr result ((n : ℕ) × (line.new ≡ line.old ++ take n (line_text (tree_of tree.now)))) }
+{
+    match write_after(alloc, line, tree) {
+        Ok(()) => line.append(b"\n"),
+        Err(refused) => Err(refused),
+    }
+}
+
+// Answers a line that isn't empty.
+fn answer_some<P: Port>(
+    alloc: Global,
+    scratch: &mut Scratch,
+    port: &mut P,
+    line: &[u8],
+) -> Result<Outcome, NoMemory>
+    requires some { line.now ≢ [] }
+    ensures ok { IfOk result (λ o. IsLineReply P.answers port.old port.new line.now (line_text (tree_of o.tree))) }
+    ensures err { OnErr result (HasBegunLine P.answers P.stops port.old port.new line.now) }
+{
+    if begins_with_plus(line) {
+        return Outcome::refusal(alloc, Problem::NotJson);
+    }
+    answer_request_with(alloc, scratch, port, line)
+}
+
+fn begins_with_plus(line: &[u8]) -> bool
+    ensures { result ≡ begins_with_plus line.now }
+{
+    !line.is_empty() && line[0] == b'+'
+}

@@ -1,0 +1,254 @@
+// Requests with their replies, and messages with what is shown of them.
+use super::{NO_FAULTS, run_over};
+use crate::ending::Status;
+use std::test::Fail;
+
+const ECHO: &str =
+    "{\"using\":[\"urn:ietf:params:jmap:core\",\"urn:ietf:params:jmap:mail\"],\"methodCalls\":[[\"Core/echo\",{},\"a\"]]}";
+
+const ECHOED: &str = "{\"methodResponses\":[[\"Core/echo\",{},\"a\"]],\"sessionState\":\"0\"}\n";
+
+const NOT_JSON: &str = "{\"status\":400,\"type\":\"urn:ietf:params:jmap:error:notJSON\"}\n";
+
+const NOT_REQUEST: &str = "{\"status\":400,\"type\":\"urn:ietf:params:jmap:error:notRequest\"}\n";
+
+const UNKNOWN_CAPABILITY: &str =
+    "{\"status\":400,\"type\":\"urn:ietf:params:jmap:error:unknownCapability\"}\n";
+
+// The input of `batch`, and its output.
+const ANSWERED: &[(&str, &str)] = &[
+    (ECHO, ECHOED),
+    (
+        "{\"using\":[],\"methodCalls\":[]}",
+        "{\"methodResponses\":[],\"sessionState\":\"0\"}\n",
+    ),
+    ("{\"using\":[", NOT_JSON),
+    ("", ""),
+    ("\r", NOT_JSON),
+    ("+U3ViamVjdDogaGkNCg0Kb2s=", NOT_JSON),
+    ("[]", NOT_REQUEST),
+    ("{\"methodCalls\":[]}", NOT_REQUEST),
+    ("{\"using\":[1],\"methodCalls\":[]}", NOT_REQUEST),
+    ("{\"using\":[],\"methodCalls\":[[\"a\",{}]]}", NOT_REQUEST),
+    (
+        "{\"using\":[],\"methodCalls\":[[\"a\",[],\"0\"]]}",
+        NOT_REQUEST,
+    ),
+    ("{\"using\":[],\"methodCalls\":[],\"x\":1.5}", NOT_REQUEST),
+    (
+        "{\"using\":[],\"methodCalls\":[],\"createdIds\":{\"x\":\"M7\"}}",
+        "{\"createdIds\":{\"x\":\"M7\"},\"methodResponses\":[],\"sessionState\":\"0\"}\n",
+    ),
+    (
+        "{\"using\":[],\"methodCalls\":[],\"createdIds\":null}",
+        NOT_REQUEST,
+    ),
+    (
+        "{\"using\":[\"urn:x\"],\"methodCalls\":[]}",
+        UNKNOWN_CAPABILITY,
+    ),
+    (
+        "{\"using\":[],\"methodCalls\":[[\"Core/echo\",{},\"0\"]]}",
+        "{\"methodResponses\":[[\"error\",{\"type\":\"unknownMethod\"},\"0\"]],\"sessionState\":\"0\"}\n",
+    ),
+    (
+        "{\"using\":[\"urn:ietf:params:jmap:mail\"],\"methodCalls\":[[\"Mailbox/changes\",{\"accountId\":\"A1\"},\"0\"]]}",
+        "{\"methodResponses\":[[\"error\",{\"type\":\"unknownMethod\"},\"0\"]],\"sessionState\":\"0\"}\n",
+    ),
+    (
+        "{\"using\":[\"urn:ietf:params:jmap:core\"],\"methodCalls\":[[\"Core/echo\",{\"b\":1,\"a\":\"\\u00e9\"},\"0\"],[\"No/such\",{},\"1\"]]}",
+        "{\"methodResponses\":[[\"Core/echo\",{\"a\":\"\u{e9}\",\"b\":1},\"0\"],[\"error\",{\"type\":\"unknownMethod\"},\"1\"]],\"sessionState\":\"0\"}\n",
+    ),
+    // A line that is no JSON, and the one after it.
+    (
+        "{\"using\":[\n{\"using\":[\"urn:ietf:params:jmap:core\",\"urn:ietf:params:jmap:mail\"],\"methodCalls\":[[\"Core/echo\",{},\"a\"]]}",
+        "{\"status\":400,\"type\":\"urn:ietf:params:jmap:error:notJSON\"}\n{\"methodResponses\":[[\"Core/echo\",{},\"a\"]],\"sessionState\":\"0\"}\n",
+    ),
+    // References to earlier calls.
+    (
+        "{\"using\":[\"urn:ietf:params:jmap:core\",\"urn:ietf:params:jmap:mail\"],\"methodCalls\":[[\"Core/echo\",{\"a/b\":7,\"list\":[{\"k\":[\"x\",\"y\"],\"threadId\":\"a\"},{\"k\":[\"z\"],\"threadId\":\"b\"}]},\"0\"],[\"Core/echo\",{\"#v\":{\"resultOf\":\"0\",\"name\":\"Core/echo\",\"path\":\"/list/*/threadId\"}},\"1\"]]}",
+        "{\"methodResponses\":[[\"Core/echo\",{\"a/b\":7,\"list\":[{\"k\":[\"x\",\"y\"],\"threadId\":\"a\"},{\"k\":[\"z\"],\"threadId\":\"b\"}]},\"0\"],[\"Core/echo\",{\"v\":[\"a\",\"b\"]},\"1\"]],\"sessionState\":\"0\"}\n",
+    ),
+    (
+        "{\"using\":[\"urn:ietf:params:jmap:core\",\"urn:ietf:params:jmap:mail\"],\"methodCalls\":[[\"Core/echo\",{\"a/b\":7,\"list\":[{\"k\":[\"x\",\"y\"],\"threadId\":\"a\"},{\"k\":[\"z\"],\"threadId\":\"b\"}]},\"0\"],[\"Core/echo\",{\"#v\":{\"resultOf\":\"0\",\"name\":\"Core/echo\",\"path\":\"/list/*/k\"}},\"1\"]]}",
+        "{\"methodResponses\":[[\"Core/echo\",{\"a/b\":7,\"list\":[{\"k\":[\"x\",\"y\"],\"threadId\":\"a\"},{\"k\":[\"z\"],\"threadId\":\"b\"}]},\"0\"],[\"Core/echo\",{\"v\":[\"x\",\"y\",\"z\"]},\"1\"]],\"sessionState\":\"0\"}\n",
+    ),
+    (
+        "{\"using\":[\"urn:ietf:params:jmap:core\",\"urn:ietf:params:jmap:mail\"],\"methodCalls\":[[\"Core/echo\",{\"a/b\":7,\"list\":[{\"k\":[\"x\",\"y\"],\"threadId\":\"a\"},{\"k\":[\"z\"],\"threadId\":\"b\"}]},\"0\"],[\"Core/echo\",{\"#v\":{\"resultOf\":\"0\",\"name\":\"Core/echo\",\"path\":\"/a~1b\"}},\"1\"]]}",
+        "{\"methodResponses\":[[\"Core/echo\",{\"a/b\":7,\"list\":[{\"k\":[\"x\",\"y\"],\"threadId\":\"a\"},{\"k\":[\"z\"],\"threadId\":\"b\"}]},\"0\"],[\"Core/echo\",{\"v\":7},\"1\"]],\"sessionState\":\"0\"}\n",
+    ),
+    // An argument that is given with and without the mark, and a reference to the error.
+    (
+        "{\"using\":[\"urn:ietf:params:jmap:core\",\"urn:ietf:params:jmap:mail\"],\"methodCalls\":[[\"Core/echo\",{\"v\":1},\"0\"],[\"Core/echo\",{\"x\":1,\"#x\":{\"resultOf\":\"0\",\"name\":\"Core/echo\",\"path\":\"/v\"}},\"1\"],[\"Core/echo\",{\"#x\":{\"resultOf\":\"1\",\"name\":\"Core/echo\",\"path\":\"/x\"}},\"2\"]]}",
+        "{\"methodResponses\":[[\"Core/echo\",{\"v\":1},\"0\"],[\"error\",{\"type\":\"invalidArguments\"},\"1\"],[\"error\",{\"type\":\"invalidResultReference\"},\"2\"]],\"sessionState\":\"0\"}\n",
+    ),
+    // A mailbox is made; its name is taken; an account that isn't there; and the mailbox is shown.
+    (
+        "{\"using\":[\"urn:ietf:params:jmap:core\",\"urn:ietf:params:jmap:mail\"],\"methodCalls\":[[\"Mailbox/set\",{\"accountId\":\"A1\",\"create\":{\"a\":{\"name\":\"A\"}}},\"0\"]]}\n{\"using\":[\"urn:ietf:params:jmap:core\",\"urn:ietf:params:jmap:mail\"],\"methodCalls\":[[\"Mailbox/set\",{\"accountId\":\"A1\",\"create\":{\"a\":{\"name\":\"A\"}}},\"0\"]]}\n{\"using\":[\"urn:ietf:params:jmap:core\",\"urn:ietf:params:jmap:mail\"],\"methodCalls\":[[\"Mailbox/set\",{\"accountId\":\"A2\",\"create\":{\"a\":{\"name\":\"A\"}}},\"0\"],[\"Mailbox/get\",{\"accountId\":\"A1\",\"ids\":[\"M1\",\"M2\"],\"properties\":[\"name\",\"parentId\"]},\"1\"]]}\n",
+        "{\"methodResponses\":[[\"Mailbox/set\",{\"accountId\":\"A1\",\"created\":{\"a\":{\"id\":\"M1\",\"isSubscribed\":true,\"myRights\":{\"mayAddItems\":true,\"mayCreateChild\":true,\"mayDelete\":true,\"mayReadItems\":true,\"mayRemoveItems\":true,\"mayRename\":true,\"maySetKeywords\":true,\"maySetSeen\":true,\"maySubmit\":false},\"parentId\":null,\"role\":null,\"sortOrder\":0,\"totalEmails\":0,\"totalThreads\":0,\"unreadEmails\":0,\"unreadThreads\":0}},\"destroyed\":null,\"newState\":\"1\",\"notCreated\":null,\"notDestroyed\":null,\"notUpdated\":null,\"oldState\":\"0\",\"updated\":null},\"0\"]],\"sessionState\":\"0\"}\n{\"methodResponses\":[[\"Mailbox/set\",{\"accountId\":\"A1\",\"created\":null,\"destroyed\":null,\"newState\":\"1\",\"notCreated\":{\"a\":{\"properties\":[\"name\"],\"type\":\"invalidProperties\"}},\"notDestroyed\":null,\"notUpdated\":null,\"oldState\":\"1\",\"updated\":null},\"0\"]],\"sessionState\":\"0\"}\n{\"methodResponses\":[[\"error\",{\"type\":\"accountNotFound\"},\"0\"],[\"Mailbox/get\",{\"accountId\":\"A1\",\"list\":[{\"id\":\"M1\",\"name\":\"A\",\"parentId\":null}],\"notFound\":[\"M2\"],\"state\":\"1\"},\"1\"]],\"sessionState\":\"0\"}\n",
+    ),
+    // A mailbox within one that is made by the same set, and one within none.
+    (
+        "{\"using\":[\"urn:ietf:params:jmap:core\",\"urn:ietf:params:jmap:mail\"],\"methodCalls\":[[\"Mailbox/set\",{\"accountId\":\"A1\",\"create\":{\"a\":{\"name\":\"A\",\"parentId\":\"#b\"},\"b\":{\"name\":\"B\"},\"c\":{\"name\":\"C\",\"parentId\":\"#z\"}}},\"0\"]],\"createdIds\":{\"x\":\"M7\"}}\n",
+        "{\"createdIds\":{\"a\":\"M2\",\"b\":\"M1\",\"x\":\"M7\"},\"methodResponses\":[[\"Mailbox/set\",{\"accountId\":\"A1\",\"created\":{\"a\":{\"id\":\"M2\",\"isSubscribed\":true,\"myRights\":{\"mayAddItems\":true,\"mayCreateChild\":true,\"mayDelete\":true,\"mayReadItems\":true,\"mayRemoveItems\":true,\"mayRename\":true,\"maySetKeywords\":true,\"maySetSeen\":true,\"maySubmit\":false},\"role\":null,\"sortOrder\":0,\"totalEmails\":0,\"totalThreads\":0,\"unreadEmails\":0,\"unreadThreads\":0},\"b\":{\"id\":\"M1\",\"isSubscribed\":true,\"myRights\":{\"mayAddItems\":true,\"mayCreateChild\":true,\"mayDelete\":true,\"mayReadItems\":true,\"mayRemoveItems\":true,\"mayRename\":true,\"maySetKeywords\":true,\"maySetSeen\":true,\"maySubmit\":false},\"parentId\":null,\"role\":null,\"sortOrder\":0,\"totalEmails\":0,\"totalThreads\":0,\"unreadEmails\":0,\"unreadThreads\":0}},\"destroyed\":null,\"newState\":\"2\",\"notCreated\":{\"c\":{\"properties\":[\"parentId\"],\"type\":\"invalidProperties\"}},\"notDestroyed\":null,\"notUpdated\":null,\"oldState\":\"0\",\"updated\":null},\"0\"]],\"sessionState\":\"0\"}\n",
+    ),
+    // One set makes a mailbox, the next one within it, by its creation id; a get shows both, and the next
+    // one those of its list.
+    (
+        "{\"using\":[\"urn:ietf:params:jmap:core\",\"urn:ietf:params:jmap:mail\"],\"methodCalls\":[[\"Mailbox/set\",{\"accountId\":\"A1\",\"create\":{\"a\":{\"name\":\"A\"}}},\"0\"],[\"Mailbox/set\",{\"accountId\":\"A1\",\"create\":{\"b\":{\"name\":\"B\",\"parentId\":\"#a\"}}},\"1\"],[\"Mailbox/get\",{\"accountId\":\"A1\",\"ids\":null,\"properties\":[\"name\",\"parentId\"]},\"2\"],[\"Mailbox/get\",{\"accountId\":\"A1\",\"#ids\":{\"resultOf\":\"2\",\"name\":\"Mailbox/get\",\"path\":\"/list/*/id\"},\"properties\":[\"name\"]},\"3\"]]}\n",
+        "{\"methodResponses\":[[\"Mailbox/set\",{\"accountId\":\"A1\",\"created\":{\"a\":{\"id\":\"M1\",\"isSubscribed\":true,\"myRights\":{\"mayAddItems\":true,\"mayCreateChild\":true,\"mayDelete\":true,\"mayReadItems\":true,\"mayRemoveItems\":true,\"mayRename\":true,\"maySetKeywords\":true,\"maySetSeen\":true,\"maySubmit\":false},\"parentId\":null,\"role\":null,\"sortOrder\":0,\"totalEmails\":0,\"totalThreads\":0,\"unreadEmails\":0,\"unreadThreads\":0}},\"destroyed\":null,\"newState\":\"1\",\"notCreated\":null,\"notDestroyed\":null,\"notUpdated\":null,\"oldState\":\"0\",\"updated\":null},\"0\"],[\"Mailbox/set\",{\"accountId\":\"A1\",\"created\":{\"b\":{\"id\":\"M2\",\"isSubscribed\":true,\"myRights\":{\"mayAddItems\":true,\"mayCreateChild\":true,\"mayDelete\":true,\"mayReadItems\":true,\"mayRemoveItems\":true,\"mayRename\":true,\"maySetKeywords\":true,\"maySetSeen\":true,\"maySubmit\":false},\"role\":null,\"sortOrder\":0,\"totalEmails\":0,\"totalThreads\":0,\"unreadEmails\":0,\"unreadThreads\":0}},\"destroyed\":null,\"newState\":\"2\",\"notCreated\":null,\"notDestroyed\":null,\"notUpdated\":null,\"oldState\":\"1\",\"updated\":null},\"1\"],[\"Mailbox/get\",{\"accountId\":\"A1\",\"list\":[{\"id\":\"M1\",\"name\":\"A\",\"parentId\":null},{\"id\":\"M2\",\"name\":\"B\",\"parentId\":\"M1\"}],\"notFound\":[],\"state\":\"2\"},\"2\"],[\"Mailbox/get\",{\"accountId\":\"A1\",\"list\":[{\"id\":\"M1\",\"name\":\"A\"},{\"id\":\"M2\",\"name\":\"B\"}],\"notFound\":[],\"state\":\"2\"},\"3\"]],\"sessionState\":\"0\"}\n",
+    ),
+];
+
+// A call alone, and the type of its error.
+const ERRORS: &[(&str, &str)] = &[
+    ("[\"Mailbox/get\",{},\"0\"]", "invalidArguments"),
+    (
+        "[\"Mailbox/get\",{\"accountId\":7},\"0\"]",
+        "invalidArguments",
+    ),
+    (
+        "[\"Mailbox/get\",{\"accountId\":\"a1\"},\"0\"]",
+        "accountNotFound",
+    ),
+    (
+        "[\"Email/copy\",{\"accountId\":\"A1\"},\"0\"]",
+        "invalidArguments",
+    ),
+    (
+        "[\"Email/copy\",{\"accountId\":\"A2\"},\"0\"]",
+        "invalidArguments",
+    ),
+    (
+        "[\"Thread/get\",{\"accountId\":\"A2\"},\"0\"]",
+        "accountNotFound",
+    ),
+    (
+        "[\"Email/copy\",{\"accountId\":\"A2\",\"fromAccountId\":\"A3\"},\"0\"]",
+        "accountNotFound",
+    ),
+    (
+        "[\"Email/copy\",{\"accountId\":\"A1\",\"fromAccountId\":\"A3\"},\"0\"]",
+        "fromAccountNotFound",
+    ),
+    (
+        "[\"Blob/copy\",{\"accountId\":\"A1\",\"fromAccountId\":\"A1\"},\"0\"]",
+        "invalidArguments",
+    ),
+    (
+        "[\"Mailbox/get\",{\"accountId\":\"A1\",\"ids\":7},\"0\"]",
+        "invalidArguments",
+    ),
+    (
+        "[\"Mailbox/set\",{\"accountId\":\"A1\",\"ifInState\":\"1\"},\"0\"]",
+        "stateMismatch",
+    ),
+    (
+        "[\"Thread/get\",{\"accountId\":\"A1\"},\"0\"]",
+        "unknownMethod",
+    ),
+];
+
+// A message, and a part of the line that `read` shows of it.
+const SHOWN: &[(&str, &str)] = &[
+    (
+        "Subject: hi\r\n\r\nok",
+        "{\"attachments\":[],\"bcc\":null,\"bodyStructure\":{\"blobId\":\"b1-1\",\"charset\":\"us-ascii\",\"cid\":null,\"disposition\":null,\"language\":null,\"location\":null,\"name\":null,\"partId\":\"1\",\"size\":2,\"type\":\"text/plain\"},\"bodyValues\":{\"1\":{\"isEncodingProblem\":false,\"isTruncated\":false,\"value\":\"ok\"}},\"cc\":null,\"from\":null,\"hasAttachment\":false,\"htmlBody\":[{\"blobId\":\"b1-1\",\"charset\":\"us-ascii\",\"cid\":null,\"disposition\":null,\"language\":null,\"location\":null,\"name\":null,\"partId\":\"1\",\"size\":2,\"type\":\"text/plain\"}],\"inReplyTo\":null,\"messageId\":null,\"preview\":\"ok\",\"references\":null,\"replyTo\":null,\"sender\":null,\"sentAt\":null,\"subject\":\"hi\",\"textBody\":[{\"blobId\":\"b1-1\",\"charset\":\"us-ascii\",\"cid\":null,\"disposition\":null,\"language\":null,\"location\":null,\"name\":null,\"partId\":\"1\",\"size\":2,\"type\":\"text/plain\"}],\"to\":null}\n",
+    ),
+    ("", "\"size\":0,\"type\":\"text/plain\"}"),
+    // Encoded words, an address, and no body.
+    (
+        "Subject: =?utf-8?Q?a_b?=\n =?utf-8?B?Yw==?=\nFrom: Ann <a@x>",
+        "\"subject\":\"a bc\"",
+    ),
+    (
+        "Subject: =?utf-8?Q?a_b?=\n =?utf-8?B?Yw==?=\nFrom: Ann <a@x>",
+        "\"from\":[{\"email\":\"a@x\",\"name\":\"Ann\"}]",
+    ),
+    (
+        "Subject: =?utf-8?Q?a_b?=\n =?utf-8?B?Yw==?=\nFrom: Ann <a@x>",
+        "\"bodyStructure\":{\"blobId\":\"b1-1\",\"charset\":\"us-ascii\",\"cid\":null,\"disposition\":null,\"language\":null,\"location\":null,\"name\":null,\"partId\":\"1\",\"size\":0,\"type\":\"text/plain\"}",
+    ),
+    (
+        "Subject: =?utf-8?Q?a_b?=\n =?utf-8?B?Yw==?=\nFrom: Ann <a@x>",
+        "\"preview\":\"\"",
+    ),
+    // The body lists of RFC 8621, 4.1.4.
+    (
+        "Content-Type: multipart/mixed; boundary=m\n\n--m\nContent-Type: multipart/alternative; boundary=a\n\n--a\n\none\n--a\nContent-Type: multipart/related; boundary=r\n\n--r\nContent-Type: text/html\n\n<b>2</b>\n--r\nContent-Type: image/png\nContent-Disposition: inline\n\n333\n--r--\n--a--\n--m\nContent-Type: image/jpeg\nContent-Disposition: attachment\n\n4444\n--m--\n",
+        "\"textBody\":[{\"blobId\":\"b1-1\",\"charset\":\"us-ascii\",\"cid\":null,\"disposition\":null,\"language\":null,\"location\":null,\"name\":null,\"partId\":\"1\",\"size\":3,\"type\":\"text/plain\"}]",
+    ),
+    (
+        "Content-Type: multipart/mixed; boundary=m\n\n--m\nContent-Type: multipart/alternative; boundary=a\n\n--a\n\none\n--a\nContent-Type: multipart/related; boundary=r\n\n--r\nContent-Type: text/html\n\n<b>2</b>\n--r\nContent-Type: image/png\nContent-Disposition: inline\n\n333\n--r--\n--a--\n--m\nContent-Type: image/jpeg\nContent-Disposition: attachment\n\n4444\n--m--\n",
+        "\"htmlBody\":[{\"blobId\":\"b1-2\",\"charset\":\"us-ascii\",\"cid\":null,\"disposition\":null,\"language\":null,\"location\":null,\"name\":null,\"partId\":\"2\",\"size\":8,\"type\":\"text/html\"}]",
+    ),
+    (
+        "Content-Type: multipart/mixed; boundary=m\n\n--m\nContent-Type: multipart/alternative; boundary=a\n\n--a\n\none\n--a\nContent-Type: multipart/related; boundary=r\n\n--r\nContent-Type: text/html\n\n<b>2</b>\n--r\nContent-Type: image/png\nContent-Disposition: inline\n\n333\n--r--\n--a--\n--m\nContent-Type: image/jpeg\nContent-Disposition: attachment\n\n4444\n--m--\n",
+        "\"attachments\":[{\"blobId\":\"b1-3\",\"charset\":null,\"cid\":null,\"disposition\":\"inline\",\"language\":null,\"location\":null,\"name\":null,\"partId\":\"3\",\"size\":3,\"type\":\"image/png\"},{\"blobId\":\"b1-4\",\"charset\":null,\"cid\":null,\"disposition\":\"attachment\",\"language\":null,\"location\":null,\"name\":null,\"partId\":\"4\",\"size\":4,\"type\":\"image/jpeg\"}]",
+    ),
+    (
+        "Content-Type: multipart/mixed; boundary=m\n\n--m\nContent-Type: multipart/alternative; boundary=a\n\n--a\n\none\n--a\nContent-Type: multipart/related; boundary=r\n\n--r\nContent-Type: text/html\n\n<b>2</b>\n--r\nContent-Type: image/png\nContent-Disposition: inline\n\n333\n--r--\n--a--\n--m\nContent-Type: image/jpeg\nContent-Disposition: attachment\n\n4444\n--m--\n",
+        "\"hasAttachment\":true",
+    ),
+    // A delimiter line with transport padding, and a line that is none.
+    (
+        "Content-Type: multipart/mixed; boundary=a\n\n--a\n\none\n--ab\n--a \n\ntwo",
+        "\"partId\":\"1\",\"size\":8,\"type\":\"text/plain\"}",
+    ),
+    (
+        "Content-Type: multipart/mixed; boundary=a\n\n--a\n\none\n--ab\n--a \n\ntwo",
+        "\"partId\":\"2\",\"size\":3,\"type\":\"text/plain\"}",
+    ),
+    (
+        "Content-Type: multipart/mixed; boundary=a\n\n--a\n\none\n--ab\n--a \n\ntwo",
+        "\"value\":\"one\\n--ab\"",
+    ),
+    (
+        "Content-Type: image/PNG\nContent-Transfer-Encoding: base64\n\nAAEC\n",
+        "\"size\":3,\"type\":\"image/png\"}",
+    ),
+];
+
+#[test]
+fn answers_requests(rt: HostRuntime) -> Result<(), Fail> {
+    for (input, replies) in ANSWERED {
+        let input = input.as_bytes().to_vec(rt.alloc())?;
+        let ran = run_over(&rt, rt.alloc(), "batch", input, 7, NO_FAULTS)?;
+        assert_eq!(rt; ran.status, Status(0));
+        assert_eq!(rt; ran.out.as_slice(), replies.as_bytes());
+    }
+    Ok(())
+}
+
+#[test]
+fn names_what_is_wrong_with_a_call(rt: HostRuntime) -> Result<(), Fail> {
+    for (call, kind) in ERRORS {
+        let input = format!(in rt.alloc();
+            "{{\"using\":[\"urn:ietf:params:jmap:core\",\"urn:ietf:params:jmap:mail\"],\"methodCalls\":[{call}]}}"
+        )?;
+        let replies = format!(in rt.alloc();
+            "{{\"methodResponses\":[[\"error\",{{\"type\":\"{kind}\"}},\"0\"]],\"sessionState\":\"0\"}}\n"
+        )?;
+        let input = input.as_bytes().to_vec(rt.alloc())?;
+        let ran = run_over(&rt, rt.alloc(), "batch", input, 64, NO_FAULTS)?;
+        assert_eq!(rt; ran.out.as_slice(), replies.as_bytes());
+    }
+    Ok(())
+}
+
+#[test]
+fn shows_messages(rt: HostRuntime) -> Result<(), Fail> {
+    for (message, part) in SHOWN {
+        let input = message.as_bytes().to_vec(rt.alloc())?;
+        let ran = run_over(&rt, rt.alloc(), "read", input, 40000, NO_FAULTS)?;
+        assert_eq!(rt; ran.status, Status(0));
+        assert!(rt;
+            ran.out
+                .as_slice()
+                .windows(part.len().max(1))
+                .any(|w| w == part.as_bytes()),
+            "{part}"
+        );
+    }
+    Ok(())
+}

@@ -1,0 +1,21 @@
+-- The bytes that are counted for a copy of a JSON value: 64 for each value in it, and those of its strings
+-- and of its keys.
+use Rattle.std.specs.Prelude.{ℕ, ◌+◌, length}
+use Rattle.jm_json.specs.Tree.{Tree, null, boolean, number, text, list, object, Trees, no_trees, tree, Fields, no_fields, field}
+
+abbrev mutual
+  pub value_bytes : Tree → ℕ
+  value_bytes null = 64
+  value_bytes (boolean b) = 64
+  value_bytes (number z) = 64
+  value_bytes (text s) = 64 + length s
+  value_bytes (list ts) = 64 + items_bytes ts
+  value_bytes (object fs) = 64 + members_bytes fs
+
+  pub items_bytes : Trees → ℕ
+  items_bytes no_trees = 0
+  items_bytes (tree t ts) = value_bytes t + items_bytes ts
+
+  pub members_bytes : Fields → ℕ
+  members_bytes no_fields = 0
+  members_bytes (field k t fs) = (length k + value_bytes t) + members_bytes fs

@@ -1,0 +1,88 @@
+// The room that is left for what references make, and copies that take from it.
+ghost use Rattle.std.specs.Prelude.{◌≡◌, ◌+◌, ⊤, map, IfOk, OnOk, MatchOption};
+ghost use Rattle.jm_json.specs.Tree.{trees_of, fields_of};
+ghost use Rattle.jm_json.specs.Json.{tree_of, member_of};
+ghost use Rattle.result_refs.specs.Room.{value_bytes, items_bytes, members_bytes};
+
+use jm_base::NoMemory;
+use jm_json::{Json, Member, copy};
+use std::alloc::Global;
+
+/// The most bytes that what the references of one request make may have in all, as they are counted:
+/// 64 MiB.
+pub const MAX_REFERENCE_BYTES: u64 = 67108864;
+
+// The bytes that are counted for each value, besides those of its strings and keys.
+const VALUE_BYTES: u64 = 64;
+
+/// Copies a JSON value, and takes its bytes from the room. If the room does not suffice, this ends out of
+/// memory, and nothing is copied.
+pub(crate) fn copy_within(alloc: Global, tree: &Json, room: &mut u64) -> Result<Json, NoMemory>
+    ensures copy { IfOk result (λ t. t ≡ tree.now) }
+    ensures room { OnOk result (room.new + value_bytes (tree_of tree.now) ≡ room.old) }
+{
+    match left_after(tree, *room) {
+        Some(left) => {
+            let copied = copy(alloc, tree)?;
+            *room = left;
+            Ok(copied)
+        }
+        None => Err(NoMemory),
+    }
+}
+
+// Returns the room that is left once a value has been taken from it, and none where it does not suffice.
+#[cycle(room)]
+fn left_after(tree: &Json, room: u64) -> Option<u64>
+    ensures { MatchOption result ⊤ (λ left. left + value_bytes (tree_of tree.now) ≡ room) }
+{
+    if room < VALUE_BYTES {
+        return None;
+    }
+    let left = room - VALUE_BYTES;
+    match tree {
+        Json::Text(text) => {
+            let length = text.as_bytes().len() as u64;
+            if left < length {
+                None
+            } else {
+                Some(left - length)
+            }
+        }
+        Json::List(items) => left_after_items(items.as_slice(), left),
+        Json::Object(members) => left_after_members(members.as_slice(), left),
+        _ => Some(left),
+    }
+}
+
+#[cycle(room)]
+fn left_after_items(items: &[Json], room: u64) -> Option<u64>
+    ensures { MatchOption result ⊤ (λ left. left + items_bytes (trees_of (map tree_of items.now)) ≡ room) }
+{
+    let mut left = room;
+    for item in items {
+        match left_after(item, left) {
+            Some(rest) => left = rest,
+            None => return None,
+        }
+    }
+    Some(left)
+}
+
+#[cycle(room)]
+fn left_after_members(members: &[Member], room: u64) -> Option<u64>
+    ensures { MatchOption result ⊤ (λ left. left + members_bytes (fields_of (map member_of members.now)) ≡ room) }
+{
+    let mut left = room;
+    for member in members {
+        let length = member.name.as_bytes().len() as u64;
+        if left < length {
+            return None;
+        }
+        match left_after(&member.value, left - length) {
+            Some(rest) => left = rest,
+            None => return None,
+        }
+    }
+    Some(left)
+}
