@@ -1,0 +1,23 @@
+// The limits of a message.
+
+/// The most bytes of a head, empty lines before it included. A longer one is answered with status 431.
+pub const MAX_HEAD_BYTES: usize = 16_384;
+
+/// The most fields of a head, and the most lines between its first line and the empty line. A head of
+/// more is answered with status 431.
+pub const MAX_HEAD_FIELDS: usize = 64;
+
+/// The most bytes of a chunk line, its LF included. A longer one is answered with status 400.
+pub const MAX_CHUNK_LINE_BYTES: usize = 1024;
+
+/// The most digits of a chunk's size.
+pub const MAX_CHUNK_DIGITS: usize = 16;
+
+/// The most bytes after the last chunk, the empty line included. More are answered with status 400.
+pub const MAX_TRAILER_BYTES: usize = 16_384;
+
+/// The most bytes of the body of an upload. A longer one is answered with status 413.
+pub const MAX_UPLOAD_BYTES: usize = 50_000_000;
+
+/// The most bytes of the body of any other request. A longer one is answered with status 413.
+pub const MAX_REQUEST_BYTES: usize = 10_000_000;
