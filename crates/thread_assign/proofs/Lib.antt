@@ -1,0 +1,5 @@
+pub mod Found
+pub mod Entries
+pub mod Links
+pub mod Lesser
+pub mod Related
