@@ -1,4 +1,4 @@
-"""Commits of edits that put emails, made from a seed: their bytes as docs/rules/kept-bytes.md spells them, and how long Python's `pickle` takes for
+"""Commits of edits that put emails, made from a seed: their bytes by docs/rules/kept-bytes.md, and how long Python's `pickle` takes for
 the same records."""
 import gc
 import pickle
@@ -8,38 +8,38 @@ import struct
 import time
 
 
-def number(value):
+def encode_number(value):
     return struct.pack(">Q", value)
 
 
-def listed(items, spell):
-    return number(len(items)) + b"".join(map(spell, items))
+def encode_list(items, encode):
+    return encode_number(len(items)) + b"".join(map(encode, items))
 
 
-def spelled_text(text):
+def encode_text(text):
     data = text.encode()
-    return number(len(data)) + data
+    return encode_number(len(data)) + data
 
 
-def spelled_date(seconds):
+def encode_date(seconds):
     """A date: its seconds since the beginning of the year 1, from those since 1970."""
-    return number(seconds + 62135596800)
+    return encode_number(seconds + 62135596800)
 
 
-def spelled_edit(edit):
+def encode_edit(edit):
     """The bytes of an edit that puts an email, as docs/rules/kept-bytes.md says."""
     tag, (own, thread, blob, inside, keywords, size, received, summary), was = edit
     links, subject, author, receiver, sent, attachment = summary
     return b"".join((
-        bytes([tag]), number(own), number(thread), number(blob), listed(inside, number), listed(keywords, spelled_text), number(size), spelled_date(received),
-        listed(links, spelled_text), spelled_text(subject), spelled_text(author), spelled_text(receiver),
-        b"\0" if sent is None else b"\1" + spelled_date(sent), bytes([attachment]), bytes([was]),
+        bytes([tag]), encode_number(own), encode_number(thread), encode_number(blob), encode_list(inside, encode_number), encode_list(keywords, encode_text), encode_number(size), encode_date(received),
+        encode_list(links, encode_text), encode_text(subject), encode_text(author), encode_text(receiver),
+        b"\0" if sent is None else b"\1" + encode_date(sent), bytes([attachment]), bytes([was]),
     ))
 
 
-def spelled_commit(commit):
+def encode_commit(commit):
     (maker, serial), blobs, edits = commit
-    return b"\1" + number(maker) + number(serial) + listed(blobs, spelled_text) + listed(edits, spelled_edit)
+    return b"\1" + encode_number(maker) + encode_number(serial) + encode_list(blobs, encode_text) + encode_list(edits, encode_edit)
 
 
 WORDS = "meeting budget report review draft invoice travel schedule release question offer contract minutes summary update plan for the of next week".split()

@@ -13,9 +13,10 @@ MONTHS = "Jan Feb Mar Apr May Jun Jul Aug Sep Oct Nov Dec".split()
 DAYS = "Mon Tue Wed Thu Fri Sat Sun".split()
 
 REFERENCE = """
-import email, pathlib, sys
+import email, pathlib, sys, time
 from email import policy
 leaves = 0
+begin = time.perf_counter()
 for path in sorted(pathlib.Path(sys.argv[1]).iterdir()):
     message = email.message_from_bytes(path.read_bytes(), policy=policy.default)
     str(message["subject"])
@@ -30,12 +31,12 @@ for path in sorted(pathlib.Path(sys.argv[1]).iterdir()):
     body = message.get_body(("plain", "html"))
     if body is not None:
         body.get_content()
-print(leaves)
+print(leaves, time.perf_counter() - begin)
 """
 
 
 def word(text):
-    """A text as it stands in a header: as it is, or an encoded word (RFC 2047)."""
+    """A string as it is written in a header: as it is, or as an encoded word (RFC 2047)."""
     if text.isascii():
         return text
     return "=?utf-8?B?" + base64.b64encode(text.encode()).decode() + "?="
