@@ -163,8 +163,8 @@ impl Log {
         touched_in(alloc, self.notes_between(from, upto), kind)
     }
 
-    // The notes of the edits after one position, up to another.
-    fn notes_between(&self, from: u64, upto: u64) -> &[Note]
+    /// The notes of the edits after one position, up to another, in order.
+    pub fn notes_between(&self, from: u64, upto: u64) -> &[Note]
         requires order { from ≤ upto }
         requires within { upto ≤ log_end self.now }
         ensures { result.now ≡ drop (from - self.now.floor) (take (upto - self.now.floor) self.now.notes) }
