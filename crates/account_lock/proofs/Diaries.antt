@@ -6,7 +6,7 @@ use Rattle.account_lock.specs.Entries.{under, ExtendsUnder}
 use Rattle.account_lock.proofs.Entries.{under-append, under_same}
 
 module _ {T E : Type 0} where
-  -- in both cases the list goes on with entries of the stamp's name alone
+  -- in both cases the list continues with entries of the stamp's name alone
   pub extends : (r : Result T E) (n : ℕ) (e : Entry) (old new : List Entry) → entry_pass e ≡ n → OnOk r (new ≡ old ++ e ∷ []) → OnErr r (new ≡ old) → ExtendsUnder n old new
   extends (Ok x) n e old new by ok err = (e ∷ [], ok, (by, tt))
   extends (Err x) n e old new by ok err = ([], err ∙ sym (append-nil old), tt)

@@ -65,7 +65,7 @@ longer_other (e ∷ log) (x ∷ xs) (y ∷ ys) s t =
 abbrev pub seen_then : Bool → List Entry → List Entry → List Entry
 seen_then b xs ys = if b then xs else longer_of xs ys
 
--- where the whole history was seen, it goes on from there
+-- where the whole history was seen, it continues from there
 pub then_whole : (b : Bool) (log xs ys : List Entry) → xs ≡ log → StartsWith log ys → seen_then b xs ys ≡ log
 then_whole true log xs ys whole s = whole
 then_whole false log xs ys whole s = ap (λ (zs : List Entry). longer_of zs ys) whole ∙ longer_whole log ys s

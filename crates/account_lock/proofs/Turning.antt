@@ -55,12 +55,12 @@ module _ {Y : Type 0} (shows : Y → List Entry) (origin : Y → Origin) (built 
       else_at (x ∷ xs) (suc i) zero w d n e = e
       else_at (x ∷ xs) (suc i) (suc j) w d n e = else_at xs i j w d (λ h. n (ap suc h)) e
 
-  -- no other view has the turn beside v
+  -- no view but v has the turn
   alone : (s : St) (r : Rule s) (me : ℕ) (v : View) → get_elem? s.views me ≡ some v → v.waits ≡ true → v.ticket ≡ r.served
       → (j : ℕ) (d : View) → j ≢ me → get_elem? s.views j ≡ some d → d.turn ≡ true → ⊥
   alone s r me v at waits is j d other at_j turn = let t = (r.each j d at_j).turn turn in other (r.apart j me d v at_j at t.0 waits (t.1 ∙ sym is))
 
-  -- a look that tells nothing
+  -- a look that shows nothing
   unmoved : (s : St) (i me : ℕ) (cs : List (ℕ × Option Y)) (v : View) → get_elem? s.views me ≡ some v → Rule s → Rule (stepped s i (get_or s.words i 0) me cs v keeps)
   unmoved s i me cs v at r = subst Rule (λ k. record { words = sym (set-get_or s.words i 0) k; homes = s.homes; views = sym (set_again s.views me v at) k }) r
 

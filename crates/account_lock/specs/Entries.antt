@@ -16,7 +16,7 @@ AreUnder n (e ∷ es) = (entry_pass e ≡ n) × AreUnder n es
 abbrev pub StartsWith : List Entry → List Entry → Type 0
 StartsWith log seen = (rest : List Entry) × (log ≡ seen ++ rest)
 
--- the list goes on after what was seen, and all of that is under this name
+-- the list continues after what was seen, and all of that is under this name
 abbrev pub ExtendsUnder : ℕ → List Entry → List Entry → Type 0
 ExtendsUnder n seen log = (more : List Entry) × (log ≡ seen ++ more) × AreUnder n more
 

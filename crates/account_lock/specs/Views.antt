@@ -168,7 +168,7 @@ facts_of z v =
       ended = v.ended;
     }
 
--- what never changes of the value behind the lock
+-- what never changes of the locked value
 abbrev pub origin_of : PassFacts → Origin
 origin_of k = record { before = k.before; opening = k.opening }
 

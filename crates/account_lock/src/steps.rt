@@ -91,8 +91,8 @@ pub(crate) fn await_turn<B: Standing, R: Wait>(
     unreachable!()
 }
 
-// Goes on to the next look, and returns how many there were. A waiter looks a thousand times, since
-// most turns are short, and then parks until somebody passes a turn on.
+// Proceeds to the next look, and returns how many there were. A waiter looks a thousand times,
+// since most turns are short, and then parks until somebody passes a turn on.
 fn look_again<B: Standing, R: Wait>(
     rt: &R,
     words: &Words<B>,

@@ -18,7 +18,7 @@ use std::time::{Clock, Duration};
 // How many turns each of the four threads takes.
 const TURNS: u64 = 10_000;
 
-// How many milliseconds a thread looks for another before it goes on without it.
+// How many milliseconds a thread looks for another before it continues without it.
 const LOOKS: u64 = 10_000;
 
 fn turns<R: Wait>(
@@ -37,7 +37,8 @@ fn turns<R: Wait>(
     Ok(pass)
 }
 
-// Two threads take their turns. Their passes are then as before, but for what they have seen and gave.
+// Two threads take their turns. Their passes are then as before, but for what they have seen and
+// gave.
 fn two_at_once<R: Threads + Wait + Sync>(
     rt: &R,
     lock: &AccountLock<Diary>,
@@ -147,7 +148,8 @@ fn look_for<R: Clock>(rt: &R, flag: &AtomicBool) -> bool {
     false
 }
 
-// Looks each millisecond whether a thread is counted as parked, and then lets it fall asleep. Gives up after many looks.
+// Looks each millisecond whether a thread is counted as parked, and then lets it fall asleep. Gives
+// up after many looks.
 fn look_for_parked<R: Clock>(rt: &R, lock: &AccountLock<Diary>) -> bool {
     for _ in 0..LOOKS {
         if lock.table.shared.peek(PARKED) > 0 {
@@ -159,8 +161,8 @@ fn look_for_parked<R: Clock>(rt: &R, lock: &AccountLock<Diary>) -> bool {
     false
 }
 
-// Wakes who sleeps each millisecond until the other thread has drawn a ticket, and then lets that one fall asleep with it. Gives up after
-// many looks.
+// Wakes who sleeps each millisecond until the other thread has drawn a ticket, and then lets that
+// one fall asleep with it. Gives up after many looks.
 fn look_for_ticket<R: Clock>(rt: &R, lock: &AccountLock<Diary>) -> bool {
     for _ in 0..LOOKS {
         if lock.table.shared.peek(TICKET) == 2 {
@@ -173,8 +175,9 @@ fn look_for_ticket<R: Clock>(rt: &R, lock: &AccountLock<Diary>) -> bool {
     false
 }
 
-// Takes the turn, keeps it until the other thread is parked, with a ticket or without one, and looks whether that one then has its turn.
-// At last it wakes who still sleeps, so that the test ends if nobody else did.
+// Takes the turn, keeps it until the other thread is parked, with a ticket or without one, and
+// looks whether that one then has its turn. At last it wakes who still sleeps, so that the test
+// ends if nobody else did.
 fn hold<R: Wait + Clock>(
     rt: &R,
     lock: &AccountLock<Diary>,
@@ -224,7 +227,8 @@ fn come<R: Wait + Clock>(
     None
 }
 
-// One thread holds the diary while the other parks. Returns the diary if the other one did, and was woken.
+// One thread holds the diary while the other parks. Returns the diary if the other one did, and was
+// woken.
 fn hold_and_come<R: Threads + Wait + Clock + Sync>(
     rt: &R,
     lock: AccountLock<Diary>,
@@ -305,7 +309,8 @@ fn join_in_turn<R: Wait>(rt: &R, lock: &AccountLock<Diary>, pass: &mut Pass, oth
     lock.give(pass, diary);
 }
 
-// The second pass ends with the first, and the first with the root. Answers the diary with an entry of the second and two of the first.
+// The second pass ends with the first, and the first with the root. Answers the diary with an entry
+// of the second and two of the first.
 fn one_through_another<R: Wait>(
     rt: &R,
     lock: AccountLock<Diary>,

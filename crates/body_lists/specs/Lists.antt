@@ -1,8 +1,9 @@
--- The leaves that are a message's text, those that are its HTML, and its attachments (RFC 8621, section 4.1.4).
+-- The leaves that are a message's text, those that are its HTML, and its attachments (RFC 8621,
+-- section 4.1.4).
 use Rattle.std.specs.Prelude.{ℕ, Bool, true, false, ◌&&◌, ◌||◌, not, List, [], ◌∷◌, ◌++◌, Option, Some, None, is_some, nat_eq, bytes_eq, codes, if◌then◌else◌}
 use Rattle.std.specs.List.{starts_with}
 use Rattle.mime_type.specs.Node.{Node}
-use Rattle.mime_type.specs.Forest.{Forest, none, part}
+use Rattle.mime_type.specs.PartTrees.{PartTrees, none, part}
 
 -- numbers of leaves, in walk order
 pub record Lists : Type 0 where
@@ -15,15 +16,19 @@ nothing = record { text = []; html = []; attachments = [] }
 
 -- what is added first, and what is added later
 abbrev pub both : Lists → Lists → Lists
-both a b = record { text = a.text ++ b.text; html = a.html ++ b.html; attachments = a.attachments ++ b.attachments }
+both a b = record {
+  text = a.text ++ b.text;
+  html = a.html ++ b.html;
+  attachments = a.attachments ++ b.attachments;
+}
 
 -- whether text and html are open: a list that is closed takes nothing
 pub record Open : Type 0 where
   pub text : Bool
   pub html : Bool
 
--- the list that items stand in: whether it is an alternative, whether it is related, and whether it is in an
--- alternative, its own or one further out
+-- the list that items are in: whether it is an alternative, whether it is related, and whether it
+-- is in an alternative, its own or one further out
 pub record Place : Type 0 where
   pub alternative : Bool
   pub related : Bool
@@ -38,7 +43,8 @@ is_html x = bytes_eq x.media (codes "text/html")
 -- an image, a sound or a film
 abbrev pub is_media : Node → Bool
 is_media x =
-    starts_with nat_eq x.media (codes "image/") || (starts_with nat_eq x.media (codes "audio/") || starts_with nat_eq x.media (codes "video/"))
+    starts_with nat_eq x.media (codes "image/") ||
+    (starts_with nat_eq x.media (codes "audio/") || starts_with nat_eq x.media (codes "video/"))
 
 abbrev pub is_multipart : Node → Bool
 is_multipart x = is_some x.boundary
@@ -53,16 +59,20 @@ is_related x = bytes_eq x.media (codes "multipart/related")
 abbrev pub top : Place
 top = record { alternative = false; related = false; within = false }
 
--- the list of a multipart that stands in a list
+-- the list of a multipart that is in a list
 abbrev pub inside : Place → Node → Place
-inside place x = record { alternative = is_alternative x; related = is_related x; within = place.within || is_alternative x }
+inside place x = record {
+  alternative = is_alternative x;
+  related = is_related x;
+  within = place.within || is_alternative x;
+}
 
 abbrev pub is_attached : Option (List ℕ) → Bool
 is_attached None = false
 is_attached (Some disposition) = bytes_eq disposition (codes "attachment")
 
--- whether a leaf may be shown where it stands: no attachment, of a type that can be shown, and the first of its list, or
--- else media or without a name, and in no related list
+-- whether a leaf may be shown where it stands: no attachment, of a type that can be shown, and the
+-- first of its list, or else media or without a name, and in no related list
 abbrev pub is_shown_in_place : Place → Bool → Node → Bool
 is_shown_in_place place first x =
     (not (is_multipart x) && not (is_attached x.disposition))
@@ -74,54 +84,68 @@ number_if chosen x = if chosen then (elim x.number [ None ↦ [] | Some n ↦ n 
 
 -- a leaf in each of the lists that are chosen
 abbrev pub leaf_in : Bool → Bool → Bool → Node → Lists
-leaf_in text html attachments x = record { text = number_if text x; html = number_if html x; attachments = number_if attachments x }
+leaf_in text html attachments x = record {
+  text = number_if text x;
+  html = number_if html x;
+  attachments = number_if attachments x;
+}
 
--- in an alternative plain text closes html and the other way round, for the rest of this list and what that contains. It
--- isn't so in the list of the alternative itself.
+-- in an alternative plain text closes html and the other way round, for the rest of this list and
+-- what that contains. It isn't so in the list of the alternative itself.
 abbrev pub open_behind : Place → Bool → Open → Node → Open
 open_behind place first open' x =
-    if is_shown_in_place place first x && (place.within && not place.alternative) then record { text = open'.text && not (is_html x); html = open'.html && not (is_plain x) } else open'
+    if is_shown_in_place place first x && (place.within && not place.alternative)
+    then record { text = open'.text && not (is_html x); html = open'.html && not (is_plain x) }
+    else open'
 
 -- an alternative gives each of its items to one list
 abbrev pub among_alternatives : Open → Node → Lists
-among_alternatives open' x = leaf_in (open'.text && is_plain x) (open'.html && is_html x) (not (is_plain x || is_html x)) x
+among_alternatives open' x =
+    leaf_in (open'.text && is_plain x) (open'.html && is_html x) (not (is_plain x || is_html x)) x
 
--- elsewhere an item goes to text and to html; media that one of them doesn't take are attachments too
+-- elsewhere an item goes to text and to html; media that one of them doesn't take are attachments
+-- too
 abbrev pub among_others : Open → Node → Lists
-among_others open' x = leaf_in open'.text open'.html (is_media x && not (open'.text && open'.html)) x
+among_others open' x =
+    leaf_in open'.text open'.html (is_media x && not (open'.text && open'.html)) x
 
 -- what a leaf gives
 abbrev pub leaf_gives : Place → Bool → Open → Node → Lists
 leaf_gives place first open' x =
     if not (is_shown_in_place place first x) then leaf_in false false true x
-    else (if place.alternative then among_alternatives open' x else among_others (open_behind place first open' x) x)
+    else (if place.alternative then among_alternatives open' x
+    else among_others (open_behind place first open' x) x)
 
--- what stands in for a list that got nothing
+-- what replaces a list that got nothing
 abbrev pub or_else : List ℕ → List ℕ → List ℕ
 or_else [] other = other
 or_else (n ∷ ns) other = n ∷ ns
 
--- at the end of an alternative: of text and html, both open, one that got nothing gets what the other got
+-- at the end of an alternative: of text and html, both open, one that got nothing gets what the
+-- other got
 abbrev pub ended : Place → Open → Lists → Lists
 ended place open' new =
-    if place.alternative && (open'.text && open'.html) then record new { text = or_else new.text new.html; html = or_else new.html new.text }
+    if place.alternative && (open'.text && open'.html)
+    then record new { text = or_else new.text new.html; html = or_else new.html new.text }
     else new
 
 -- what an item gives, where the parts within it give this
 abbrev pub item_gives : Place → Bool → Open → Node → Lists → Lists
-item_gives place first open' x new = if is_multipart x then ended (inside place x) open' new else leaf_gives place first open' x
+item_gives place first open' x new =
+    if is_multipart x then ended (inside place x) open' new else leaf_gives place first open' x
 
--- what the items of a list give, from one on that is its first or isn't. What is closed within an item is open again
--- behind it.
-abbrev pub given : Place → Bool → Open → Forest → Lists
+-- what the items of a list give, from one on that is its first or isn't. What is closed within an
+-- item is open again after it.
+abbrev pub given : Place → Bool → Open → PartTrees → Lists
 given place first open' none = nothing
 given place first open' (part x inner later) =
-    both (item_gives place first open' x (given (inside place x) true open' inner)) (given place false (open_behind place first open' x) later)
+    both (item_gives place first open' x (given (inside place x) true open' inner))
+    (given place false (open_behind place first open' x) later)
 
 -- the lists of a message by its tree
-abbrev pub lists_in : Forest → Lists
+abbrev pub lists_in : PartTrees → Lists
 lists_in tree = given top true (record { text = true; html = true }) tree
 
 -- those of a part with these within it
-abbrev pub body_lists : Node → Forest → Lists
+abbrev pub body_lists : Node → PartTrees → Lists
 body_lists x inner = lists_in (part x inner none)

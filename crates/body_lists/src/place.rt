@@ -6,7 +6,7 @@ ghost use Rattle.body_lists.specs.Shown.{open_of, place_of};
 
 use mime_type::Part;
 
-/// The list that items stand in.
+/// The list that items are in.
 #[derive(Clone, Copy)]
 pub struct Place {
     /// Whether it is an alternative's.
@@ -65,7 +65,7 @@ impl Place {
         }
     }
 
-    /// The list of a multipart that stands in this one.
+    /// The list of a multipart that is in this one.
     pub fn inside(self, part: &Part) -> Place
         ensures { place_of result ≡ place_inside (place_of self) (node_of part.now) }
     {
@@ -94,9 +94,10 @@ impl Place {
 }
 
 impl Open {
-    /// What takes items behind a part.
+    /// What takes items after a part.
     pub fn behind(self, place: Place, first: bool, part: &Part) -> Open
-        ensures { open_of result ≡ open_behind (place_of place) first (open_of self) (node_of part.now) }
+        ensures { open_of result ≡ open_behind (place_of place) first (open_of self)
+            (node_of part.now) }
     {
         if place.shows(first, part) && place.within && !place.alternative {
             return Open {

@@ -46,7 +46,8 @@ fn lists_of_messages(rt: HostRuntime) -> Result<(), Fail> {
             b"Content-Type: multipart/mixed; boundary=a\n\n--a\n\nx\n--a\nContent-Type: text/plain; name=\"\"\n\ny\n--a\n\nz\n--a--",
             b" 1 3 / 1 3 / 2",
         ),
-        // Sound and film are shown in place, and attachments too where plain text has closed the HTML.
+        // Sound and film are shown in place, and attachments too where plain text has closed the
+        // HTML.
         (
             b"Content-Type: multipart/mixed; boundary=a\n\n--a\nContent-Type: audio/ogg\n\nx\n--a\nContent-Type: video/ogg; name=y\n\ny\n--a--",
             b" 1 2 / 1 2 /",

@@ -1,6 +1,6 @@
 // The lists of a message, filled in one walk of its parts.
 ghost use Rattle.std.specs.Prelude.{◌≡◌, true, ◌++◌, ◌≤◌, take, drop, length, IfOk, OnOk};
-ghost use Rattle.mime_type.specs.Forest.{Forest, none};
+ghost use Rattle.mime_type.specs.PartTrees.{PartTrees, none};
 ghost use Rattle.mime_type.specs.Joined.{node_of, tree_of, joined};
 ghost use Rattle.body_lists.specs.Lists.{Lists, body_lists, both, given, inside, leaf_in, leaf_gives, ended, item_gives, nothing, number_if, open_behind, or_else};
 ghost use Rattle.body_lists.specs.Shown.{lists_of, open_of, place_of};
@@ -43,7 +43,8 @@ impl BodyLists {
         attachments: bool,
         part: &Part,
     ) -> Result<(), NoMemory>
-        ensures { OnOk result (lists_of self.new ≡ both (lists_of self.old) (leaf_in text html attachments (node_of part.now))) }
+        ensures { OnOk result (lists_of self.new
+            ≡ both (lists_of self.old) (leaf_in text html attachments (node_of part.now))) }
     {
         push_if(text, &mut self.text, part)?;
         push_if(html, &mut self.html, part)?;
@@ -57,7 +58,9 @@ impl BodyLists {
         taking: Open,
         part: &Part,
     ) -> Result<(), NoMemory>
-        ensures { OnOk result (lists_of self.new ≡ both (lists_of self.old) (leaf_gives (place_of place) first (open_of taking) (node_of part.now))) }
+        ensures { OnOk result (lists_of self.new
+            ≡ both (lists_of self.old) (leaf_gives (place_of place) first (open_of taking)
+            (node_of part.now))) }
     {
         if !place.shows(first, part) {
             return self.push(false, false, true, part);
@@ -78,7 +81,7 @@ impl BodyLists {
     }
 }
 
-/// Where nothing stands behind a place in one list, puts there what stands behind a place in another.
+/// Where nothing follows a place in one list, puts there what follows a place in another.
 fn fill(
     alloc: Global,
     numbers: &mut Numbers,
@@ -87,7 +90,8 @@ fn fill(
     place: usize,
 ) -> Result<(), NoMemory>
     requires { place ≤ length other.now }
-    ensures { OnOk result (numbers.new ≡ take from numbers.old ++ or_else (drop from numbers.old) (drop place other.now)) }
+    ensures { OnOk result (numbers.new ≡ take from numbers.old
+        ++ or_else (drop from numbers.old) (drop place other.now)) }
 {
     if numbers.len() > from {
         return Ok(());
@@ -97,7 +101,7 @@ fn fill(
 }
 
 impl BodyLists {
-    /// Ends the list of a multipart whose items stand behind these places.
+    /// Ends the list of a multipart whose items follow these places.
     fn end(
         &mut self,
         alloc: Global,
@@ -108,7 +112,9 @@ impl BodyLists {
     ) -> Result<(), NoMemory>
         requires text { text ≤ length self.old.text }
         requires html { html ≤ length self.old.html }
-        ensures { (old new : Lists) → lists_of self.old ≡ both old new → length old.text ≡ text → length old.html ≡ html → OnOk result (lists_of self.new ≡ both old (ended (place_of place) (open_of taking) new)) }
+        ensures { (old new : Lists) → lists_of self.old ≡ both old new → length old.text ≡ text
+            → length old.html ≡ html → OnOk result
+            (lists_of self.new ≡ both old (ended (place_of place) (open_of taking) new)) }
     {
         if !(place.alternative && taking.text && taking.html) {
             return Ok(());
@@ -128,7 +134,9 @@ fn add_part(
     taking: Open,
     part: &Part,
 ) -> Result<(), NoMemory>
-    ensures { OnOk result (lists_of out.new ≡ both (lists_of out.old) (item_gives (place_of place) first (open_of taking) (node_of part.now) (given (inside (place_of place) (node_of part.now)) true (open_of taking) part.now.parts))) }
+    ensures { OnOk result (lists_of out.new ≡ both (lists_of out.old)
+        (item_gives (place_of place) first (open_of taking) (node_of part.now)
+        (given (inside (place_of place) (node_of part.now)) true (open_of taking) part.now.parts))) }
 {
     if part.boundary.is_none() {
         return out.push_leaf(place, first, taking, part);
@@ -149,7 +157,8 @@ fn add_parts(
     taking: Open,
     parts: &[Part],
 ) -> Result<(), NoMemory>
-    ensures { OnOk result (lists_of out.new ≡ both (lists_of out.old) (given (place_of place) true (open_of taking) (joined parts.now none))) }
+    ensures { OnOk result (lists_of out.new ≡ both (lists_of out.old)
+        (given (place_of place) true (open_of taking) (joined parts.now none))) }
 {
     let mut first = true;
     let mut taking = taking;
@@ -161,7 +170,8 @@ fn add_parts(
     Ok(())
 }
 
-/// The leaves of a part that are its text, its HTML and its attachments, in time linear in the parts.
+/// The leaves of a part that are its text, its HTML and its attachments, in time linear in the
+/// parts.
 pub fn lists(alloc: Global, part: &Part) -> Result<BodyLists, NoMemory>
     ensures { IfOk result (λ l. lists_of l ≡ body_lists (node_of part.now) part.now.parts) }
 {

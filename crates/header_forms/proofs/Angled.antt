@@ -3,7 +3,7 @@ use Rattle.std.proofs.Common.{◌≡◌, ◌≢◌, ℕ, suc, ◌<◌, List, [],
 use Rattle.std.proofs.lemmas.Bool.{ne_eqb}
 use Rattle.header_forms.specs.Angles.{read, opened, onto}
 
--- a sign doesn't stand in a text
+-- a sign isn't in a text
 abbrev pub Lacks : ℕ → List ℕ → Type 0
 Lacks sign text = (k : ℕ) → k < length text → get_or text k 0 ≢ sign
 

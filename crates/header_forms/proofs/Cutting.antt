@@ -3,7 +3,7 @@ use Rattle.std.proofs.Common.{◌≡◌, ℕ, zero, suc, ◌+◌, ◌-◌, ◌<�
 use Rattle.std.proofs.lemmas.List.{take_all}
 use Rattle.header_forms.specs.declared.marks.Mark.{Mark}
 use Rattle.header_forms.specs.declared.marks.Sign.{Sign}
-use Rattle.header_forms.specs.Groups.{Slices, last, slice, onto, sliced, sign_of, open_behind, slices_from}
+use Rattle.header_forms.specs.Groups.{Slices, last, slice, onto, sliced, sign_of, is_open_after, slices_from}
 
 -- with some marks before the first piece
 abbrev pub onto_all : List Mark → Slices → Slices
@@ -17,7 +17,7 @@ passed (m ∷ ms) open' zero d within none = ap (λ s. sliced s m open' (slices_
 passed (m ∷ ms) open' (suc i) d within none = ap (onto m) (passed ms open' i d (omega arith) none)
 
 found : (ms : List Mark) (open' : Bool) (i : ℕ) (d : Mark) (sign : Sign) → i < length ms → sign_of open' (get_or ms i d) ≡ Some sign
-    → onto_all (take i ms) (slices_from (drop i ms) open') ≡ slice (take i ms) sign (slices_from (drop (suc i) ms) (open_behind open' sign))
+    → onto_all (take i ms) (slices_from (drop i ms) open') ≡ slice (take i ms) sign (slices_from (drop (suc i) ms) (is_open_after open' sign))
 found [] open' i d sign within is = absurd (omega arith)
 found (m ∷ ms) open' zero d sign within is = ap (λ s. sliced s m open' (slices_from ms)) is
 found (m ∷ ms) open' (suc i) d sign within is = ap (onto m) (found ms open' i d sign (omega arith) is)
@@ -31,7 +31,7 @@ whole (m ∷ ms) open' (suc i) all = ap (onto m) (whole ms open' i (omega arith)
 -- a turn of the loop that looks for a sign, where one is found, where none is, and at the end
 pub first_piece : (ms : List Mark) (open' : Bool) (i : ℕ) (d : Mark) (sign : Sign) → i < length ms → sign_of open' (get_or ms i d) ≡ Some sign
     → onto_all (take i ms) (slices_from (drop i ms) open') ≡ slices_from ms open'
-    → slices_from ms open' ≡ slice (take i ms) sign (slices_from (take (length ms - (i + 1)) (drop (i + 1) ms)) (open_behind open' sign))
+    → slices_from ms open' ≡ slice (take i ms) sign (slices_from (take (length ms - (i + 1)) (drop (i + 1) ms)) (is_open_after open' sign))
 first_piece ms open' i d sign within is same =
     let one : i + 1 ≡ suc i = omega arith in
     let rest : take (length ms - suc i) (drop (suc i) ms) ≡ drop (suc i) ms = take_all (length ms - suc i) (drop (suc i) ms) (omega (arith, length-drop (suc i) ms)) in

@@ -7,7 +7,7 @@ use Rattle.mime_words.specs.Words.{◌>>=◌}
 use Rattle.mail_text.specs.declared.comment.State.{State}
 use Rattle.mail_text.specs.declared.comment.State.TheVariants.{Outside, Inside, Escaped}
 use Rattle.mail_text.specs.Comments.{next, after_text, gap_from}
-use Rattle.header_forms.specs.Dates.{Read, all_words, parted, with_byte, read_from, words_of, without_weekday, moment_of_words, moment_in, moment_text, moment_seconds, if_in_range, date_text, utc_of}
+use Rattle.header_forms.specs.Dates.{Read, all_words, parted, with_byte, read_from, words_of, without_weekday, moment_of_words, moment_in, date_time_text, moment_seconds, if_in_range, date_text, utc_of}
 use Rattle.header_forms.specs.DateWords.{is_gap, AreComments}
 use Rattle.header_forms.proofs.Gaps.{words_at, parts, same_read}
 
@@ -35,7 +35,7 @@ comments_read (b ∷ bs) back (Inside depth) e =
     same_read (read_from (bs ++ back) (next (Inside depth) b)) ∙ comments_read bs back (next (Inside depth) b) e
 comments_read (b ∷ bs) back (Escaped depth) e = same_read (read_from (bs ++ back) (Inside depth)) ∙ comments_read bs back (Inside depth) e
 
--- what is read before white space is known by the words behind it
+-- what is read before white space is known by the words after it
 part_same : (x y : Option Read) → option_map all_words x ≡ option_map all_words y → option_map parted x ≡ option_map parted y
 part_same None None e = refl
 part_same None (Some s) e = absurd (none-some (all_words s) e)
@@ -63,7 +63,7 @@ moment_same front comments back out are = ap (λ w. w >>= (λ words. without_wee
 
 pub date_same : (front comments back : List ℕ) → after_text Outside front ≡ Outside → AreComments comments
     → date_text (front ++ 32 ∷ (comments ++ back)) ≡ date_text (front ++ 32 ∷ back)
-date_same front comments back out are = ap (option_map moment_text) (moment_same front comments back out are)
+date_same front comments back out are = ap (option_map date_time_text) (moment_same front comments back out are)
 
 pub utc_same : (front comments back : List ℕ) → after_text Outside front ≡ Outside → AreComments comments
     → utc_of (front ++ 32 ∷ (comments ++ back)) ≡ utc_of (front ++ 32 ∷ back)

@@ -1,4 +1,4 @@
--- A word at the front of a text, and the text behind it.
+-- A word at the start of a text, and the text after it.
 use Rattle.std.proofs.Common.{◌≡◌, ℕ, suc, ◌+◌, true, false, ◌&&◌, ◌||◌, not, cond, eqb, List, [], ◌∷◌, ◌++◌, take, drop, Option, Some, None, option_map, refl, sym, ap, subst, ◌∙◌, rules, arith}
 use Rattle.std.specs.Char.{is_ascii_whitespace}
 use Rattle.std.specs.List.{prefix_len}
@@ -34,7 +34,7 @@ each_onto : (b : ℕ) → is_in_word b ≡ true → (x : Option Read) → option
 each_onto b is None = refl
 each_onto b is (Some r) = ap (λ s. Some s) (byte_is b r is)
 
--- a byte that goes on with a word
+-- a byte that continues a word
 byte_onto : (b : ℕ) (bs : List ℕ) → is_in_word b ≡ true → read_from (b ∷ bs) Outside ≡ option_map (onto b) (read_from bs Outside)
 byte_onto b bs is = ap (λ s. option_map (with_byte Outside b) (read_from bs s)) (next_is b is) ∙ each_onto b is (read_from bs Outside)
 
@@ -44,7 +44,7 @@ one_more n = omega arith
 abbrev len : List ℕ → ℕ
 len text = prefix_len is_in_word text
 
--- the word's bytes stand before what is read behind it
+-- the word's bytes stand before what is read after it
 split : (text : List ℕ) → read_from text Outside ≡ option_map (onto_all (take (len text) text)) (read_from (drop (len text) text) Outside)
 split [] = refl
 split (b ∷ bs) =
@@ -53,7 +53,7 @@ split (b ∷ bs) =
       | false ↦ λ h. nothing_onto (read_from (b ∷ bs) Outside)
     ] refl
 
--- no word goes on at the front of what is read
+-- no word continues at the start of what is read
 abbrev HasNoFront : Option Read → Type 0
 HasNoFront None = Unit {0}
 HasNoFront (Some r) = r.front ≡ []

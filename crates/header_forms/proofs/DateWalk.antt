@@ -1,8 +1,8 @@
 -- What the words of a date say, taken one by one.
 use Rattle.std.proofs.Common.{◌≡◌, ℕ, true, false, cond, List, [], ◌∷◌, Option, Some, None, option_map, refl, ap, ◌∙◌, rules}
 use Rattle.mime_words.specs.Words.{◌>>=◌}
-use Rattle.header_forms.specs.Dates.{is_comma, place_in, weekdays, behind_weekday, without_weekday, moment_by, moment_of_words, moment_in, words_of}
-use Rattle.header_forms.specs.declared.dates_moment.Moment.{Moment}
+use Rattle.header_forms.specs.Dates.{is_comma, place_in, weekdays, after_weekday, without_weekday, date_time_by, moment_of_words, moment_in, words_of}
+use Rattle.header_forms.specs.declared.date_time.ZonedDateTime.{ZonedDateTime}
 use Rattle.header_forms.specs.DateWords.{has_no_word, is_end}
 
 -- words, if each comment closes
@@ -12,7 +12,7 @@ Words = Option (List (List ℕ))
 abbrev with_word : List ℕ → Words → Words
 with_word word x = option_map (λ later. word ∷ later) x
 
-went : (say : List (List ℕ) → Option Moment) (word : List ℕ) (x rest : Words) → x ≡ with_word word rest → (x >>= say) ≡ (rest >>= (λ later. say (word ∷ later)))
+went : (say : List (List ℕ) → Option ZonedDateTime) (word : List ℕ) (x rest : Words) → x ≡ with_word word rest → (x >>= say) ≡ (rest >>= (λ later. say (word ∷ later)))
 went say word x None e = ap (λ y. y >>= say) e
 went say word x (Some later) e = ap (λ y. y >>= say) e
 
@@ -21,7 +21,7 @@ no_more d m y t z None is = refl
 no_more d m y t z (Some []) is = absurd (search rules)
 no_more d m y t z (Some (w ∷ ws)) is = refl
 
-all_read : (d m y t z : List ℕ) (x : Words) → is_end x ≡ true → (x >>= (λ later. moment_of_words (d ∷ m ∷ y ∷ t ∷ z ∷ later))) ≡ moment_by d m y t z
+all_read : (d m y t z : List ℕ) (x : Words) → is_end x ≡ true → (x >>= (λ later. moment_of_words (d ∷ m ∷ y ∷ t ∷ z ∷ later))) ≡ date_time_by d m y t z
 all_read d m y t z None is = absurd (search rules)
 all_read d m y t z (Some []) is = refl
 all_read d m y t z (Some (w ∷ ws)) is = absurd (search rules)
@@ -40,11 +40,11 @@ more_words d m y t z x0 x1 x2 x3 e0 e1 e2 is = three_words d m y t z x0 x1 x2 x3
 
 -- the zone is the last word
 pub last_words : (d m y t z : List ℕ) (x0 x1 x2 x3 : Words) → x0 ≡ with_word y x1 → x1 ≡ with_word t x2 → x2 ≡ with_word z x3 → is_end x3 ≡ true
-    → (x0 >>= (λ later. moment_of_words (d ∷ m ∷ later))) ≡ moment_by d m y t z
+    → (x0 >>= (λ later. moment_of_words (d ∷ m ∷ later))) ≡ date_time_by d m y t z
 last_words d m y t z x0 x1 x2 x3 e0 e1 e2 is = three_words d m y t z x0 x1 x2 x3 e0 e1 e2 ∙ all_read d m y t z x3 is
 
 -- what words say, with a weekday perhaps
-abbrev whole : List (List ℕ) → Option Moment
+abbrev whole : List (List ℕ) → Option ZonedDateTime
 whole words = without_weekday words >>= moment_of_words
 
 whole_is : (text : List ℕ) → moment_in text ≡ (words_of text >>= whole)
@@ -63,16 +63,16 @@ one_word a (Some (w ∷ ws)) is = absurd (search rules)
 
 not_comma : (a b : List ℕ) (x : Words) → is_comma b ≡ false → (x >>= (λ later. whole (a ∷ b ∷ later))) ≡ (x >>= (λ later. moment_of_words (a ∷ b ∷ later)))
 not_comma a b None is = refl
-not_comma a b (Some later) is = ap (λ v. cond v (behind_weekday (place_in weekdays 1 a) later) (Some (a ∷ b ∷ later)) >>= moment_of_words) is
+not_comma a b (Some later) is = ap (λ v. cond v (after_weekday (place_in weekdays 1 a) later) (Some (a ∷ b ∷ later)) >>= moment_of_words) is
 
 comma : (a b : List ℕ) (day : Option ℕ) (x : Words) → is_comma b ≡ true → place_in weekdays 1 a ≡ day
-    → (x >>= (λ later. whole (a ∷ b ∷ later))) ≡ (x >>= (λ later. behind_weekday day later >>= moment_of_words))
+    → (x >>= (λ later. whole (a ∷ b ∷ later))) ≡ (x >>= (λ later. after_weekday day later >>= moment_of_words))
 comma a b day None is place = refl
 comma a b day (Some later) is place =
-    ap (λ v. cond v (behind_weekday (place_in weekdays 1 a) later) (Some (a ∷ b ∷ later)) >>= moment_of_words) is
-    ∙ ap (λ p. behind_weekday p later >>= moment_of_words) place
+    ap (λ v. cond v (after_weekday (place_in weekdays 1 a) later) (Some (a ∷ b ∷ later)) >>= moment_of_words) is
+    ∙ ap (λ p. after_weekday p later >>= moment_of_words) place
 
-no_weekday : (x : Words) → (x >>= (λ later. behind_weekday None later >>= moment_of_words)) ≡ None
+no_weekday : (x : Words) → (x >>= (λ later. after_weekday None later >>= moment_of_words)) ≡ None
 no_weekday None = refl
 no_weekday (Some later) = refl
 

@@ -1,4 +1,4 @@
--- Words behind white space and comments.
+-- Words after white space and comments.
 use Rattle.std.proofs.Common.{◌≡◌, ℕ, true, false, not, cond, eqb, List, [], ◌∷◌, Option, Some, None, option_map, refl, ap, ◌∙◌}
 use Rattle.std.specs.Prelude.{MatchOption, IfSome}
 use Rattle.std.specs.Char.{is_ascii_whitespace}

@@ -9,3 +9,4 @@ pub mod DateComments
 pub mod PlainAddress
 pub mod QuotedName
 pub mod DateWalk
+pub mod PlainGroup

@@ -18,22 +18,22 @@ use Rattle.header_forms.specs.Groups.{last, onto, sliced, sign_of, slices_from, 
 use Rattle.header_forms.specs.Addresses.{in_part, spelled, within_bracket, phrase_of, is_shown, group_of, opens_bracket, has_bracket, email_of, if_some, or_else, comment_name, name_before, opens_comment, last_comment, name_of, address_of, if_address, groups_by, addresses_in}
 use Rattle.header_forms.specs.Plain.{is_plain}
 
-and_first : (p q : Bool) → (p && q) ≡ true → p ≡ true
+pub and_first : (p q : Bool) → (p && q) ≡ true → p ≡ true
 and_first true q h = refl
 and_first false q h = h
 
-and_second : (p q : Bool) → (p && q) ≡ true → q ≡ true
+pub and_second : (p q : Bool) → (p && q) ≡ true → q ≡ true
 and_second true q h = h
 and_second false q h = absurd (true≢false (sym h))
 
-record IsPlain (c : ℕ) : Type 0 where
-  quote : eqb c 34 ≡ false
-  parenthesis : eqb c 40 ≡ false
-  comma : eqb c 44 ≡ false
-  colon : eqb c 58 ≡ false
-  bracket : eqb c 60 ≡ false
+pub record IsPlain (c : ℕ) : Type 0 where
+  pub quote : eqb c 34 ≡ false
+  pub parenthesis : eqb c 40 ≡ false
+  pub comma : eqb c 44 ≡ false
+  pub colon : eqb c 58 ≡ false
+  pub bracket : eqb c 60 ≡ false
 
-plain_is : (c : ℕ) → is_plain c ≡ true → IsPlain c
+pub plain_is : (c : ℕ) → is_plain c ≡ true → IsPlain c
 plain_is c h =
     let a = and_second (not (eqb c 34)) (not (eqb c 40) && (not (eqb c 44) && (not (eqb c 58) && not (eqb c 60)))) h in
     let b = and_second (not (eqb c 40)) (not (eqb c 44) && (not (eqb c 58) && not (eqb c 60))) a in
@@ -47,10 +47,10 @@ plain_is c h =
     }
 
 -- a character outside quotes, comments and brackets
-abbrev bare : ℕ → Mark
+abbrev pub bare : ℕ → Mark
 bare c = record { character = c; place = Bare; said = true }
 
-abbrev ArePlain : List ℕ → Type 0
+abbrev pub ArePlain : List ℕ → Type 0
 ArePlain cs = list_all is_plain cs ≡ true
 
 marks_plain : (cs : List ℕ) → ArePlain cs → marks_from Outside cs ≡ map bare cs
@@ -104,10 +104,10 @@ some_text : (t : List ℕ) → 0 < length t → if_some t ≡ Some t
 some_text [] h = absurd (omega (arith, h))
 some_text (b ∷ bs) h = refl
 
-abbrev plain_address : List ℕ → Address
+abbrev pub plain_address : List ℕ → Address
 plain_address text = record { email = text; name = None }
 
-address_plain : (text cs : List ℕ) → encode_utf8_all cs ≡ text → 0 < length (trimmed text) → address_of (map bare cs) ≡ plain_address (trimmed text) ∷ []
+pub address_plain : (text cs : List ℕ) → encode_utf8_all cs ≡ text → 0 < length (trimmed text) → address_of (map bare cs) ≡ plain_address (trimmed text) ∷ []
 address_plain text cs e some =
     ap (λ o. if_address (if_some (email_of (map bare cs))) o) (name_none cs)
     ∙ ap (λ o. if_address o None) (ap if_some (email_all cs ∙ ap trimmed e) ∙ some_text (trimmed text) some)

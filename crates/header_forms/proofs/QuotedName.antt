@@ -100,7 +100,7 @@ or_false : (p q : Bool) → (p || q) ≡ false → (p ≡ false) × (q ≡ false
 or_false true q h = absurd (true≢false h)
 or_false false q h = (refl, h)
 
--- the first mark that passes a test stands behind those that don't
+-- the first mark that passes a test follows those that don't
 first_at : (test : Mark → Bool) (ms : List Mark) (m : Mark) (more : List Mark) → list_any test ms ≡ false → test m ≡ true
     → position_or_len test (ms ++ m ∷ more) ≡ length ms
 first_at test [] m more none is = rw is refl

@@ -16,7 +16,7 @@ spelled_first part m ms = elim (in_part part m) as (λ v. text_of (cond v (m ∷
   | false ↦ refl
 ]
 
--- the last comment, where this stands behind the last one that was found so far
+-- the last comment, where this follows the last one that was found up to here
 abbrev pub comment_from : List Mark → List Mark → List Mark
 comment_from found rest = cond (list_any opens_comment rest) (last_comment rest) found
 

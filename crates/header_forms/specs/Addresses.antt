@@ -45,13 +45,14 @@ closes_bracket m = is_bracket m.place && (not m.said && m.character == 62)
 abbrev pub has_bracket : List Mark → Bool
 has_bracket ms = nat_lt (position_or_len opens_bracket ms) (length ms)
 
--- what stands in the first bracket of an item (angle-addr), to the item's end where it isn't closed
+-- what is in the first bracket of an item (angle-addr), to the item's end where it isn't closed
 abbrev pub within_bracket : List Mark → List Mark
 within_bracket ms = before_first closes_bracket (after_first opens_bracket ms)
 
 -- the address: the text in the first bracket, else all but the comments; quote marks stay
 abbrev pub email_of : List Mark → List ℕ
-email_of ms = if has_bracket ms then trimmed (spelled Whole (within_bracket ms)) else trimmed (spelled Plain ms)
+email_of ms = if has_bracket ms then trimmed (spelled Whole (within_bracket ms))
+    else trimmed (spelled Plain ms)
 
 -- a part of an item as a name: trimmed, and with its words decoded
 abbrev pub phrase_of : Part → List Mark → List ℕ
@@ -65,18 +66,20 @@ abbrev pub or_else : Option (List ℕ) → Option (List ℕ) → Option (List �
 or_else None other = other
 or_else (Some text) other = Some text
 
--- the name before a bracket (display-name): what is said there outside comments, without the signs of quoting. An item without
--- a bracket has none there.
+-- the name before a bracket (display-name): what is said there outside comments, without the signs
+-- of quoting. An item without a bracket has none there.
 abbrev pub name_before : List Mark → Option (List ℕ)
-name_before ms = if has_bracket ms then if_some (phrase_of Phrase (before_first opens_bracket ms)) else None
+name_before ms =
+    if has_bracket ms then if_some (phrase_of Phrase (before_first opens_bracket ms)) else None
 
 abbrev pub opens_comment : Mark → Bool
 opens_comment m = is_comment m.place && (not m.said && m.character == 40)
 
--- what stands behind the parenthesis that opens the last comment
+-- what follows the parenthesis that opens the last comment
 abbrev pub last_comment : List Mark → List Mark
 last_comment [] = []
-last_comment (m ∷ ms) = if list_any opens_comment ms then last_comment ms else (if opens_comment m then ms else [])
+last_comment (m ∷ ms) =
+    if list_any opens_comment ms then last_comment ms else (if opens_comment m then ms else [])
 
 -- the text of the last comment
 abbrev pub comment_name : List Mark → Option (List ℕ)

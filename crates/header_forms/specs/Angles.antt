@@ -1,10 +1,12 @@
--- The texts between angle brackets: identifiers of messages and URLs (RFC 8621, sections 4.1.2.5 and 4.1.2.7).
+-- The texts between angle brackets: identifiers of messages and URLs (RFC 8621, sections 4.1.2.5
+-- and 4.1.2.7).
 use Rattle.std.specs.Prelude.{ℕ, Bool, true, false, ◌==◌, List, [], ◌∷◌, map, filter, Option, Some, None, if◌then◌else◌}
 use Rattle.std.specs.Char.{is_ascii_whitespace}
 use Rattle.header_forms.specs.Texts.{without}
 
--- what a text has, read from a place: `outside` are the texts between brackets, where no bracket is open there;
--- where one is open, `inside` is the text up to the bracket that closes it, and the texts after that
+-- what a text has, read from a place: `outside` are the texts between brackets, where no bracket is
+-- open there; where one is open, `inside` is the text up to the bracket that closes it, and the
+-- texts after that
 pub record Read : Type 0 where
   pub outside : List (List ℕ)
   pub inside : Option (List ℕ × List (List ℕ))

@@ -5,7 +5,7 @@ use Rattle.mail_text.specs.declared.comment.State.TheVariants.{Outside}
 use Rattle.mail_text.specs.Comments.{gap_from}
 use Rattle.mime_words.specs.Words.{◌>>=◌}
 use Rattle.header_forms.specs.Dates.{words_of}
-use Rattle.header_forms.specs.declared.dates_moment.Moment.{Moment}
+use Rattle.header_forms.specs.declared.date_time.ZonedDateTime.{ZonedDateTime}
 
 -- a byte between words, where a comment may begin
 abbrev pub is_gap : ℕ → Bool
@@ -16,7 +16,7 @@ abbrev pub begins_word : List ℕ → Bool
 begins_word [] = true
 begins_word (b ∷ bs) = not (is_gap b)
 
--- a byte that goes on with a word
+-- a byte that continues a word
 abbrev pub is_in_word : ℕ → Bool
 is_in_word b = not (is_gap b) && not (b == 44)
 
@@ -38,7 +38,7 @@ is_end (Some []) = true
 is_end (Some (word ∷ words)) = false
 
 -- the moment that the words of a text say, by what words say
-abbrev pub moment_from : (List (List ℕ) → Option Moment) → List ℕ → Option Moment
+abbrev pub moment_from : (List (List ℕ) → Option ZonedDateTime) → List ℕ → Option ZonedDateTime
 moment_from say text = words_of text >>= say
 
 -- some text is whole comments, one after another, and nothing else

@@ -10,11 +10,11 @@ use Rattle.mail_text.specs.declared.comment.State.{State}
 use Rattle.mail_text.specs.declared.comment.State.TheVariants.{Outside, Inside, Escaped}
 use Rattle.mail_text.specs.Comments.{next}
 use Rattle.mime_words.specs.Words.{◌>>=◌}
-use Rattle.header_forms.specs.declared.dates_moment.Moment.{Moment}
-use Rattle.header_forms.specs.declared.dates_moment.Offset.{Offset}
-use Rattle.header_forms.specs.declared.dates_moment.Time.{Time}
+use Rattle.header_forms.specs.declared.date_time.ZonedDateTime.{ZonedDateTime}
+use Rattle.header_forms.specs.declared.date_time.ZoneOffset.{ZoneOffset}
+use Rattle.header_forms.specs.declared.date_time.TimeOfDay.{TimeOfDay}
 
--- the words of a text from a place on: the rest of the word that stands there, and the later ones
+-- the words of a text from a place on: the rest of the word that is there, and the later ones
 pub record Read : Type 0 where
   pub front : List ℕ
   pub later : List (List ℕ)
@@ -39,7 +39,8 @@ at_comma r = record { front = []; later = (44 ∷ []) ∷ all_words r }
 
 -- words are parted by white space and comments
 abbrev pub with_byte : State → ℕ → Read → Read
-with_byte Outside b r = if b == 40 || is_ascii_whitespace b then parted r else (if b == 44 then at_comma r else onto b r)
+with_byte Outside b r = if b == 40 || is_ascii_whitespace b then parted r
+    else (if b == 44 then at_comma r else onto b r)
 with_byte (Inside depth) b r = r
 with_byte (Escaped depth) b r = r
 
@@ -59,28 +60,32 @@ words_of text = option_map all_words (read_from text Outside)
 -- the number of a name in a list of names of three letters each, in either case, the first being 1
 abbrev pub place_in : List (List ℕ) → ℕ → List ℕ → Option ℕ
 place_in [] n name = None
-place_in (known ∷ names) n name = if bytes_eq (str_to_ascii_lowercase name) known then Some n else place_in names (n + 1) name
+place_in (known ∷ names) n name =
+    if bytes_eq (str_to_ascii_lowercase name) known then Some n else place_in names (n + 1) name
 
 abbrev pub weekdays : List (List ℕ)
-weekdays = codes "mon" ∷ codes "tue" ∷ codes "wed" ∷ codes "thu" ∷ codes "fri" ∷ codes "sat" ∷ codes "sun" ∷ []
+weekdays = codes "mon" ∷ codes "tue" ∷ codes "wed" ∷ codes "thu" ∷ codes "fri" ∷ codes "sat"
+    ∷ codes "sun" ∷ []
 
 abbrev pub months : List (List ℕ)
 months =
-    codes "jan" ∷ codes "feb" ∷ codes "mar" ∷ codes "apr" ∷ codes "may" ∷ codes "jun" ∷ codes "jul" ∷ codes "aug" ∷ codes "sep" ∷ codes "oct"
+    codes "jan" ∷ codes "feb" ∷ codes "mar" ∷ codes "apr" ∷ codes "may" ∷ codes "jun" ∷ codes "jul"
+    ∷ codes "aug" ∷ codes "sep" ∷ codes "oct"
     ∷ codes "nov" ∷ codes "dec" ∷ []
 
 abbrev pub is_comma : List ℕ → Bool
 is_comma word = bytes_eq word (44 ∷ [])
 
 -- without a weekday and its comma; the weekday needn't be the date's
-abbrev pub behind_weekday : Option ℕ → List (List ℕ) → Option (List (List ℕ))
-behind_weekday None rest = None
-behind_weekday (Some day) rest = Some rest
+abbrev pub after_weekday : Option ℕ → List (List ℕ) → Option (List (List ℕ))
+after_weekday None rest = None
+after_weekday (Some day) rest = Some rest
 
 abbrev pub without_weekday : List (List ℕ) → Option (List (List ℕ))
 without_weekday [] = Some []
 without_weekday (a ∷ []) = Some (a ∷ [])
-without_weekday (a ∷ b ∷ rest) = if is_comma b then behind_weekday (place_in weekdays 1 a) rest else Some (a ∷ b ∷ rest)
+without_weekday (a ∷ b ∷ rest) =
+    if is_comma b then after_weekday (place_in weekdays 1 a) rest else Some (a ∷ b ∷ rest)
 
 abbrev pub value_from : ℕ → List ℕ → ℕ
 value_from n [] = n
@@ -89,21 +94,24 @@ value_from n (b ∷ bs) = value_from (n * 10 + (b - 48)) bs
 -- the number that digits are, from `least` to `most` of them
 abbrev pub number_in : ℕ → ℕ → List ℕ → Option ℕ
 number_in least most word =
-    if list_all is_ascii_digit word && (nat_le least (length word) && nat_le (length word) most) then Some (value_from 0 word) else None
+    if list_all is_ascii_digit word && (nat_le least (length word) && nat_le (length word) most)
+    then Some (value_from 0 word) else None
 
 -- a year of two digits is of 1950 to 2049, one of three digits is counted from 1900
 abbrev pub full_year : ℕ → ℕ → ℕ
-full_year size n = if size == 4 then n else (if size == 2 && nat_lt n 50 then n + 2000 else n + 1900)
+full_year size n =
+    if size == 4 then n else (if size == 2 && nat_lt n 50 then n + 2000 else n + 1900)
 
 abbrev pub year_in : List ℕ → Option ℕ
 year_in word = option_map (full_year (length word)) (number_in 2 4 word)
 
 -- a leap second is taken as the one before it
-abbrev pub if_time : ℕ → ℕ → ℕ → Option Time
+abbrev pub if_time : ℕ → ℕ → ℕ → Option TimeOfDay
 if_time hour minute second =
-    if nat_lt hour 24 && (nat_lt minute 60 && nat_le second 60) then Some (record { hour = hour; minute = minute; second = min second 59 }) else None
+    if nat_lt hour 24 && (nat_lt minute 60 && nat_le second 60)
+    then Some (record { hour = hour; minute = minute; second = min second 59 }) else None
 
-unfoldable pub time_by : List ℕ → List ℕ → List ℕ → Option Time
+unfoldable pub time_by : List ℕ → List ℕ → List ℕ → Option TimeOfDay
 time_by hour minute second = do
   h ← number_in 2 2 hour
   m ← number_in 2 2 minute
@@ -111,16 +119,18 @@ time_by hour minute second = do
   if_time h m s
 
 -- hh:mm or hh:mm:ss
-abbrev pub time_in : List ℕ → Option Time
-time_in (a ∷ b ∷ x ∷ c ∷ d ∷ []) = if x == 58 then time_by (a ∷ b ∷ []) (c ∷ d ∷ []) (codes "00") else None
-time_in (a ∷ b ∷ x ∷ c ∷ d ∷ y ∷ e ∷ f ∷ []) = if x == 58 && y == 58 then time_by (a ∷ b ∷ []) (c ∷ d ∷ []) (e ∷ f ∷ []) else None
+abbrev pub time_in : List ℕ → Option TimeOfDay
+time_in (a ∷ b ∷ x ∷ c ∷ d ∷ []) =
+    if x == 58 then time_by (a ∷ b ∷ []) (c ∷ d ∷ []) (codes "00") else None
+time_in (a ∷ b ∷ x ∷ c ∷ d ∷ y ∷ e ∷ f ∷ []) =
+    if x == 58 && y == 58 then time_by (a ∷ b ∷ []) (c ∷ d ∷ []) (e ∷ f ∷ []) else None
 time_in _ = None
 
-abbrev pub hours : Bool → ℕ → Offset
+abbrev pub hours : Bool → ℕ → ZoneOffset
 hours behind n = record { behind = behind; minutes = n * 60 }
 
 -- the names of RFC 822; every other name has UTC (RFC 5322, section 4.3)
-abbrev pub zone_named : List ℕ → Offset
+abbrev pub zone_named : List ℕ → ZoneOffset
 zone_named name =
     if bytes_eq name (codes "edt") then hours true 4
     else (if bytes_eq name (codes "est") || bytes_eq name (codes "cdt") then hours true 5
@@ -129,31 +139,34 @@ zone_named name =
     else (if bytes_eq name (codes "pst") then hours true 8 else hours false 0))))
 
 -- hhmm, of which mm are below 60
-abbrev pub offset_by : Bool → Option ℕ → Option Offset
+abbrev pub offset_by : Bool → Option ℕ → Option ZoneOffset
 offset_by behind None = None
-offset_by behind (Some n) = if nat_lt (n % 100) 60 then Some (record { behind = behind; minutes = (n / 100) * 60 + n % 100 }) else None
+offset_by behind (Some n) = if nat_lt (n % 100) 60
+    then Some (record { behind = behind; minutes = (n / 100) * 60 + n % 100 }) else None
 
-abbrev pub zone_in : List ℕ → Option Offset
+abbrev pub zone_in : List ℕ → Option ZoneOffset
 zone_in [] = None
 zone_in (b ∷ bs) =
     if b == 43 then offset_by false (number_in 4 4 bs)
     else (if b == 45 then offset_by true (number_in 4 4 bs)
-    else (if list_all is_ascii_alphabetic (b ∷ bs) then Some (zone_named (str_to_ascii_lowercase (b ∷ bs))) else None))
+    else (if list_all is_ascii_alphabetic (b ∷ bs)
+    then Some (zone_named (str_to_ascii_lowercase (b ∷ bs))) else None))
 
 -- a day that the month of the year has
-abbrev pub if_day : Moment → Option Moment
-if_day m = if nat_le 1 m.day && nat_le m.day (days_in_month (pos m.year) m.month) then Some m else None
+abbrev pub if_day : ZonedDateTime → Option ZonedDateTime
+if_day m =
+    if nat_le 1 m.day && nat_le m.day (days_in_month (pos m.year) m.month) then Some m else None
 
 -- a day that the calendar has
-pub record IsReal (m : Moment) : Type 0 where
+pub record IsReal (m : ZonedDateTime) : Type 0 where
   pub to_year : m.year < 10000
   pub from_month : 1 ≤ m.month
   pub to_month : m.month ≤ 12
   pub from_day : 1 ≤ m.day
   pub to_day : m.day ≤ days_in_month (pos m.year) m.month
 
-unfoldable pub moment_by : List ℕ → List ℕ → List ℕ → List ℕ → List ℕ → Option Moment
-moment_by day month year time zone = do
+unfoldable pub date_time_by : List ℕ → List ℕ → List ℕ → List ℕ → List ℕ → Option ZonedDateTime
+date_time_by day month year time zone = do
   d ← number_in 1 2 day
   m ← place_in months 1 month
   y ← year_in year
@@ -162,11 +175,11 @@ moment_by day month year time zone = do
   if_day (record { year = y; month = m; day = d; time = t; offset = z })
 
 -- day, month, year, time and zone, and nothing else
-abbrev pub moment_of_words : List (List ℕ) → Option Moment
-moment_of_words (day ∷ month ∷ year ∷ time ∷ zone ∷ []) = moment_by day month year time zone
+abbrev pub moment_of_words : List (List ℕ) → Option ZonedDateTime
+moment_of_words (day ∷ month ∷ year ∷ time ∷ zone ∷ []) = date_time_by day month year time zone
 moment_of_words _ = None
 
-unfoldable pub moment_in : List ℕ → Option Moment
+unfoldable pub moment_in : List ℕ → Option ZonedDateTime
 moment_in text = do
   words ← words_of text
   parts ← without_weekday words
@@ -176,34 +189,44 @@ abbrev pub two_digits : ℕ → List ℕ
 two_digits n = (48 + n / 10 % 10) ∷ (48 + n % 10) ∷ []
 
 -- Z, or the sign, the hours and the minutes
-abbrev pub offset_text : Offset → List ℕ
+abbrev pub offset_text : ZoneOffset → List ℕ
 offset_text z =
     if z.minutes == 0 then codes "Z"
-    else ((if z.behind then 45 else 43) ∷ two_digits (z.minutes / 60) ++ 58 ∷ two_digits (z.minutes % 60))
+    else ((if z.behind then 45 else 43) ∷ two_digits (z.minutes / 60) ++ 58
+    ∷ two_digits (z.minutes % 60))
 
 -- by RFC 3339: YYYY-MM-DDTHH:MM:SS and the offset
-abbrev pub moment_text : Moment → List ℕ
-moment_text m =
-    two_digits (m.year / 100) ++ two_digits m.year ++ 45 ∷ two_digits m.month ++ 45 ∷ two_digits m.day ++ 84 ∷ two_digits m.time.hour
+abbrev pub date_time_text : ZonedDateTime → List ℕ
+date_time_text m =
+    two_digits (m.year / 100) ++ two_digits m.year ++ 45 ∷ two_digits m.month ++ 45
+    ∷ two_digits m.day ++ 84 ∷ two_digits m.time.hour
     ++ 58 ∷ two_digits m.time.minute ++ 58 ∷ two_digits m.time.second ++ offset_text m.offset
 
 -- the date that a value on one line says, if it says one
 abbrev pub date_text : List ℕ → Option (List ℕ)
-date_text text = option_map moment_text (moment_in text)
+date_text text = option_map date_time_text (moment_in text)
 
 -- how many seconds a zone's clock is ahead of UTC
-abbrev pub offset_seconds : Offset → ℤ
+abbrev pub offset_seconds : ZoneOffset → ℤ
 offset_seconds z = if z.behind then neg_ℤ (pos (z.minutes * 60)) else pos (z.minutes * 60)
 
 -- the seconds since the beginning of 1970 in UTC: the clock of the zone, less its offset
-abbrev pub moment_seconds : Moment → ℤ
+abbrev pub moment_seconds : ZonedDateTime → ℤ
 moment_seconds m =
-    date_time_seconds (record { year = m.year; month = m.month; day = m.day; hour = m.time.hour; minute = m.time.minute; second = m.time.second })
+    date_time_seconds (record {
+      year = m.year;
+      month = m.month;
+      day = m.day;
+      hour = m.time.hour;
+      minute = m.time.minute;
+      second = m.time.second;
+    })
     -ℤ offset_seconds m.offset
 
 -- the moments of the years 0001 to 9999 (RFC 8620, section 1.4)
 abbrev pub if_in_range : ℤ → Option UtcDate
-if_in_range seconds = if int_le (negsuc 62135596799) seconds && int_le seconds (pos 253402300799) then Some (record { seconds = seconds }) else None
+if_in_range seconds = if int_le (negsuc 62135596799) seconds && int_le seconds (pos 253402300799)
+    then Some (record { seconds = seconds }) else None
 
 -- the moment that a value on one line says, if it says one of these
 abbrev pub utc_of : List ℕ → Option UtcDate

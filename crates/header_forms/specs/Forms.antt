@@ -15,13 +15,15 @@ text_or_null None = null
 text_or_null (Some t) = text t
 
 abbrev pub address_tree : Address → Tree
-address_tree a = object (fields_of ((codes "email", text a.email) ∷ (codes "name", text_or_null a.name) ∷ []))
+address_tree a =
+    object (fields_of ((codes "email", text a.email) ∷ (codes "name", text_or_null a.name) ∷ []))
 
 abbrev pub addresses_tree : List Address → Tree
 addresses_tree addresses = list (trees_of (map address_tree addresses))
 
 abbrev pub group_tree : Group → Tree
-group_tree g = object (fields_of ((codes "addresses", addresses_tree g.addresses) ∷ (codes "name", text_or_null g.name) ∷ []))
+group_tree g = object (fields_of ((codes "addresses", addresses_tree g.addresses)
+    ∷ (codes "name", text_or_null g.name) ∷ []))
 
 abbrev pub list_or_null : List (List ℕ) → Tree
 list_or_null [] = null

@@ -12,20 +12,21 @@ is_bare Quoted = false
 is_bare Comment = false
 is_bare Bracket = false
 
--- the sign that a character outside quotes, comments and brackets is: a colon opens a group where none is open, a semicolon
--- ends an open one; elsewhere they are plain characters
+-- the sign that a character outside quotes, comments and brackets is: a colon opens a group where
+-- none is open, a semicolon ends an open one; elsewhere they are plain characters
 abbrev pub bare_sign : Bool → ℕ → Option Sign
 bare_sign open' c =
     if c == 44 then Some Comma
-    else (if c == 58 && not open' then Some Colon else (if c == 59 && open' then Some Semicolon else None))
+    else (if c == 58 && not open' then Some Colon
+    else (if c == 59 && open' then Some Semicolon else None))
 
 abbrev pub sign_of : Bool → Mark → Option Sign
 sign_of open' m = if is_bare m.place then bare_sign open' m.character else None
 
-abbrev pub open_behind : Bool → Sign → Bool
-open_behind open' Comma = open'
-open_behind open' Colon = true
-open_behind open' Semicolon = false
+abbrev pub is_open_after : Bool → Sign → Bool
+is_open_after open' Comma = open'
+is_open_after open' Colon = true
+is_open_after open' Semicolon = false
 
 -- the pieces between signs
 pub data Slices : Type 0 where
@@ -38,7 +39,7 @@ onto m (slice ms sign later) = slice (m ∷ ms) sign later
 
 abbrev pub sliced : Option Sign → Mark → Bool → (Bool → Slices) → Slices
 sliced None m open' later = onto m (later open')
-sliced (Some sign) m open' later = slice [] sign (later (open_behind open' sign))
+sliced (Some sign) m open' later = slice [] sign (later (is_open_after open' sign))
 
 abbrev pub slices_from : List Mark → Bool → Slices
 slices_from [] open' = last []
@@ -53,13 +54,16 @@ abbrev pub with_item : List Mark → List Entry → List Entry
 with_item item [] = []
 with_item item (e ∷ es) = record { name = e.name; items = item ∷ e.items } ∷ es
 
--- the entries of a list where a group of this name is open, or none. Before a colon stands the name of a group, and the
--- items before that are an entry; a group ends at its semicolon or with the text.
+-- the entries of a list where a group of this name is open, or none. Before a colon stands the name
+-- of a group, and the items before that are an entry; a group ends at its semicolon or with the
+-- text.
 abbrev pub entries_from : Slices → Option (List Mark) → List Entry
 entries_from (last ms) name = record { name = name; items = ms ∷ [] } ∷ []
 entries_from (slice ms Comma later) name = with_item ms (entries_from later name)
-entries_from (slice ms Colon later) name = record { name = name; items = [] } ∷ entries_from later (Some ms)
-entries_from (slice ms Semicolon later) name = record { name = name; items = ms ∷ [] } ∷ entries_from later None
+entries_from (slice ms Colon later) name =
+    record { name = name; items = [] } ∷ entries_from later (Some ms)
+entries_from (slice ms Semicolon later) name =
+    record { name = name; items = ms ∷ [] } ∷ entries_from later None
 
 abbrev pub entries : List Mark → List Entry
 entries ms = entries_from (slices_from ms false) None

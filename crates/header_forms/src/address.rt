@@ -6,7 +6,8 @@ use jm_base::{Sequence, Text};
 pub struct Address {
     /// The address itself (addr-spec; RFC 5322, section 3.4.1) as it is written; it isn't empty.
     pub email: Text,
-    /// The name that stands beside it: the display-name before its bracket, else the text of a comment. It isn't empty.
+    /// The name next to it: the display-name before its bracket, else the text of a comment. It
+    /// isn't empty.
     pub name: Option<Text>,
 }
 

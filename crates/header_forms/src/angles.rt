@@ -7,7 +7,7 @@ ghost use Rattle.header_forms.specs.Texts.{without};
 use jm_base::{NoMemory, Sequence, Text, Texts};
 use std::alloc::Global;
 
-/// A text between brackets, and the text behind it.
+/// A text between brackets, and the text after it.
 #[derive(Clone, Copy)]
 struct Angle<'a> {
     text: &'a str,
@@ -16,7 +16,8 @@ struct Angle<'a> {
 
 /// The first text between brackets.
 fn next_angle(text: &str) -> Option<Angle<'_>>
-    ensures value { MatchOption result ((read text.now).outside ≡ []) (λ a. (read text.now).outside ≡ a.text.now ∷ (read a.rest.now).outside) }
+    ensures value { MatchOption result ((read text.now).outside ≡ [])
+        (λ a. (read text.now).outside ≡ a.text.now ∷ (read a.rest.now).outside) }
     ensures less { IfSome result (λ a. length a.rest.now < length text.now) }
 {
     let Some((_, inner)) = text.split_once('<') else {
@@ -47,8 +48,9 @@ fn push_angle(alloc: Global, found: &mut Texts, text: &str) -> Result<(), NoMemo
     Ok(())
 }
 
-/// The texts between `<` and `>` in a value on one line, without their white space: identifiers of messages, and URLs (RFC
-/// 8621, sections 4.1.2.5 and 4.1.2.7). Empty ones are left out, and what isn't closed is none.
+/// The texts between `<` and `>` in a value on one line, without their white space: identifiers of
+/// messages, and URLs (RFC 8621, sections 4.1.2.5 and 4.1.2.7). Empty ones are left out, and what
+/// isn't closed is none.
 pub fn angle_texts_of(alloc: Global, text: &str) -> Result<Texts, NoMemory>
     ensures { IfOk result (λ ts. ts ≡ angle_texts text.now) }
 {

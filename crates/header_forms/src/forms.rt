@@ -7,7 +7,7 @@ ghost use Rattle.jm_json.specs.Tree.{text as text'};
 
 use crate::address::{Address, Addresses, Group, Groups};
 use crate::angles::angle_texts_of;
-use crate::dates::date_of;
+use crate::date::date_of;
 use crate::form::Form;
 use crate::groups::{addresses_of, groups_of};
 use crate::texts::{on_one_line, raw_of, text_of_value};
@@ -91,9 +91,9 @@ fn list_or_null(alloc: Global, texts: Texts) -> Result<Json, NoMemory>
     Ok(Json::List(text_items(alloc, texts)?))
 }
 
-/// The value of a header field in a form, as JSON (RFC 8621, section 4.1.2). The value is what stands behind the field's colon,
-/// up to its last line end. Each value has each form: addresses that can't be read are left out, and a date that can't is
-/// null.
+/// The value of a header field in a form, as JSON (RFC 8621, section 4.1.2). The value is what
+/// follows the field's colon, up to its last line end. Each value has each form: addresses that
+/// can't be read are left out, and a date that can't is null.
 pub fn form_of(alloc: Global, value: &[u8], form: Form) -> Result<Json, NoMemory>
     ensures { IfOk result (λ j. tree_of j ≡ form_tree form value.now) }
 {

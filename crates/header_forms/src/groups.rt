@@ -9,12 +9,12 @@ use crate::address::{Address, Addresses, Group, Groups};
 use crate::items::{push_address, read_phrase};
 use crate::marking::read_marks;
 use crate::marks::{Mark, Part, Sign};
-use crate::pieces::{next_piece, open_behind};
+use crate::pieces::{is_open_after, next_piece};
 use jm_base::{NoMemory, Sequence, Text};
 use std::alloc::Global;
 use std::collections::VecDeque;
 
-/// The groups that are read, and the name and the addresses so far of the group at work.
+/// The groups that are read, and the name and the addresses up to here of the group at work.
 #[derive(Drop)]
 struct Work {
     groups: Groups,
@@ -39,9 +39,10 @@ fn push_group(groups: &mut Groups, name: Option<Text>, addresses: Addresses) -> 
     groups.push(Group { name, addresses })
 }
 
-/// Goes on with an item that ends at a comma.
+/// Continues with an item that ends at a comma.
 fn after_item(alloc: Global, work: Work, item: &[Mark]) -> Result<Work, NoMemory>
-    ensures { IfOk result (λ w. (later : Slices) → w.groups ++ groups_from w.name w.addresses later ≡ work.groups ++ groups_from work.name work.addresses (slice item.now Sign.Comma later)) }
+    ensures { IfOk result (λ w. (later : Slices) → w.groups ++ groups_from w.name w.addresses later
+        ≡ work.groups ++ groups_from work.name work.addresses (slice item.now Sign.Comma later)) }
 {
     let Work {
         groups,
@@ -56,9 +57,10 @@ fn after_item(alloc: Global, work: Work, item: &[Mark]) -> Result<Work, NoMemory
     })
 }
 
-/// Goes on with the name of a group, which ends at a colon.
+/// Continues with the name of a group, which ends at a colon.
 fn after_name(alloc: Global, work: Work, item: &[Mark]) -> Result<Work, NoMemory>
-    ensures { IfOk result (λ w. (later : Slices) → w.groups ++ groups_from w.name w.addresses later ≡ work.groups ++ groups_from work.name work.addresses (slice item.now Sign.Colon later)) }
+    ensures { IfOk result (λ w. (later : Slices) → w.groups ++ groups_from w.name w.addresses later
+        ≡ work.groups ++ groups_from work.name work.addresses (slice item.now Sign.Colon later)) }
 {
     let Work {
         mut groups,
@@ -74,9 +76,10 @@ fn after_name(alloc: Global, work: Work, item: &[Mark]) -> Result<Work, NoMemory
     })
 }
 
-/// Goes on with the last item of a group, which ends at a semicolon.
+/// Continues with the last item of a group, which ends at a semicolon.
 fn after_group(alloc: Global, work: Work, item: &[Mark]) -> Result<Work, NoMemory>
-    ensures { IfOk result (λ w. (later : Slices) → w.groups ++ groups_from w.name w.addresses later ≡ work.groups ++ groups_from work.name work.addresses (slice item.now Sign.Semicolon later)) }
+    ensures { IfOk result (λ w. (later : Slices) → w.groups ++ groups_from w.name w.addresses later
+        ≡ work.groups ++ groups_from work.name work.addresses (slice item.now Sign.Semicolon later)) }
 {
     let Work {
         mut groups,
@@ -92,9 +95,10 @@ fn after_group(alloc: Global, work: Work, item: &[Mark]) -> Result<Work, NoMemor
     })
 }
 
-/// Goes on with a piece that ends with this sign.
+/// Continues with a piece that ends with this sign.
 fn after_piece(alloc: Global, work: Work, item: &[Mark], sign: Sign) -> Result<Work, NoMemory>
-    ensures { IfOk result (λ w. (later : Slices) → w.groups ++ groups_from w.name w.addresses later ≡ work.groups ++ groups_from work.name work.addresses (slice item.now sign later)) }
+    ensures { IfOk result (λ w. (later : Slices) → w.groups ++ groups_from w.name w.addresses later
+        ≡ work.groups ++ groups_from work.name work.addresses (slice item.now sign later)) }
 {
     match sign {
         Sign::Comma => after_item(alloc, work, item),
@@ -105,7 +109,8 @@ fn after_piece(alloc: Global, work: Work, item: &[Mark], sign: Sign) -> Result<W
 
 /// The groups, with the last piece.
 fn at_end(alloc: Global, work: Work, item: &[Mark]) -> Result<Groups, NoMemory>
-    ensures { IfOk result (λ gs. gs ≡ work.groups ++ groups_from work.name work.addresses (last item.now)) }
+    ensures { IfOk result (λ gs. gs ≡ work.groups
+        ++ groups_from work.name work.addresses (last item.now)) }
 {
     let Work {
         mut groups,
@@ -129,14 +134,14 @@ fn read_groups(alloc: Global, marks: &[Mark]) -> Result<Groups, NoMemory>
     let mut rest = marks;
     while let Some(piece) = next_piece(rest, in_group) {
         work = after_piece(alloc, work, piece.item, piece.sign)?;
-        in_group = open_behind(in_group, piece.sign);
+        in_group = is_open_after(in_group, piece.sign);
         rest = piece.rest;
     }
     at_end(alloc, work, rest)
 }
 
-/// The groups of a value on one line (RFC 8621, section 4.1.2.4). Addresses outside groups that stand together are a group
-/// without a name.
+/// The groups of a value on one line (RFC 8621, section 4.1.2.4). Addresses outside groups that
+/// stand together are a group without a name.
 pub fn groups_of(alloc: Global, text: &str) -> Result<Groups, NoMemory>
     ensures { IfOk result (λ gs. gs ≡ groups_in text.now) }
 {

@@ -159,14 +159,14 @@ fn name_before(alloc: Global, item: &[Mark]) -> Result<Option<Text>, NoMemory>
     Ok(None)
 }
 
-/// What stands behind a parenthesis that opens a comment, or else what was found before.
+/// What follows a parenthesis that opens a comment, or else what was found before.
 fn newer<'a>(mark: Mark, after: &'a [Mark], found: &'a [Mark]) -> &'a [Mark]
     ensures { result.now ≡ cond (Addresses.opens_comment mark) after.now found.now }
 {
     if opens_comment(mark) { after } else { found }
 }
 
-/// What stands behind the parenthesis that opens the last comment.
+/// What follows the parenthesis that opens the last comment.
 fn last_comment(item: &[Mark]) -> &[Mark]
     ensures { result.now ≡ Addresses.last_comment item.now }
 {

@@ -1,7 +1,7 @@
-// Laws of the forms of addresses and dates (RFC 8621, section 4.1.2), and what the definitions say of examples. Each is the contract
-// of a function that does nothing.
-ghost use Rattle.std.specs.Prelude.{◌≡◌, ◌<◌, [], ◌∷◌, ◌++◌, List, ℕ, Some, None, true, length, codes};
-ghost use Rattle.std.specs.List.{list_all};
+// Laws of the forms of addresses and dates (RFC 8621, section 4.1.2), and what the definitions say
+// of examples. Each is the contract of a function that does nothing.
+ghost use Rattle.std.specs.Prelude.{◌≡◌, ◌<◌, map, [], ◌∷◌, ◌++◌, List, ℕ, Some, None, true, length, codes};
+ghost use Rattle.std.specs.List.{AllByRecursion, list_all};
 ghost use Rattle.std.specs.Str.{IsUtf8, chars, encode_utf8_all};
 ghost use Rattle.mail_text.specs.declared.comment.State.TheVariants.{Outside};
 ghost use Rattle.mail_text.specs.Comments.{after_text};
@@ -11,29 +11,62 @@ ghost use Rattle.header_forms.specs.Addresses.{addresses_in, groups_in, if_some}
 ghost use Rattle.header_forms.specs.Angles.{angle_texts};
 ghost use Rattle.header_forms.specs.Dates.{date_text, utc_of};
 ghost use Rattle.header_forms.specs.DateWords.{AreComments};
-ghost use Rattle.header_forms.specs.Plain.{is_inner, is_plain, quoted};
+ghost use Rattle.header_forms.specs.Plain.{group_text, is_inner, is_plain, is_plain_in_group, quoted};
 
-/// A text without quote marks, parentheses, commas, colons and angle brackets is one address, itself, without a name; white space
-/// at its ends is dropped (addr-spec; RFC 5322, section 3.4.1).
+/// A text without quote marks, parentheses, commas, colons and angle brackets is one address,
+/// itself, without a name; white space at its ends is dropped (addr-spec; RFC 5322, section 3.4.1).
 pub fn plain_texts_are_one_address()
-    ensures { (text : List ℕ) → IsUtf8 text → list_all is_plain (chars text) ≡ true → 0 < length (trimmed text) → addresses_in text ≡ record { email = trimmed text; name = None } ∷ [] }
+    ensures { (text : List ℕ) → IsUtf8 text → list_all is_plain (chars text) ≡ true → 0
+        < length (trimmed text) → addresses_in text ≡ record { email = trimmed text; name = None }
+        ∷ [] }
 {}
 
-/// A display-name that is written between quote marks, with a backslash before each quote mark and backslash in it, is the name that
-/// was meant, trimmed and with its encoded-words decoded, whatever its characters are (quoted-string; RFC 5322, section 3.2.4).
+/// A group of items without quote marks, parentheses, commas, colons, semicolons and angle brackets
+/// is shown under its name, trimmed and with its encoded-words decoded, with one address for each
+/// item, in order (group; RFC 5322, section 3.4).
+pub fn plain_groups_hold_their_items()
+    ensures { (text name : List ℕ) (items : List (List ℕ)) → chars text ≡ group_text name items
+        → list_all is_plain name ≡ true
+        → AllByRecursion (λ item. (list_all is_plain_in_group item ≡ true)
+        × (0 < length (trimmed (encode_utf8_all item)))) items
+        → groups_in text ≡ record {
+          name = Some (decoded_words (trimmed (encode_utf8_all name)));
+          addresses = map (λ item. record {
+            email = trimmed (encode_utf8_all item);
+            name = None;
+          }) items;
+        } ∷ [] }
+{}
+
+/// A display-name that is written between quote marks, with a backslash before each quote mark and
+/// backslash in it, is the name that was meant, trimmed and with its encoded-words decoded,
+/// whatever its characters are (quoted-string; RFC 5322, section 3.2.4).
 pub fn quoted_names_are_read_back()
-    ensures { (text name address : List ℕ) → chars text ≡ 34 ∷ (quoted name ++ 34 ∷ 60 ∷ (address ++ 62 ∷ [])) → list_all is_inner address ≡ true → 0 < length (trimmed (encode_utf8_all address)) → addresses_in text ≡ record { email = trimmed (encode_utf8_all address); name = if_some (decoded_words (trimmed (encode_utf8_all name))) } ∷ [] }
+    ensures { (text name address : List ℕ) → chars text ≡ 34
+        ∷ (quoted name ++ 34 ∷ 60 ∷ (address ++ 62 ∷ [])) → list_all is_inner address ≡ true → 0
+        < length (trimmed (encode_utf8_all address)) → addresses_in text
+        ≡ record {
+          email = trimmed (encode_utf8_all address);
+          name =
+              if_some (decoded_words (trimmed (encode_utf8_all name)));
+        } ∷ [] }
 {}
 
-/// Comments after a space between two words of a date change nothing of what it says (RFC 5322, section 3.2.2): neither the date
-/// that is shown nor its moment. What stands before must have its own comments closed.
+/// Comments after a space between two words of a date change nothing of what it says (RFC 5322,
+/// section 3.2.2): neither the date that is shown nor its moment. What stands before must have its
+/// own comments closed.
 pub fn comments_in_dates_change_nothing()
-    ensures date { (front comments back : List ℕ) → after_text Outside front ≡ Outside → AreComments comments → date_text (front ++ 32 ∷ (comments ++ back)) ≡ date_text (front ++ 32 ∷ back) }
-    ensures moment { (front comments back : List ℕ) → after_text Outside front ≡ Outside → AreComments comments → utc_of (front ++ 32 ∷ (comments ++ back)) ≡ utc_of (front ++ 32 ∷ back) }
+    ensures date { (front comments back : List ℕ) → after_text Outside front ≡ Outside
+        → AreComments comments → date_text (front ++ 32 ∷ (comments ++ back))
+        ≡ date_text (front ++ 32 ∷ back) }
+    ensures moment { (front comments back : List ℕ) → after_text Outside front ≡ Outside
+        → AreComments comments → utc_of (front ++ 32 ∷ (comments ++ back))
+        ≡ utc_of (front ++ 32 ∷ back) }
 {}
 
-/// Examples of identifiers, addresses and groups: comments and quote marks within others; what isn't closed, which goes on to the
-/// end; quote marks in a bracket, which hide a `>`; and plain characters, a `;` outside a group and a second `:` in one.
+/// Examples of identifiers, addresses and groups: comments and quote marks within others; what
+/// isn't closed, which extends to the end; quote marks in a bracket, which hide a `>`; and plain
+/// characters, a `;` outside a group and a second `:` in one.
 pub fn forms_of_examples()
     ensures identifiers { angle_texts (codes " <a b@x> <c@y>") ≡ codes "ab@x" ∷ codes "c@y" ∷ [] }
     ensures addresses { addresses_in (codes "\"A \\\" B\" (c) <a@x>, (x(y)) b@y") ≡ record { email = codes "a@x"; name = Some (codes "A \" B") } ∷ record { email = codes "b@y"; name = Some (codes "x(y)") } ∷ [] }
@@ -45,7 +78,8 @@ pub fn forms_of_examples()
     ensures plain_signs { groups_in (codes "a;, G: b:c;") ≡ record { name = None; addresses = record { email = codes "a;"; name = None } ∷ [] } ∷ record { name = Some (codes "G"); addresses = record { email = codes "b:c"; name = None } ∷ [] } ∷ [] }
 {}
 
-/// Examples of dates: years of two digits, a day that its month hasn't, second 60 and comments within others, and a missing zone.
+/// Examples of dates: years of two digits, a day that its month hasn't, second 60 and comments
+/// within others, and a missing zone.
 pub fn dates_of_examples()
     ensures short_year { date_text (codes " Tue, 1 Jul 03 10:52:37 +0200 (x)") ≡ Some (codes "2003-07-01T10:52:37+02:00") }
     ensures no_day { date_text (codes " 31 Feb 2020 00:00 GMT") ≡ None }

@@ -1,11 +1,13 @@
-// Where each character of a list of addresses stands.
+// Where each character of a list of addresses is.
 ghost use Rattle.std.specs.Prelude.{◌≡◌, ◌<◌, ◌+◌, ◌^◌, IfOk};
 ghost use Rattle.std.specs.Str.{chars};
 ghost use Rattle.header_forms.specs.Marks;
-ghost use Rattle.header_forms.specs.Marks.{step_to, closed, depth_of, marks_from, marks};
+ghost use Rattle.mail_text.specs.declared.comment.State.{State as CommentState};
+ghost use Rattle.header_forms.specs.Marks.{step_to, in_comment, is_said_in_comment, depth_of, marks_from, marks};
 
 use crate::marks::{Mark, Place, State, Step};
 use jm_base::NoMemory;
+use mail_text::{State as CommentState, next_state};
 use std::alloc::Global;
 
 /// The step of a character that stands here.
@@ -28,7 +30,12 @@ fn step_outside(c: char) -> Step
     if c == '"' {
         step_to(c, Place::Quoted, false, State::InQuotes(false))
     } else if c == '(' {
-        step_to(c, Place::Comment, false, State::InComment(1))
+        step_to(
+            c,
+            Place::Comment,
+            false,
+            State::InComment(CommentState::Inside(1)),
+        )
     } else if c == '<' {
         step_to(c, Place::Bracket, false, State::InBracket)
     } else {
@@ -50,30 +57,36 @@ fn step_in_quotes(escaped: bool, c: char) -> Step
     }
 }
 
-/// The parenthesis that closes one of this many comments.
-fn close_comment(depth: usize, c: char) -> Step
-    ensures { result ≡ closed depth c }
+/// Returns what is open where comments are in this state, or none is left.
+fn in_comment(comments: CommentState) -> State
+    ensures { result ≡ in_comment comments }
 {
-    if depth <= 1 {
-        step_to(c, Place::Comment, false, State::Outside)
-    } else {
-        step_to(c, Place::Comment, true, State::InComment(depth - 1))
+    match comments {
+        CommentState::Outside => State::Outside,
+        CommentState::Inside(_) | CommentState::Escaped(_) => State::InComment(comments),
     }
 }
 
-fn step_in_comment(depth: usize, c: char) -> Step
-    requires { depth + 1 < 2 ^ 64 }
-    ensures { result ≡ Marks.step (State.InComment depth) c }
+/// Returns whether a character in comments is said, where the comments are then in the state `next`.
+fn is_said_in_comment(comments: CommentState, next: CommentState, c: char) -> bool
+    ensures { result ≡ is_said_in_comment comments next c }
 {
-    if c == ')' {
-        close_comment(depth, c)
-    } else if c == '(' {
-        step_to(c, Place::Comment, true, State::InComment(depth + 1))
-    } else if c == '\\' {
-        step_to(c, Place::Comment, false, State::EscapedInComment(depth))
-    } else {
-        step_to(c, Place::Comment, true, State::InComment(depth))
+    match comments {
+        CommentState::Escaped(_) => true,
+        CommentState::Inside(_) | CommentState::Outside => match next {
+            CommentState::Outside => false,
+            CommentState::Inside(_) | CommentState::Escaped(_) => c != '\\',
+        },
     }
+}
+
+fn step_in_comment(comments: CommentState, c: char) -> Step
+    requires { depth_of (State.InComment comments) + 1 < 2 ^ 64 }
+    ensures { result ≡ Marks.step (State.InComment comments) c }
+{
+    let next = next_state(comments, c as u32);
+    let said = is_said_in_comment(comments, next, c);
+    step_to(c, Place::Comment, said, in_comment(next))
 }
 
 fn step_in_bracket(c: char) -> Step
@@ -102,7 +115,7 @@ fn step_in_bracket_quotes(escaped: bool, c: char) -> Step
     }
 }
 
-/// A character's mark, and what is open behind it.
+/// A character's mark, and what is open after it.
 fn step(state: State, c: char) -> Step
     requires { depth_of state + 1 < 2 ^ 64 }
     ensures { result ≡ Marks.step state c }
@@ -110,10 +123,7 @@ fn step(state: State, c: char) -> Step
     match state {
         State::Outside => step_outside(c),
         State::InQuotes(escaped) => step_in_quotes(escaped, c),
-        State::InComment(depth) => step_in_comment(depth, c),
-        State::EscapedInComment(depth) => {
-            step_to(c, Place::Comment, true, State::InComment(depth))
-        }
+        State::InComment(comments) => step_in_comment(comments, c),
         State::InBracket => step_in_bracket(c),
         State::InBracketQuotes(escaped) => step_in_bracket_quotes(escaped, c),
     }

@@ -1,6 +1,7 @@
-// The characters of a list of addresses, each with where it stands.
+// The characters of a list of addresses, each with where it is.
+use mail_text::State as CommentState;
 
-/// Where a character stands.
+/// Where a character is.
 #[derive(Clone, Copy)]
 pub enum Place {
     /// Outside the other three.
@@ -29,17 +30,15 @@ pub enum State {
     Outside,
     /// Quote marks.
     InQuotes(bool),
-    /// This many comments.
-    InComment(usize),
-    /// This many comments, and a backslash quotes the next character.
-    EscapedInComment(usize),
+    /// Comments: how many, and whether a backslash quotes the next character.
+    InComment(CommentState),
     /// An angle bracket.
     InBracket,
     /// Quote marks in an angle bracket.
     InBracketQuotes(bool),
 }
 
-/// A character's mark, and what is open behind it.
+/// A character's mark, and what is open after it.
 #[derive(Clone, Copy)]
 pub struct Step {
     pub mark: Mark,
@@ -51,7 +50,7 @@ pub struct Step {
 pub enum Sign {
     /// Between two items.
     Comma,
-    /// Behind the name of a group.
+    /// After the name of a group.
     Colon,
     /// At the end of a group.
     Semicolon,
@@ -64,7 +63,8 @@ pub enum Part {
     Whole,
     /// Those outside comments.
     Plain,
-    /// What is said outside comments: of what stands before a bracket or a group's colon this is the display-name.
+    /// What is said outside comments: of what stands before a bracket or a group's colon this is
+    /// the display-name.
     Phrase,
     /// What is said in comments (comment; RFC 5322, section 3.2.2).
     Remark,

@@ -1,11 +1,11 @@
 // A list of addresses cut at its signs.
 ghost use Rattle.std.specs.Prelude.{◌≡◌, ◌<◌, length, MatchOption, IfSome};
 ghost use Rattle.header_forms.specs.Groups;
-ghost use Rattle.header_forms.specs.Groups.{slices_from, open_behind, last, slice};
+ghost use Rattle.header_forms.specs.Groups.{slices_from, is_open_after, last, slice};
 
 use crate::marks::{Mark, Place, Sign};
 
-/// The characters before the first sign, that sign, and the characters behind it.
+/// The characters before the first sign, that sign, and the characters after it.
 #[derive(Clone, Copy)]
 pub struct Piece<'a> {
     pub item: &'a [Mark],
@@ -24,7 +24,8 @@ fn is_bare(place: Place) -> bool
     }
 }
 
-/// The sign that a character outside quotes, comments and brackets is, where a group is open or not.
+/// The sign that a character outside quotes, comments and brackets is, where a group is open or
+/// not.
 fn bare_sign(in_group: bool, c: char) -> Option<Sign>
     ensures { result ≡ Groups.bare_sign in_group c }
 {
@@ -49,9 +50,9 @@ fn sign_of(in_group: bool, mark: Mark) -> Option<Sign>
     }
 }
 
-/// Whether a group is open behind a sign.
-pub fn open_behind(in_group: bool, sign: Sign) -> bool
-    ensures { result ≡ Groups.open_behind in_group sign }
+/// Whether a group is open after a sign.
+pub fn is_open_after(in_group: bool, sign: Sign) -> bool
+    ensures { result ≡ Groups.is_open_after in_group sign }
 {
     match sign {
         Sign::Comma => in_group,
@@ -62,7 +63,9 @@ pub fn open_behind(in_group: bool, sign: Sign) -> bool
 
 /// The first piece that ends with a sign, where a group is open or not.
 pub fn next_piece(marks: &[Mark], in_group: bool) -> Option<Piece<'_>>
-    ensures value { MatchOption result (slices_from marks.now in_group ≡ last marks.now) (λ p. slices_from marks.now in_group ≡ slice p.item.now p.sign (slices_from p.rest.now (open_behind in_group p.sign))) }
+    ensures value { MatchOption result (slices_from marks.now in_group ≡ last marks.now)
+        (λ p. slices_from marks.now in_group ≡ slice p.item.now p.sign
+        (slices_from p.rest.now (is_open_after in_group p.sign))) }
     ensures less { IfSome result (λ p. length p.rest.now < length marks.now) }
 {
     for (i, mark) in marks.iter().enumerate() {

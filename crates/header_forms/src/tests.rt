@@ -1,5 +1,5 @@
-// Values in each form. What they say is by docs/rules/messages-forms.md, and by the examples of RFC 8621, section 4.1.2, RFC 5322,
-// appendix A, RFC 2047, section 8, and RFC 2369.
+// Values in each form. What they say is by docs/rules/messages-forms.md, and by the examples of RFC
+// 8621, section 4.1.2, RFC 5322, appendix A, RFC 2047, section 8, and RFC 2369.
 use crate::{
     Addresses, Form, addresses_of, angle_texts_of, form_of, groups_of, on_one_line, raw_of,
     text_of_value,
@@ -9,7 +9,7 @@ use jm_json::write;
 use std::alloc::Global;
 use std::test::Fail;
 
-/// Whether each value of a table has the JSON that stands beside it.
+/// Whether each value of a table has the JSON next to it.
 fn all_show(alloc: Global, form: Form, table: &[(&[u8], &str)]) -> Result<bool, NoMemory> {
     for (value, shown) in table {
         let tree = form_of(alloc, value, form)?;
@@ -104,8 +104,8 @@ fn texts_as_json(rt: HostRuntime) -> Result<(), Fail> {
     Ok(())
 }
 
-/// RFC 5322, appendices A.1.1, A.1.2, A.1.3, A.2, A.5 and A.6.1, and RFC 8621, section 4.1.2.3. A comment within brackets is a part
-/// of the address here.
+/// RFC 5322, appendices A.1.1, A.1.2, A.1.3, A.2, A.5 and A.6.1, and RFC 8621, section 4.1.2.3. A
+/// comment within brackets is a part of the address here.
 #[test]
 fn addresses_of_the_standard(rt: HostRuntime) -> Result<(), Fail> {
     let table: [(&[u8], &str); 11] = [
@@ -155,7 +155,8 @@ fn addresses_of_the_standard(rt: HostRuntime) -> Result<(), Fail> {
     Ok(())
 }
 
-/// The second to the fifth are of RFC 5322, appendices A.1.3 and A.5, the sixth is of RFC 8621, section 4.1.2.4.
+/// The second to the fifth are of RFC 5322, appendices A.1.3 and A.5, the sixth is of RFC 8621,
+/// section 4.1.2.4.
 #[test]
 fn groups(rt: HostRuntime) -> Result<(), Fail> {
     let table: [(&[u8], &str); 11] = [
@@ -234,7 +235,7 @@ fn names(rt: HostRuntime) -> Result<(), Fail> {
     Ok(())
 }
 
-/// What isn't closed goes on to the end, or to the item's end.
+/// What isn't closed extends to the end, or to the item's end.
 #[test]
 fn unclosed(rt: HostRuntime) -> Result<(), Fail> {
     let table: [(&[u8], &str); 5] = [
@@ -303,7 +304,7 @@ fn many_addresses(rt: HostRuntime) -> Result<(), Fail> {
     assert!(rt; is_list(&addresses, 100_001, "b@y"));
     let tree = form_of(rt.alloc(), line.as_bytes(), Form::Addresses)?;
     let shown = write(rt.alloc(), &tree)?;
-    // Two brackets, and objects of 27 and 26 bytes with a comma behind each but the last.
+    // Two brackets, and objects of 27 and 26 bytes with a comma after each but the last.
     assert!(rt; shown.len() == 2 + 100_000 * 28 + 26);
     Ok(())
 }

@@ -17,7 +17,8 @@ fn drop_zeros(text: &mut String)
     text.retain(|c| c != '\0');
 }
 
-/// The Raw form of a value (RFC 8621, section 4.1.2.1): with U+FFFD for what is no UTF-8, and without U+0000.
+/// The Raw form of a value (RFC 8621, section 4.1.2.1): with U+FFFD for what is no UTF-8, and
+/// without U+0000.
 pub fn raw_of(alloc: Global, value: &[u8]) -> Result<Text, NoMemory>
     ensures { IfOk result (λ t. t ≡ raw_text value.now) }
 {
@@ -28,7 +29,8 @@ pub fn raw_of(alloc: Global, value: &[u8]) -> Result<Text, NoMemory>
 
 /// Adds a line that an LF ends, without its line end.
 fn push_line(out: &mut String, line: &str) -> Result<(), NoMemory>
-    ensures { OnOk result (string_bytes out.new ≡ string_bytes out.old ++ Lines.text (line.now ++ 10 ∷ [])) }
+    ensures { OnOk result (string_bytes out.new ≡ string_bytes out.old
+        ++ Lines.text (line.now ++ 10 ∷ [])) }
 {
     match line.strip_suffix('\r') {
         Some(front) => out.push_str(front)?,
@@ -77,8 +79,8 @@ pub(crate) fn decode_text(alloc: Global, text: &str) -> Result<Text, NoMemory>
     decode_words(alloc, text.as_bytes())
 }
 
-/// The Text form of a value (RFC 8621, section 4.1.2.2): on one line, without the spaces at its beginning, and with its
-/// encoded words decoded.
+/// The Text form of a value (RFC 8621, section 4.1.2.2): on one line, without the spaces at its
+/// beginning, and with its encoded words decoded.
 pub fn text_of_value(alloc: Global, value: &[u8]) -> Result<Text, NoMemory>
     ensures { IfOk result (λ t. t ≡ text_of value.now) }
 {

@@ -56,7 +56,7 @@ BecomesTheOther =
 abbrev pub IsOneWay : (ℕ → ℕ → Ordering) → Type 0
 IsOneWay order = (a b : ℕ) → order a b ≡ Less → order b a ≡ Less → ⊥
 
--- What a change must touch: two items that it does not touch stand in the same order before and
+-- What a change must touch: two items that it does not touch are in the same order before and
 -- after, and an item that it does not touch is in the new list if and only if it is in the old one.
 pub record Touches
     (touched : ℕ → Bool) (before after : ℕ → ℕ → Ordering) (old new : List ℕ) : Type 0 where

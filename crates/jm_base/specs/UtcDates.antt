@@ -78,7 +78,8 @@ date_time_on day seconds = record {
 -- the date-time in UTC of a timestamp
 abbrev pub date_time_at : ℤ → DateTime
 date_time_at seconds =
-    date_time_on (int_div_euclid seconds (pos 86400)) (unsigned_abs (int_rem_euclid seconds (pos 86400)))
+    date_time_on (int_div_euclid seconds (pos 86400))
+    (unsigned_abs (int_rem_euclid seconds (pos 86400)))
 
 -- the last two digits of a number
 abbrev pub two_digits : ℕ → List ℕ
@@ -87,7 +88,8 @@ two_digits n = decimal (n / 10 % 10) ++ decimal (n % 10)
 -- YYYY-MM-DD (RFC 3339, 5.6: full-date)
 abbrev pub full_date_text : DateTime → List ℕ
 full_date_text c =
-    two_digits (c.year / 100) ++ two_digits c.year ++ codes "-" ++ two_digits c.month ++ codes "-" ++ two_digits c.day
+    two_digits (c.year / 100) ++ two_digits c.year ++ codes "-" ++ two_digits c.month ++ codes "-"
+    ++ two_digits c.day
 
 -- HH:MM:SS (RFC 3339, 5.6: partial-time, without a fraction)
 abbrev pub partial_time_text : DateTime → List ℕ

@@ -8,7 +8,8 @@ use std::alloc::Global;
 
 // Whether a text may be a number: it is not empty, and begins with no plus and no leading zero.
 fn begins_well(text: &[u8]) -> bool
-    ensures { IsTrue result ↔ ((0 < length text.now) × (slice_index text.now 0 ≢ 43) × (slice_index text.now 0 ≡ 48 → length text.now ≡ 1)) }
+    ensures { IsTrue result ↔ ((0 < length text.now) × (slice_index text.now 0 ≢ 43)
+        × (slice_index text.now 0 ≡ 48 → length text.now ≡ 1)) }
 {
     if text.is_empty() {
         return false;

@@ -55,7 +55,8 @@ fn keep_others(alloc: Global, list: &[u64], removed: &[u64]) -> Result<Vec<u64>,
 // is left. Returns how many were moved.
 fn extend_front(front: &mut Vec<u64>, rest: &[u64], wanted: usize) -> Result<usize, NoMemory>
     ensures bound { IfOk result (λ count. count ≤ length rest.now) }
-    ensures moved { IfOk result (λ n. front.new.items ++ drop n rest.now ≡ front.old.items ++ rest.now) }
+    ensures moved { IfOk result (λ n. front.new.items ++ drop n rest.now ≡ front.old.items
+        ++ rest.now) }
     ensures reached { IfOk result (λ n. n ≡ length rest.now ⊎ wanted ≤ length front.new.items) }
 {
     let count = rest.len().min(wanted.saturating_sub(front.len()));
@@ -75,7 +76,8 @@ fn insert_item(front: &mut Vec<u64>, item: &AddedItem) -> Result<(), NoMemory>
 // Returns the list with the items inserted in order, in one pass while the indices rise.
 fn insert_all(alloc: Global, list: &[u64], added: &[AddedItem]) -> Result<Vec<u64>, SpliceFault>
     ensures ok { IfOk result (λ v. insert_all 0 list.now added.now ≡ Ok v.items) }
-    ensures bad_index { (i : ℕ) → result ≡ Err (SpliceFault.BadIndex i) → insert_all 0 list.now added.now ≡ Err i }
+    ensures bad_index { (i : ℕ) → result ≡ Err (SpliceFault.BadIndex i)
+        → insert_all 0 list.now added.now ≡ Err i }
 {
     let mut front = Vec::new(alloc);
     let mut rest = list;

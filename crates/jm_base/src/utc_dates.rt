@@ -164,7 +164,8 @@ fn two_at(place: usize, text: &[u8]) -> u64
 
 // The number of a day since the beginning of 1970, if the calendar has it.
 fn find_day(year: u64, month: u64, day: u64) -> Option<i64>
-    ensures { MatchOption result (¬ IsDay year month day) (λ n. IsDay year month day × (n ≡ days_from_civil (pos year) month day)) }
+    ensures { MatchOption result (¬ IsDay year month day)
+        (λ n. IsDay year month day × (n ≡ days_from_civil (pos year) month day)) }
 {
     if year == 0 || year > 9999 || month > 12 || day > 31 {
         return None;
@@ -178,7 +179,8 @@ fn find_day(year: u64, month: u64, day: u64) -> Option<i64>
 // The seconds of a day that have gone by at a time of it.
 fn find_second(hour: u64, minute: u64, second: u64) -> Option<i64>
     ensures bound { IfSome result (λ n. (pos 0 ≤ℤ n) × (n ≤ℤ pos 86_399)) }
-    ensures value { MatchOption result (¬ IsTime hour minute second) (λ n. IsTime hour minute second × (n ≡ pos (hour * 3600 + minute * 60 + second))) }
+    ensures value { MatchOption result (¬ IsTime hour minute second)
+        (λ n. IsTime hour minute second × (n ≡ pos (hour * 3600 + minute * 60 + second))) }
 {
     if hour > 23 || minute > 59 || second > 59 {
         return None;
@@ -190,7 +192,8 @@ fn find_second(hour: u64, minute: u64, second: u64) -> Option<i64>
 fn find_seconds(text: &[u8]) -> Option<i64>
     requires { 19 ≤ length text.now }
     ensures bound { IfSome result (λ n. (FIRST_TIMESTAMP ≤ℤ n) × (n ≤ℤ pos LAST_TIMESTAMP)) }
-    ensures value { MatchOption result (¬ IsDateTime (date_time_in text.now)) (λ n. IsDateTime (date_time_in text.now) × (n ≡ date_time_seconds (date_time_in text.now))) }
+    ensures value { MatchOption result (¬ IsDateTime (date_time_in text.now))
+        (λ n. IsDateTime (date_time_in text.now) × (n ≡ date_time_seconds (date_time_in text.now))) }
 {
     let year = two_at(0, text) * 100 + two_at(2, text);
     let Some(day) = find_day(year, two_at(5, text), two_at(8, text)) else {

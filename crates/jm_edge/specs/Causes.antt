@@ -1,7 +1,7 @@
 -- When a fault may be answered.
 use Rattle.std.specs.Prelude.{ℕ, ◌+◌, ◌-◌, ◌^◌, ◌≤◌, min, OnErr, Result}
 
--- a count of faults rose, or stands at the end of its 64 bits
+-- a count of faults rose, or is at the end of its 64 bits
 abbrev pub Rose : ℕ → ℕ → Type 0
 Rose before now = min (before + 1) (2 ^ 64 - 1) ≤ now
 

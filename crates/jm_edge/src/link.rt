@@ -44,7 +44,8 @@ pub trait Link: Drop + Send {
 /// Writes the whole piece to a link, or a prefix of the piece if the link fails.
 pub fn put_to_link<L: Link>(link: &mut L, piece: &[u8]) -> Result<(), Failed>
     ensures ok { OnOk result (Appends (L.held link.old) (L.held link.new) piece.now) }
-    ensures err { OnErr result ((n : ℕ) × Appends (L.held link.old) (L.held link.new) (take n piece.now)) }
+    ensures err { OnErr result ((n : ℕ) × Appends (L.held link.old) (L.held link.new)
+        (take n piece.now)) }
     ensures cause { HasCause (L.put_faults link.old) (L.put_faults link.new) result }
     ensures left { L.left link.new ≡ L.left link.old }
     ensures read_faults { L.read_faults link.new ≡ L.read_faults link.old }

@@ -54,7 +54,14 @@ impl MemorySource {
     /// Returns a source of these bytes of which each call reads at most so many, at least one. The
     /// source fails at the listed calls.
     pub fn in_pieces(bytes: Vec<u8>, most: usize, fails: Numbers) -> MemorySource
-        ensures { result ≡ record { left = bytes.items; sizes = []; most = most; calls = 0; faults = 0; fails = fails } }
+        ensures { result ≡ record {
+          left = bytes.items;
+          sizes = [];
+          most = most;
+          calls = 0;
+          faults = 0;
+          fails = fails;
+        } }
     {
         let sizes = Numbers::new(*bytes.allocator());
         MemorySource::in_sizes(bytes, sizes, most, fails)
@@ -64,7 +71,14 @@ impl MemorySource {
     /// at least one. The sizes are those of the calls in turn, failed ones too; after these the
     /// size is `most`. The source fails at the listed calls.
     pub fn in_sizes(bytes: Vec<u8>, sizes: Numbers, most: usize, fails: Numbers) -> MemorySource
-        ensures { result ≡ record { left = bytes.items; sizes = sizes; most = most; calls = 0; faults = 0; fails = fails } }
+        ensures { result ≡ record {
+          left = bytes.items;
+          sizes = sizes;
+          most = most;
+          calls = 0;
+          faults = 0;
+          fails = fails;
+        } }
     {
         MemorySource {
             bytes,
@@ -103,7 +117,8 @@ impl Source for MemorySource {
         // It fails at the listed calls and at no other.
         ensures fails { is_err result ≡ is_to_fail self.old.fails (one_on self.old.calls) }
         ensures calls { self.new.calls ≡ one_on self.old.calls }
-        ensures count { IfOk result (λ n. n ≡ min (min (length room.new) (length self.old.left)) (size_at self.old.sizes self.old.most (one_on self.old.calls))) }
+        ensures count { IfOk result (λ n. n ≡ min (min (length room.new) (length self.old.left))
+            (size_at self.old.sizes self.old.most (one_on self.old.calls))) }
         ensures script { self.new.fails ≡ self.old.fails }
         ensures sizes { self.new.sizes ≡ self.old.sizes }
         ensures most { self.new.most ≡ self.old.most }
@@ -137,7 +152,12 @@ impl Model for MemorySink {
 
     ghost Value = { Output };
 
-    ghost view = { λ s. record { held = s.bytes.items; calls = s.calls; faults = s.faults; fails = s.fails } };
+    ghost view = { λ s. record {
+      held = s.bytes.items;
+      calls = s.calls;
+      faults = s.faults;
+      fails = s.fails;
+    } };
 }
 
 impl MemorySink {
@@ -182,7 +202,8 @@ impl Sink for MemorySink {
         ensures cause { HasCause self.old.faults self.new.faults result }
 
         // It fails at the listed calls.
-        ensures fails { IsTrue (is_to_fail self.old.fails (one_on self.old.calls)) → IsTrue (is_err result) }
+        ensures fails { IsTrue (is_to_fail self.old.fails (one_on self.old.calls))
+            → IsTrue (is_err result) }
         ensures calls { self.new.calls ≡ one_on self.old.calls }
         ensures script { self.new.fails ≡ self.old.fails }
     {

@@ -45,7 +45,8 @@ impl Clock for MemoryClock {
 
     fn now(&mut self) -> u64
         ensures range { result ≤ LAST_TIMESTAMP }
-        ensures shown { Shows (Some (map in_range self.old.next)) (Some (map in_range self.new.next)) result }
+        ensures shown { Shows (Some (map in_range self.old.next))
+            (Some (map in_range self.new.next)) result }
         ensures time { result ≡ in_range (time_of self.old) }
         ensures next { self.new.next ≡ drop 1 self.old.next }
         ensures rest { self.new.rest ≡ self.old.rest }

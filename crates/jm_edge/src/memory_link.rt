@@ -67,13 +67,15 @@ impl Link for MemoryLink {
 
     fn read(&mut self, room: &mut [u8]) -> Result<usize, Failed>
         ensures bound { ReadsAtMost result room.new }
-        ensures bytes { ReadConsumes (Some self.old.input.left) (Some self.new.input.left) result room.new }
+        ensures bytes { ReadConsumes (Some self.old.input.left) (Some self.new.input.left) result
+            room.new }
         ensures cause { HasCause self.old.input.faults self.new.input.faults result }
         ensures held { Some self.new.output.held ≡ Some self.old.output.held }
         ensures put_faults { self.new.output.faults ≡ self.old.output.faults }
 
         // It fails at the listed calls and at no other.
-        ensures fails { is_err result ≡ is_to_fail self.old.input.fails (one_on self.old.input.calls) }
+        ensures fails { is_err result ≡ is_to_fail self.old.input.fails
+            (one_on self.old.input.calls) }
         ensures output { self.new.output ≡ self.old.output }
     {
         self.input.read(room)
@@ -82,13 +84,15 @@ impl Link for MemoryLink {
     fn put(&mut self, piece: &[u8]) -> Result<usize, Failed>
         ensures bound { WritesAtMost result piece.now }
         ensures some { IfOk result (λ n. 0 < length piece.now → 0 < n) }
-        ensures bytes { WriteAppends (Some self.old.output.held) (Some self.new.output.held) result piece.now }
+        ensures bytes { WriteAppends (Some self.old.output.held) (Some self.new.output.held) result
+            piece.now }
         ensures cause { HasCause self.old.output.faults self.new.output.faults result }
         ensures left { Some self.new.input.left ≡ Some self.old.input.left }
         ensures read_faults { self.new.input.faults ≡ self.old.input.faults }
 
         // It fails at the listed calls.
-        ensures fails { IsTrue (is_to_fail self.old.output.fails (one_on self.old.output.calls)) → IsTrue (is_err result) }
+        ensures fails { IsTrue (is_to_fail self.old.output.fails (one_on self.old.output.calls))
+            → IsTrue (is_err result) }
         ensures input { self.new.input ≡ self.old.input }
     {
         self.output.put(piece)

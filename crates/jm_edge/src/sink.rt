@@ -14,7 +14,7 @@ pub trait Sink: Drop {
     /// How often writing has failed. It never falls.
     ghost faults: { Self → ℕ };
 
-    /// Takes a front of the piece, at least a byte of one that is not empty, and says how many
+    /// Takes a prefix of the piece, at least a byte of one that is not empty, and says how many
     /// bytes. After `Failed` nothing of the piece was taken.
     fn put(&mut self, piece: &[u8]) -> Result<usize, Failed>
         ensures bound { WritesAtMost result piece.now }
@@ -23,10 +23,11 @@ pub trait Sink: Drop {
         ensures cause { HasCause (faults self.old) (faults self.new) result };
 }
 
-/// Writes the whole piece, or a front of it where the sink fails.
+/// Writes the whole piece, or a prefix of it where the sink fails.
 pub fn put_all<K: Sink>(sink: &mut K, piece: &[u8]) -> Result<(), Failed>
     ensures ok { OnOk result (Appends (K.held sink.old) (K.held sink.new) piece.now) }
-    ensures err { OnErr result ((n : ℕ) × Appends (K.held sink.old) (K.held sink.new) (take n piece.now)) }
+    ensures err { OnErr result ((n : ℕ) × Appends (K.held sink.old) (K.held sink.new)
+        (take n piece.now)) }
     ensures cause { HasCause (K.faults sink.old) (K.faults sink.new) result }
 {
     let mut at = 0;

@@ -14,7 +14,7 @@ pub trait Source: Drop {
     /// How often reading has failed. It never falls.
     ghost faults: { Self → ℕ };
 
-    /// Reads the next bytes into the front of the room, and says how many. A count of 0 for a room
+    /// Reads the next bytes into the start of the room, and says how many. A count of 0 for a room
     /// that is not empty is the end of the input. After `Failed` nothing was read.
     fn read(&mut self, room: &mut [u8]) -> Result<usize, Failed>
         ensures bound { ReadsAtMost result room.new }

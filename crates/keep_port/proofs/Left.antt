@@ -6,7 +6,7 @@ use Rattle.keep_port.specs.declared.memory.MemoryKeeper.{MemoryKeeper}
 use Rattle.keep_port.specs.Keeping.{with_row}
 use Rattle.keep_port.specs.Memory.{IsOneOf, may_be_left, opened}
 
--- what stands in a list with one more at its end
+-- what is in a list with one more at its end
 pub IsOneOf-push : {A : Type 0} (xs : List A) (y x : A) → IsOneOf (xs ++ y ∷ []) x → IsOneOf xs x ⊎ (x ≡ y)
 IsOneOf-push [] y x (inl e) = inr e
 IsOneOf-push [] y x (inr h) = absurd h

@@ -67,12 +67,12 @@ floors_are h OfMailbox k = refl
 floors_are h OfEmail k = refl
 floors_are h OfThread k = refl
 
--- the position of the last place behind so many items, from the one among those before
+-- the position of the last place after so many items, from the one among those before
 above : (floor n otherwise : ℕ) (o p : Option ℕ) → placed_above (floor + n) (placed_above floor otherwise p) o ≡ placed_above floor otherwise (later n o p)
 above floor n otherwise (Some m) p = let e : floor + n + m ≡ floor + (n + m) = omega arith in e
 above floor n otherwise None p = refl
 
--- ids behind those of the first entries have one last position from either floor
+-- ids after those of the first entries have one last position from either floor
 position_above : (h : History) (kind : Kind) (c : ℕ) (ids : List Id)
     → last_position kind (end_after h c) (floors_at h (end_after h c)) ids ≡ last_position kind h.floor h.floors (ids_of (account_after h c) ++ ids)
 position_above h kind c ids =

@@ -88,7 +88,7 @@ place_bounds test (x ∷ xs) n e =
     let high = b.1 in
     (low, omega arith)
 
--- the later of two places, of which the first stands behind so many items
+-- the later of two places, of which the first follows so many items
 abbrev pub later : ℕ → Option ℕ → Option ℕ → Option ℕ
 later n (Some m) o = Some (n + m)
 later n None o = o
@@ -112,7 +112,7 @@ pub placed_low : {A : Type 0} (test : A → Bool) (xs : List A) (floor otherwise
 placed_low test xs floor otherwise le (Some n) e = let high = (place_bounds test xs n e).1 in omega arith
 placed_low test xs floor otherwise le None e = omega arith
 
--- where a list that goes on has the same last position, nothing that follows passes
+-- where a list that continues has the same last position, nothing that follows passes
 nothing_follows : {A : Type 0} (test : A → Bool) (xs ys : List A) (floor otherwise : ℕ) → otherwise ≤ floor
     → placed_above floor otherwise (last_place test xs) ≡ placed_above floor otherwise (last_place test (xs ++ ys)) → list_any test ys ≡ false
 nothing_follows {A} test xs ys floor otherwise le same = by_place (last_place test ys) refl

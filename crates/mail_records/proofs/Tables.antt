@@ -4,7 +4,7 @@ use Rattle.std.specs.List.{AllByRecursion}
 use Rattle.std.proofs.lemmas.Bool.{cases_Bool, ne_eqb, eqb-true, eqb-false, ltb-true, ltb-false}
 use Rattle.mail_records.specs.Tables.{IsTable, lookup, put, without}
 
--- the record that is put stands at its number
+-- the record that is put is at its number
 pub lookup-put_same : {R : Type 0} (number : R → ℕ) (r : R) (n : ℕ) → number r ≡ n → (xs : List R) → lookup number n (put number r xs) ≡ Some r
 lookup-put_same number r n e [] = let t : eqb (number r) n ≡ true = eq-eqb (number r) n e in rw t refl
 lookup-put_same number r n e (x ∷ xs) =

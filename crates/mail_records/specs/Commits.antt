@@ -1,4 +1,5 @@
--- Which commits can be spelled: what a list sorted on the way out has to keep, so that reading gives it back.
+-- Which commits can be written: what a list sorted on the way out has to keep, so that reading
+-- gives it back.
 use Rattle.std.specs.Prelude.{ℕ, List, ⊤}
 use Rattle.std.specs.List.{AllByRecursion}
 use Rattle.std.specs.List.Sorted.{IsStrictlySortedBy}
@@ -19,7 +20,8 @@ NumbersRise numbers = IsStrictlySortedBy nat_cmp numbers
 abbrev pub TextsRise : List (List ℕ) → Type 0
 TextsRise texts = IsStrictlySortedBy (slice_cmp nat_cmp) texts
 
--- an email's mailboxes, keywords and links rise strictly, and its dates are moments of the years 0001 to 9999
+-- an email's mailboxes, keywords and links rise strictly, and its dates are moments of the years
+-- 0001 to 9999
 pub record IsFormedEmail (e : Email) : Type 0 where
   pub mailboxes : NumbersRise e.mailboxes
   pub keywords : TextsRise e.keywords

@@ -1,4 +1,5 @@
--- What an account holds at one moment: a finite map of each kind of record, and the next number of each.
+-- What an account holds at one moment: a finite map of each kind of record, and the next number of
+-- each.
 use Rattle.std.specs.Prelude.{◌≡◌, ℕ, ◌≤◌, Bool, List, [], Option, is_some}
 use Rattle.mail_records.specs.Tables.{lookup, IsTable, IsNumbered}
 use Rattle.mail_records.specs.declared.records.Mailbox.{Mailbox}
@@ -7,7 +8,8 @@ use Rattle.mail_records.specs.declared.records.Thread.{Thread}
 use Rattle.jm_base.specs.declared.identifiers.Kind.{Kind}
 use Rattle.jm_base.specs.declared.identifiers.Kind.TheVariants.{Mailbox as OfMailbox, Email as OfEmail, Thread as OfThread}
 
--- The records of each kind in number order, and the next number of each kind. A number is never used again.
+-- The records of each kind in number order, and the next number of each kind. A number is never
+-- used again.
 pub record Content : Type 0 where
   pub mailboxes : List Mailbox
   pub emails : List Email
@@ -23,7 +25,14 @@ pub record Held : Type 0 where
 
 -- no record, and the first number of each kind is 1
 abbrev pub empty_content : Content
-empty_content = record { mailboxes = []; emails = []; threads = []; next_mailbox = 1; next_email = 1; next_thread = 1 }
+empty_content = record {
+  mailboxes = [];
+  emails = [];
+  threads = [];
+  next_mailbox = 1;
+  next_email = 1;
+  next_thread = 1;
+}
 
 -- the number of a mailbox, of an email and of a thread
 abbrev pub mailbox_number : Mailbox → ℕ

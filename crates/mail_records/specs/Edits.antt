@@ -8,6 +8,7 @@ use Rattle.mail_records.specs.declared.edits.Edit.TheVariants.{PutMailbox, DropM
 use Rattle.jm_base.specs.declared.identifiers.Kind.{Kind}
 use Rattle.jm_base.specs.declared.identifiers.Kind.TheVariants.{Mailbox as OfMailbox, Email as OfEmail, Thread as OfThread}
 use Rattle.jm_base.specs.declared.identifiers.Id.{Id}
+use Rattle.mail_records.specs.declared.limits.TheConstants.{MAX_LINKS_PER_EMAIL, MAX_MAILBOXES_PER_EMAIL}
 
 -- the record that an edit puts or drops
 abbrev pub id_of : Edit → Id
@@ -35,13 +36,23 @@ next_after was number next = if was then next else number + 1
 -- the content after an edit
 abbrev pub after_edit : Content → Edit → Content
 after_edit c (PutMailbox item was counts) =
-    record c { mailboxes = put mailbox_number item c.mailboxes; next_mailbox = next_after was item.number c.next_mailbox }
-after_edit c (DropMailbox number) = record c { mailboxes = without mailbox_number number c.mailboxes }
+    record c {
+      mailboxes = put mailbox_number item c.mailboxes;
+      next_mailbox = next_after was item.number c.next_mailbox;
+    }
+after_edit c (DropMailbox number) =
+    record c { mailboxes = without mailbox_number number c.mailboxes }
 after_edit c (PutEmail item was) =
-    record c { emails = put email_number item c.emails; next_email = next_after was item.number c.next_email }
+    record c {
+      emails = put email_number item c.emails;
+      next_email = next_after was item.number c.next_email;
+    }
 after_edit c (DropEmail number thread) = record c { emails = without email_number number c.emails }
 after_edit c (PutThread item was) =
-    record c { threads = put thread_number item c.threads; next_thread = next_after was item.number c.next_thread }
+    record c {
+      threads = put thread_number item c.threads;
+      next_thread = next_after was item.number c.next_thread;
+    }
 after_edit c (DropThread number) = record c { threads = without thread_number number c.threads }
 
 -- the content after edits, one after the other
@@ -53,14 +64,16 @@ after_edits c (e ∷ es) = after_edits (after_edit c e) es
 abbrev pub PutFits : Bool → Bool → ℕ → ℕ → Type 0
 PutFits present was number next = (was ≡ present) × (was ≡ false → number ≡ next)
 
--- An edit fits the content before it: its `was` is right, a new record has its kind's next number, and a record that is
--- dropped is there, an email with the thread that the edit names.
+-- An edit fits the content before it: its `was` is right, a new record has its kind's next number,
+-- and a record that is dropped is there, an email with the thread that the edit names.
 abbrev pub Fits : Content → Edit → Type 0
-Fits c (PutMailbox item was counts) = PutFits (is_some (mailbox_at c item.number)) was item.number c.next_mailbox
+Fits c (PutMailbox item was counts) =
+    PutFits (is_some (mailbox_at c item.number)) was item.number c.next_mailbox
 Fits c (DropMailbox number) = is_some (mailbox_at c number) ≡ true
 Fits c (PutEmail item was) = PutFits (is_some (email_at c item.number)) was item.number c.next_email
 Fits c (DropEmail number thread) = (x : Email) × (email_at c number ≡ Some x) × (x.thread ≡ thread)
-Fits c (PutThread item was) = PutFits (is_some (thread_at c item.number)) was item.number c.next_thread
+Fits c (PutThread item was) =
+    PutFits (is_some (thread_at c item.number)) was item.number c.next_thread
 Fits c (DropThread number) = is_some (thread_at c number) ≡ true
 
 -- each edit fits the content before it
@@ -70,7 +83,8 @@ AllFit c (e ∷ es) = Fits c e × AllFit (after_edit c e) es
 
 -- an email that is put in the place of one keeps its thread
 abbrev pub KeepsThread : Content → Edit → Type 0
-KeepsThread c (PutEmail item was) = (x : Email) → email_at c item.number ≡ Some x → x.thread ≡ item.thread
+KeepsThread c (PutEmail item was) =
+    (x : Email) → email_at c item.number ≡ Some x → x.thread ≡ item.thread
 KeepsThread c _ = ⊤
 
 -- each edit keeps the thread of its email
@@ -78,9 +92,11 @@ abbrev pub AllKeepThread : Content → List Edit → Type 0
 AllKeepThread c [] = ⊤
 AllKeepThread c (e ∷ es) = KeepsThread c e × AllKeepThread (after_edit c e) es
 
--- an email that is put has at most 64 mailboxes and 100 links
+-- an email that is put is within the limits of mailboxes and links
 abbrev pub IsSmall : Edit → Type 0
-IsSmall (PutEmail item was) = (length item.mailboxes ≤ 64) × (length item.summary.links ≤ 100)
+IsSmall (PutEmail item was) =
+    (length item.mailboxes ≤ MAX_MAILBOXES_PER_EMAIL)
+    × (length item.summary.links ≤ MAX_LINKS_PER_EMAIL)
 IsSmall _ = ⊤
 
 -- there is a 64-bit number after the next one of the edit's kind

@@ -1,4 +1,5 @@
--- The history of an account: a base, and the commits and refusals after it. A position counts the edits of the commits.
+-- The history of an account: a base, and the commits and refusals after it. A position counts the
+-- edits of the commits.
 use Rattle.std.specs.Prelude.{◌≡◌, ℕ, ◌+◌, ◌-◌, ◌≤◌, ◌^◌, Bool, true, false, List, [], ◌∷◌, ◌++◌, take, drop, length, map, flat_map, ⊤}
 use Rattle.std.specs.List.{AllByRecursion}
 use Rattle.mail_records.specs.Contents.{Content, empty_content, AreTables, AreNumbered, NextAtMost}
@@ -12,7 +13,8 @@ use Rattle.jm_base.specs.declared.identifiers.Id.{Id}
 use Rattle.jm_base.specs.declared.identifiers.Kind.{Kind}
 use Rattle.jm_base.specs.declared.identifiers.Kind.TheVariants.{Mailbox as OfMailbox, Email as OfEmail, Thread as OfThread}
 
--- An entry is a commit, or the mark of a change that was refused: its stamp, with no edits and no blobs.
+-- An entry is a commit, or the mark of a change that was refused: its stamp, with no edits and no
+-- blobs.
 pub data Entry : Type 0 where
   Committed : (commit : Commit) → Entry
   Refused : (stamp : Stamp) → Entry
@@ -58,7 +60,8 @@ floor_of floors OfMailbox = floors.mailbox
 floor_of floors OfEmail = floors.email
 floor_of floors OfThread = floors.thread
 
--- The position at which it begins and each kind's position there, content and blobs at that position, and the entries since.
+-- The position at which it begins and each kind's position there, content and blobs at that
+-- position, and the entries since.
 pub record History : Type 0 where
   pub floor : ℕ
   pub floors : Floors
@@ -69,7 +72,13 @@ pub record History : Type 0 where
 -- nothing has been yet
 abbrev pub empty_history : History
 empty_history =
-    record { floor = 0; floors = record { mailbox = 0; email = 0; thread = 0 }; base = empty_content; base_blobs = []; entries = [] }
+    record {
+      floor = 0;
+      floors = record { mailbox = 0; email = 0; thread = 0 };
+      base = empty_content;
+      base_blobs = [];
+      entries = [];
+    }
 
 -- the edits of entries, in order
 abbrev pub edits_in : List Entry → List Edit
@@ -91,7 +100,7 @@ edits_of h = edits_in h.entries
 abbrev pub ids_of : History → List Id
 ids_of h = map id_of (edits_of h)
 
--- the blobs of a history: blob number n stands at index n - 1
+-- the blobs of a history: blob number n is at index n - 1
 abbrev pub blobs_of : History → List (List ℕ)
 blobs_of h = h.base_blobs ++ blobs_in h.entries
 
@@ -99,7 +108,8 @@ blobs_of h = h.base_blobs ++ blobs_in h.entries
 abbrev pub end_of : History → ℕ
 end_of h = h.floor + length (edits_of h)
 
--- the content at a position, from the floor to the end: the base after the edits up to it. Below the floor it is the base.
+-- the content at a position, from the floor to the end: the base after the edits up to it. Below
+-- the floor it is the base.
 abbrev pub content_at : History → ℕ → Content
 content_at h k = after_edits h.base (take (k - h.floor) (edits_of h))
 
@@ -141,9 +151,10 @@ pub record FloorsAtMost (floors : Floors) (floor : ℕ) : Type 0 where
   pub email : floors.email ≤ floor
   pub thread : floors.thread ≤ floor
 
--- What holds of each history from its beginning on: the floor is at most 2^52 and each kind's floor position at most the
--- floor, and the base is in number order with each number below its kind's next one, and each next number at most the floor
--- plus 1. Edits that fit keep the base's part: a next number is then at most the last position plus 1.
+-- What holds of each history from its beginning on: the floor is at most 2^52 and each kind's floor
+-- position at most the floor, and the base is in number order with each number below its kind's
+-- next one, and each next number at most the floor plus 1. Edits that fit keep the base's part: a
+-- next number is then at most the last position plus 1.
 pub record IsFounded (h : History) : Type 0 where
   pub low : h.floor ≤ 2 ^ 52
   pub floors : FloorsAtMost h.floors h.floor
@@ -162,7 +173,8 @@ pub record HasOneThread (h : History) (thread_of : ℕ → ℕ) : Type 0 where
   pub in_base : AllByRecursion (λ (x : Email). thread_of x.number ≡ x.thread) h.base.emails
   pub in_edits : AllByRecursion (NamesThread thread_of) (edits_of h)
 
--- each edit fits the content before it, and all edits of one email, and the base's record of it, name one thread
+-- each edit fits the content before it, and all edits of one email, and the base's record of it,
+-- name one thread
 pub record IsSound (h : History) : Type 0 where
   pub fits : AllFit h.base (edits_of h)
   pub one_thread : (thread_of : ℕ → ℕ) × HasOneThread h thread_of

@@ -1,4 +1,5 @@
--- Lemmas that impls cite: the key of an entry, and each key of a record, have the number of the record.
+-- Lemmas that impls cite: the key of an entry, and each key of a record, have the number of the
+-- record.
 use Rattle.std.specs.Prelude.{◌≡◌, ℕ, ◌+◌, List, [], ◌∷◌, Option, Some, None, map, refl}
 use Rattle.std.specs.List.{AllByRecursion}
 use Rattle.mail_records.specs.declared.records.Mailbox.{Mailbox}
@@ -20,21 +21,24 @@ pub linked_number : (o : Option Email) (l : Linked) → (linked_key o l).number 
 linked_number (Some e) l = refl
 linked_number None l = refl
 
-role_numbers : (n : ℕ) (role : Option (List ℕ)) → AllByRecursion (λ k. k.number ≡ n) (key_of_role n role)
+role_numbers : (n : ℕ) (role : Option (List ℕ))
+    → AllByRecursion (λ k. k.number ≡ n) (key_of_role n role)
 role_numbers n (Some role) = (refl, tt)
 role_numbers n None = tt
 
 pub role_keys_numbers : (m : Mailbox) → AllByRecursion (λ k. k.number ≡ m.number) (role_keys m)
 role_keys_numbers m = role_numbers m.number m.role
 
-placed_numbers : (e : Email) (ms : List ℕ) → AllByRecursion (λ k. k.number ≡ e.number) (map (placed_key_of e) ms)
+placed_numbers : (e : Email) (ms : List ℕ) → AllByRecursion (λ k. k.number ≡ e.number)
+    (map (placed_key_of e) ms)
 placed_numbers e [] = tt
 placed_numbers e (m ∷ ms) = (refl, placed_numbers e ms)
 
 pub mailbox_keys_numbers : (e : Email) → AllByRecursion (λ k. k.number ≡ e.number) (mailbox_keys e)
 mailbox_keys_numbers e = placed_numbers e e.mailboxes
 
-link_numbers : (n i : ℕ) (links : List (List ℕ)) → AllByRecursion (λ k. k.number ≡ n) (link_keys_from n i links)
+link_numbers : (n i : ℕ) (links : List (List ℕ))
+    → AllByRecursion (λ k. k.number ≡ n) (link_keys_from n i links)
 link_numbers n i [] = tt
 link_numbers n i (l ∷ ls) = (refl, link_numbers n (i + 1) ls)
 

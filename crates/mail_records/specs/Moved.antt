@@ -1,5 +1,5 @@
--- A history whose floor moves up to the end of some of its entries, as a compaction moves it: what was before is known by
--- the content there alone.
+-- A history whose floor moves up to the end of some of its entries, as a compaction moves it: what
+-- was before is known by the content there alone.
 use Rattle.std.specs.Prelude.{ℕ, drop}
 use Rattle.mail_records.specs.Histories.{History, Floors, content_at, blobs_after, end_after}
 use Rattle.mail_records.specs.States.{state_at}
@@ -8,10 +8,15 @@ use Rattle.jm_base.specs.declared.identifiers.Kind.TheVariants.{Mailbox as OfMai
 -- the state of each kind at a position
 abbrev pub floors_at : History → ℕ → Floors
 floors_at h k =
-    record { mailbox = state_at h OfMailbox k; email = state_at h OfEmail k; thread = state_at h OfThread k }
+    record {
+      mailbox = state_at h OfMailbox k;
+      email = state_at h OfEmail k;
+      thread = state_at h OfThread k;
+    }
 
--- The history whose floor is the end of its first c entries: each kind's floor position is the state of the kind there, the
--- base is the content and the blobs there, and the entries are the others.
+-- The history whose floor is the end of its first c entries: each kind's floor position is the
+-- state of the kind there, the base is the content and the blobs there, and the entries are the
+-- others.
 abbrev pub moved_up : History → ℕ → History
 moved_up h c = record {
   floor = end_after h c;

@@ -1,4 +1,5 @@
--- What becomes of a list that rises by an order R as items are put in and taken out, and parts of a list of keys.
+-- What becomes of a list that rises by an order R as items are put in and taken out, and parts of a
+-- list of keys.
 use Rattle.std.specs.Prelude.{◌≡◌, ℕ, ◌≤◌, Bool, true, false, not, if◌then◌else◌, List, [], ◌∷◌, length, take, drop, filter, Option, Some, None}
 use Rattle.std.specs.List.{AllByRecursion}
 use Rattle.std.specs.declared.cmp.Ordering.{Ordering}
@@ -28,7 +29,8 @@ take_all_out R [] xs = xs
 take_all_out R (k ∷ ks) xs = take_all_out R ks (take_out R k xs)
 
 -- i is the index of the first entry whose key is not below k
-pub record IsPlaceBy {E K : Type 0} (R : K → K → Ordering) (f : E → K) (k : K) (es : List E) (i : ℕ) : Type 0 where
+pub record IsPlaceBy {E K : Type 0} (R : K → K → Ordering) (f : E → K) (k : K) (es : List E) (i : ℕ)
+    : Type 0 where
   pub within : i ≤ length es
   pub before : AllByRecursion (λ e. is_lt (R (f e) k) ≡ true) (take i es)
   pub from : AllByRecursion (λ e. is_lt (R (f e) k) ≡ false) (drop i es)
@@ -39,9 +41,11 @@ rows_besides moved number n rows = if moved then without number n rows else rows
 
 -- the order of a key's group and text to these
 abbrev pub prefix_cmp : Option ℕ → List ℕ → Key → Ordering
-prefix_cmp group text k = ordering_then (option_cmp nat_cmp k.group group) (slice_cmp nat_cmp k.text text)
+prefix_cmp group text k =
+    ordering_then (option_cmp nat_cmp k.group group) (slice_cmp nat_cmp k.text text)
 
 -- the order of what keys have after group and text
 abbrev pub rest_cmp : Key → Key → Ordering
 rest_cmp a b =
-    ordering_then (int_cmp a.received b.received) (ordering_then (nat_cmp a.number b.number) (nat_cmp a.place b.place))
+    ordering_then (int_cmp a.received b.received)
+    (ordering_then (nat_cmp a.number b.number) (nat_cmp a.place b.place))

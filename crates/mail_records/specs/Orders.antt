@@ -1,5 +1,6 @@
--- The orders of a content: lists of entries that are sorted by the key of each entry, with exactly the entries that the
--- records have. Each record has a list of keys in an order, as an email has one for each of its mailboxes.
+-- The orders of a content: lists of entries that are sorted by the key of each entry, with exactly
+-- the entries that the records have. Each record has a list of keys in an order, as an email has
+-- one for each of its mailboxes.
 use Rattle.std.specs.Prelude.{◌≡◌, ℕ, ◌+◌, ℤ, pos, Bool, true, false, ◌&&◌, ◌==◌, List, [], ◌∷◌, map, filter, Option, Some, None, slice_index_or}
 use Rattle.std.specs.List.{list_any}
 use Rattle.std.specs.List.Sorted.{IsStrictlySortedBy}
@@ -18,8 +19,9 @@ use Rattle.mail_records.specs.declared.entries.Threaded.{Threaded}
 use Rattle.mail_records.specs.declared.entries.Placed.{Placed}
 use Rattle.mail_records.specs.declared.entries.Linked.{Linked}
 
--- What an entry is sorted by: the mailbox or thread that it is in, if any, its text, the time received (Unix seconds), the
--- number of its record, and its index in a list of that record. What an order doesn't use is none, empty or 0.
+-- What an entry is sorted by: the mailbox or thread that it is in, if any, its text, the time
+-- received (Unix seconds), the number of its record, and its index in a list of that record. What
+-- an order doesn't use is none, empty or 0.
 pub record Key : Type 0 where
   pub group : Option ℕ
   pub text : List ℕ
@@ -27,7 +29,8 @@ pub record Key : Type 0 where
   pub number : ℕ
   pub place : ℕ
 
--- by group (none is first), then by text in byte order, then by the time received, then by number, then by place
+-- by group (none is first), then by text in byte order, then by the time received, then by number,
+-- then by place
 abbrev pub key_cmp : Key → Key → Ordering
 key_cmp a b =
     ordering_then (option_cmp nat_cmp a.group b.group)
@@ -57,7 +60,8 @@ abbrev pub is_key_of : {R : Type 0} → (R → ℕ) → (R → List Key) → Lis
 is_key_of number keys rows k = has_in keys k (lookup number k.number rows)
 
 -- These keys rise strictly, and are exactly those keys of the records that pass the test.
-pub record AreKeys {R : Type 0} (test : Key → Bool) (number : R → ℕ) (keys : R → List Key) (rows : List R) (ks : List Key) : Type 0 where
+pub record AreKeys {R : Type 0} (test : Key → Bool) (number : R → ℕ) (keys : R → List Key)
+    (rows : List R) (ks : List Key) : Type 0 where
   pub rise : KeysRise ks
   pub exactly : (k : Key) → has_key k ks ≡ (test k && is_key_of number keys rows k)
 
@@ -77,13 +81,15 @@ abbrev pub key_of : {R E : Type 0} → (R → ℕ) → (E → ℕ) → (Option R
 key_of number owner key rows e = key (lookup number (owner e) rows) e
 
 -- the keys of entries
-abbrev pub keys_of : {R E : Type 0} → (R → ℕ) → (E → ℕ) → (Option R → E → Key) → List R → List E → List Key
+abbrev pub keys_of : {R E : Type 0} → (R → ℕ) → (E → ℕ) → (Option R → E → Key) → List R → List E
+    → List Key
 keys_of number owner key rows es = map (key_of number owner key rows) es
 
 -- ---- mailboxes by parent and name (RFC 8621, 2): the one key of a mailbox has its parent as group and its name as text
 
 abbrev pub name_key : Mailbox → Key
-name_key m = record { group = m.parent; text = m.name; received = pos 0; number = m.number; place = 0 }
+name_key m =
+    record { group = m.parent; text = m.name; received = pos 0; number = m.number; place = 0 }
 
 abbrev pub name_keys : Mailbox → List Key
 name_keys m = name_key m ∷ []
@@ -92,13 +98,16 @@ abbrev pub named_owner : Named → ℕ
 named_owner n = n.mailbox
 
 abbrev pub named_key : Option Mailbox → Named → Key
-named_key (Some m) n = record { group = m.parent; text = m.name; received = pos 0; number = n.mailbox; place = 0 }
-named_key None n = record { group = None; text = []; received = pos 0; number = n.mailbox; place = 0 }
+named_key (Some m) n =
+    record { group = m.parent; text = m.name; received = pos 0; number = n.mailbox; place = 0 }
+named_key None n =
+    record { group = None; text = []; received = pos 0; number = n.mailbox; place = 0 }
 
 -- ---- mailboxes that have a role, by role (RFC 8621, 2)
 
 abbrev pub key_of_role : ℕ → Option (List ℕ) → List Key
-key_of_role number (Some role) = record { group = None; text = role; received = pos 0; number = number; place = 0 } ∷ []
+key_of_role number (Some role) =
+    record { group = None; text = role; received = pos 0; number = number; place = 0 } ∷ []
 key_of_role number None = []
 
 abbrev pub role_keys : Mailbox → List Key
@@ -108,35 +117,62 @@ abbrev pub roled_owner : Roled → ℕ
 roled_owner r = r.mailbox
 
 abbrev pub roled_key : Option Mailbox → Roled → Key
-roled_key (Some m) r = record { group = None; text = unwrap_or m.role []; received = pos 0; number = r.mailbox; place = 0 }
-roled_key None r = record { group = None; text = []; received = pos 0; number = r.mailbox; place = 0 }
+roled_key (Some m) r = record {
+  group = None;
+  text = unwrap_or m.role [];
+  received = pos 0;
+  number = r.mailbox;
+  place = 0;
+}
+roled_key None r =
+    record { group = None; text = []; received = pos 0; number = r.mailbox; place = 0 }
 
 -- ---- emails by the time received (RFC 8621, 4.1.1)
 
 abbrev pub received_keys : Email → List Key
-received_keys e = record { group = None; text = []; received = e.received.seconds; number = e.number; place = 0 } ∷ []
+received_keys e = record {
+  group = None;
+  text = [];
+  received = e.received.seconds;
+  number = e.number;
+  place = 0;
+} ∷ []
 
 abbrev pub dated_owner : Dated → ℕ
 dated_owner d = d.email
 
 abbrev pub dated_key : Option Email → Dated → Key
-dated_key o d = record { group = None; text = []; received = d.received; number = d.email; place = 0 }
+dated_key o d =
+    record { group = None; text = []; received = d.received; number = d.email; place = 0 }
 
 -- ---- emails by thread and the time received (RFC 8621, 3): the group is the thread
 
 abbrev pub thread_keys : Email → List Key
-thread_keys e = record { group = Some e.thread; text = []; received = e.received.seconds; number = e.number; place = 0 } ∷ []
+thread_keys e = record {
+  group = Some e.thread;
+  text = [];
+  received = e.received.seconds;
+  number = e.number;
+  place = 0;
+} ∷ []
 
 abbrev pub threaded_owner : Threaded → ℕ
 threaded_owner t = t.email
 
 abbrev pub threaded_key : Option Email → Threaded → Key
-threaded_key o t = record { group = Some t.thread; text = []; received = t.received; number = t.email; place = 0 }
+threaded_key o t =
+    record { group = Some t.thread; text = []; received = t.received; number = t.email; place = 0 }
 
 -- ---- emails by mailbox and the time received: a key for each mailbox of the email, which is its group
 
 abbrev pub placed_key_of : Email → ℕ → Key
-placed_key_of e m = record { group = Some m; text = []; received = e.received.seconds; number = e.number; place = 0 }
+placed_key_of e m = record {
+  group = Some m;
+  text = [];
+  received = e.received.seconds;
+  number = e.number;
+  place = 0;
+}
 
 abbrev pub mailbox_keys : Email → List Key
 mailbox_keys e = map (placed_key_of e) e.mailboxes
@@ -145,7 +181,8 @@ abbrev pub placed_owner : Placed → ℕ
 placed_owner p = p.email
 
 abbrev pub placed_key : Option Email → Placed → Key
-placed_key o p = record { group = Some p.mailbox; text = []; received = p.received; number = p.email; place = 0 }
+placed_key o p =
+    record { group = Some p.mailbox; text = []; received = p.received; number = p.email; place = 0 }
 
 -- ---- emails by link: a key for each link of the email's summary, with its index there
 
@@ -153,7 +190,8 @@ placed_key o p = record { group = Some p.mailbox; text = []; received = p.receiv
 abbrev pub link_keys_from : ℕ → ℕ → List (List ℕ) → List Key
 link_keys_from number place [] = []
 link_keys_from number place (link ∷ links) =
-    record { group = None; text = link; received = pos 0; number = number; place = place } ∷ link_keys_from number (place + 1) links
+    record { group = None; text = link; received = pos 0; number = number; place = place }
+    ∷ link_keys_from number (place + 1) links
 
 abbrev pub link_keys : Email → List Key
 link_keys e = link_keys_from e.number 0 e.summary.links
@@ -162,41 +200,56 @@ abbrev pub linked_owner : Linked → ℕ
 linked_owner l = l.email
 
 abbrev pub linked_key : Option Email → Linked → Key
-linked_key (Some e) l = record { group = None; text = slice_index_or e.summary.links l.place []; received = pos 0; number = l.email; place = l.place }
-linked_key None l = record { group = None; text = []; received = pos 0; number = l.email; place = l.place }
+linked_key (Some e) l = record {
+  group = None;
+  text = slice_index_or e.summary.links l.place [];
+  received = pos 0;
+  number = l.email;
+  place = l.place;
+}
+linked_key None l =
+    record { group = None; text = []; received = pos 0; number = l.email; place = l.place }
 
 -- ---- what the calls of a content lend
 
 -- all mailboxes with this parent, in the order of name, then number
 abbrev pub AreChildren : Content → Option ℕ → List Named → Type 0
 AreChildren c parent ns =
-    AreKeys (is_in_group parent) mailbox_number name_keys c.mailboxes (keys_of mailbox_number named_owner named_key c.mailboxes ns)
+    AreKeys (is_in_group parent) mailbox_number name_keys c.mailboxes
+    (keys_of mailbox_number named_owner named_key c.mailboxes ns)
 
 -- all mailboxes with this parent and name, in the order of number
 abbrev pub AreChildrenNamed : Content → Option ℕ → List ℕ → List Named → Type 0
 AreChildrenNamed c parent name ns =
-    AreKeys (λ k. is_in_group parent k && has_text name k) mailbox_number name_keys c.mailboxes (keys_of mailbox_number named_owner named_key c.mailboxes ns)
+    AreKeys (λ k. is_in_group parent k && has_text name k) mailbox_number name_keys c.mailboxes
+    (keys_of mailbox_number named_owner named_key c.mailboxes ns)
 
 -- all mailboxes with this role, in the order of number
 abbrev pub AreWithRole : Content → List ℕ → List Roled → Type 0
 AreWithRole c role rs =
-    AreKeys (λ k. is_in_group None k && has_text role k) mailbox_number role_keys c.mailboxes (keys_of mailbox_number roled_owner roled_key c.mailboxes rs)
+    AreKeys (λ k. is_in_group None k && has_text role k) mailbox_number role_keys c.mailboxes
+    (keys_of mailbox_number roled_owner roled_key c.mailboxes rs)
 
 -- all emails, in the order of the time received, then number
 abbrev pub AreByReceived : Content → List Dated → Type 0
-AreByReceived c ds = AreKeys any_key email_number received_keys c.emails (keys_of email_number dated_owner dated_key c.emails ds)
+AreByReceived c ds = AreKeys any_key email_number received_keys c.emails
+    (keys_of email_number dated_owner dated_key c.emails ds)
 
 -- all emails of this thread, in the order of the time received, then number
 abbrev pub AreInThread : Content → ℕ → List Threaded → Type 0
 AreInThread c thread ts =
-    AreKeys (is_in_group (Some thread)) email_number thread_keys c.emails (keys_of email_number threaded_owner threaded_key c.emails ts)
+    AreKeys (is_in_group (Some thread)) email_number thread_keys c.emails
+    (keys_of email_number threaded_owner threaded_key c.emails ts)
 
 -- all emails in this mailbox, in the order of the time received, then number
 abbrev pub AreInMailbox : Content → ℕ → List Placed → Type 0
 AreInMailbox c mailbox ps =
-    AreKeys (is_in_group (Some mailbox)) email_number mailbox_keys c.emails (keys_of email_number placed_owner placed_key c.emails ps)
+    AreKeys (is_in_group (Some mailbox)) email_number mailbox_keys c.emails
+    (keys_of email_number placed_owner placed_key c.emails ps)
 
--- all emails with this link in their summary, and its index there, in the order of number, then index
+-- all emails with this link in their summary, and its index there, in the order of number, then
+-- index
 abbrev pub AreWithLink : Content → List ℕ → List Linked → Type 0
 AreWithLink c link ls =
-    AreKeys (λ k. is_in_group None k && has_text link k) email_number link_keys c.emails (keys_of email_number linked_owner linked_key c.emails ls)
+    AreKeys (λ k. is_in_group None k && has_text link k) email_number link_keys c.emails
+    (keys_of email_number linked_owner linked_key c.emails ls)

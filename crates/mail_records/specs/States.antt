@@ -1,5 +1,5 @@
--- The state of a kind of record at a position, which states a history still knows, and what was touched since one
--- (RFC 8620, 5.1, 5.2 and 5.6).
+-- The state of a kind of record at a position, which states a history still knows, and what was
+-- touched since one (RFC 8620, 5.1, 5.2 and 5.6).
 use Rattle.std.specs.Prelude.{◌≡◌, ℕ, ◌+◌, ◌-◌, ◌≤◌, Bool, true, false, ◌==◌, ◌&&◌, if◌then◌else◌, List, [], ◌∷◌, take, drop, filter, Option, Some, None}
 use Rattle.std.specs.List.{list_any}
 use Rattle.std.specs.List.Sorted.{IsStrictlyIncreasing}
@@ -25,7 +25,8 @@ is_kind_of kind i = is_kind kind i.kind
 abbrev pub edits_of_kind : Kind → List Edit → List Edit
 edits_of_kind kind edits = filter (λ e. is_kind kind (kind_of e)) edits
 
--- the place of the last item that passes, from whether the first one does and from the place among the others
+-- the place of the last item that passes, from whether the first one does and from the place among
+-- the others
 abbrev pub place_with : Bool → Option ℕ → Option ℕ
 place_with first (Some n) = Some (n + 1)
 place_with first None = if first then Some 1 else None
@@ -35,17 +36,20 @@ abbrev pub last_place : {A : Type 0} → (A → Bool) → List A → Option ℕ
 last_place test [] = None
 last_place test (x ∷ xs) = place_with (test x) (last_place test xs)
 
--- the position of a place: that many above the floor, or otherwise, where there is none, the one given
+-- the position of a place: that many above the floor, or otherwise, where there is none, the one
+-- given
 abbrev pub placed_above : ℕ → ℕ → Option ℕ → ℕ
 placed_above floor otherwise (Some n) = floor + n
 placed_above floor otherwise None = otherwise
 
--- The position of the last of these ids that is of the kind, where the first one has the position floor + 1. Where none
--- is, it is the kind's position at the floor.
+-- The position of the last of these ids that is of the kind, where the first one has the position
+-- floor + 1. Where none is, it is the kind's position at the floor.
 abbrev pub last_position : Kind → ℕ → Floors → List Id → ℕ
-last_position kind floor floors ids = placed_above floor (floor_of floors kind) (last_place (is_kind_of kind) ids)
+last_position kind floor floors ids =
+    placed_above floor (floor_of floors kind) (last_place (is_kind_of kind) ids)
 
--- the state of a kind at a position: the position of its last edit up to there, else its position at the floor
+-- the state of a kind at a position: the position of its last edit up to there, else its position
+-- at the floor
 abbrev pub state_at : History → Kind → ℕ → ℕ
 state_at h kind k = last_position kind h.floor h.floors (take (k - h.floor) (ids_of h))
 
@@ -66,10 +70,12 @@ pub record AreNamed (kind : Kind) (ids : List Id) (numbers : List ℕ) : Type 0 
   pub rise : IsStrictlyIncreasing numbers
   pub exactly : (n : ℕ) → list_any (λ x. x == n) numbers ≡ list_any (is_id kind n) ids
 
--- the ids that stand after one position, up to another, where the first one has the position floor + 1
+-- the ids that stand after one position, up to another, where the first one has the position floor
+-- + 1
 abbrev pub ids_between : ℕ → ℕ → ℕ → List Id → List Id
 ids_between floor from upto ids = drop (from - floor) (take (upto - floor) ids)
 
 -- these are exactly the numbers that the kind's edits after one position, up to another, name
 abbrev pub AreTouched : History → Kind → ℕ → ℕ → List ℕ → Type 0
-AreTouched h kind from upto numbers = AreNamed kind (ids_between h.floor from upto (ids_of h)) numbers
+AreTouched h kind from upto numbers =
+    AreNamed kind (ids_between h.floor from upto (ids_of h)) numbers

@@ -1,4 +1,5 @@
--- A finite map from numbers to records, as the list of its records in number order. `number` gives a record's number.
+-- A finite map from numbers to records, as the list of its records in number order. `number` gives
+-- a record's number.
 use Rattle.std.specs.Prelude.{ℕ, ◌<◌, ◌≤◌, not, nat_lt, ◌==◌, if◌then◌else◌, List, [], ◌∷◌, length, take, drop, Option, Some, None, filter, ⊤}
 use Rattle.std.specs.List.{AllByRecursion}
 

@@ -4,8 +4,10 @@ ghost use Rattle.mail_records.specs.Contents.{mailbox_number, email_number, thre
 ghost use Rattle.mail_records.specs.Edits.{Fits, HasNext, IsSmall, after_edit};
 ghost use Rattle.mail_records.specs.Orders.{AreByReceived, AreChildren, AreChildrenNamed, AreInMailbox, AreInThread, AreWithLink, AreWithRole};
 ghost use Rattle.mail_records.specs.Tables.{IsTable};
+ghost use Rattle.mail_records.specs.declared.limits.TheConstants.{MAX_LINKS_PER_EMAIL, MAX_MAILBOXES_PER_EMAIL};
 
 use crate::emails::Emails;
+use crate::limits::{MAX_LINKS_PER_EMAIL, MAX_MAILBOXES_PER_EMAIL};
 use crate::mailboxes::Mailboxes;
 use crate::{Dated, Edit, Email, Linked, Mailbox, Named, Placed, Roled, Table, Thread, Threaded};
 use jm_base::{Kind, NoMemory};
@@ -13,7 +15,7 @@ use std::alloc::Global;
 use std::marker::Model;
 
 /// The mailboxes, emails and threads of an account, each by number, and the next number of each
-/// kind. Contracts see beside it `spare`: for how many edits room stands ready.
+/// kind. Contracts also see `spare`: for how many edits room is reserved.
 #[derive(Drop)]
 pub struct Content {
     pub(crate) mailboxes: Mailboxes,
@@ -27,6 +29,7 @@ pub struct Content {
 impl Model for Content {
     ghost use Rattle.std.specs.Prelude.{min, ◌/◌};
     ghost use Rattle.mail_records.specs.Contents.{Held};
+    ghost use Rattle.mail_records.specs.declared.limits.TheConstants.{MAX_LINKS_PER_EMAIL, MAX_MAILBOXES_PER_EMAIL};
 
     ghost Value = { Held };
 
@@ -41,7 +44,8 @@ impl Model for Content {
       };
       spare = min c.mailboxes.spare
           (min c.emails.spare
-          (min (c.emails.placed / 64) (min (c.emails.linked / 100) c.threads.spare)));
+          (min (c.emails.placed / MAX_MAILBOXES_PER_EMAIL)
+          (min (c.emails.linked / MAX_LINKS_PER_EMAIL) c.threads.spare)));
     } };
 }
 
@@ -203,8 +207,8 @@ impl Content {
         ensures spare { OnOk result (edits ≤ self.new.spare) }
         ensures no_less { self.old.spare ≤ self.new.spare }
     {
-        let placed = product(edits, 64)?;
-        let linked = product(edits, 100)?;
+        let placed = product(edits, MAX_MAILBOXES_PER_EMAIL as usize)?;
+        let linked = product(edits, MAX_LINKS_PER_EMAIL as usize)?;
         self.mailboxes.reserve(edits)?;
         self.emails.reserve(edits, placed, linked)?;
         self.threads.reserve(edits)?;
@@ -226,8 +230,8 @@ impl Content {
 
     fn put_email(&mut self, item: Email, was: bool)
         requires room { 1 ≤ self.old.spare }
-        requires mailboxes { length item.mailboxes ≤ 64 }
-        requires links { length item.summary.links ≤ 100 }
+        requires mailboxes { length item.mailboxes ≤ MAX_MAILBOXES_PER_EMAIL }
+        requires links { length item.summary.links ≤ MAX_LINKS_PER_EMAIL }
         requires next { was ≡ false → item.number + 1 < 2 ^ 64 }
         ensures content { self.new.content ≡ after_edit self.old.content (Edit.PutEmail item was) }
         ensures spare { self.old.spare ≤ self.new.spare + 1 }
@@ -286,7 +290,7 @@ impl Content {
         }
     }
 
-    /// Applies an edit that fits, for which room stands ready. It takes no memory.
+    /// Applies an edit that fits, for which room is reserved. It takes no memory.
     pub fn apply_ready(&mut self, edit: Edit)
         requires room { 1 ≤ self.old.spare }
         requires fits { Fits self.old.content edit }

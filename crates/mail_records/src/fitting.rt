@@ -97,7 +97,7 @@ pub fn keeps_thread(content: &Content, edit: &Edit) -> bool
     }
 }
 
-/// Applies edits of which each fits the content before it, and for which room stands ready. It
+/// Applies edits of which each fits the content before it, and for which room is reserved. It
 /// takes no memory.
 pub fn apply_all_ready(content: &mut Content, edits: Edits)
     requires room { length edits ≤ content.old.spare }

@@ -3,7 +3,7 @@
 //! An account is three finite maps from numbers to records: mailboxes, emails and threads (RFC 8620
 //! and RFC 8621). Every change is a list of [`Edit`]s, each of which puts or drops one record. A
 //! [`Commit`] is the list of one change with the blobs that it brings. What a history, a position,
-//! a content at a position and a state are stands in `specs/`.
+//! a content at a position and a state are defined in `specs/`.
 #![tactic(auto)]
 
 mod content;
@@ -14,7 +14,10 @@ mod entries;
 mod entry_keys;
 mod fitting;
 mod laws;
+mod limits;
 mod mailboxes;
+#[cfg(test)]
+mod order_tests;
 mod orders;
 mod records;
 mod table;
@@ -29,5 +32,6 @@ pub use laws::{
     histories_are_founded, histories_are_sound, histories_grow, keys_tell_lists,
     states_tell_records,
 };
+pub use limits::{MAX_LINKS_PER_EMAIL, MAX_MAILBOXES_PER_EMAIL};
 pub use records::{Email, Mailbox, Summary, Thread};
 pub use table::{Record, Table};

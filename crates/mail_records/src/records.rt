@@ -7,13 +7,15 @@ use crate::table::Record;
 use jm_base::{NoMemory, Numbers, Text, Texts, UtcDate};
 use std::alloc::Global;
 
-/// What is kept of an email's message beside the message itself, so that no query reads it again.
+/// What is kept of an email's message in addition to the message itself, so that no query reads it
+/// again.
 #[derive(Drop)]
 pub struct Summary {
     /// The message ids of the fields Message-ID, In-Reply-To and References, each once and in byte
     /// order. Emails that share one may be of one thread (RFC 8621, section 3).
     pub links: Texts,
-    /// The subject without the prefixes of replies and forwards, by which threads are told apart.
+    /// The subject without the prefixes of replies and forwards, by which threads are
+    /// distinguished.
     pub subject: Text,
     /// The name, else the address, of the first author.
     pub from: Text,

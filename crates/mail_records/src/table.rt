@@ -70,7 +70,7 @@ fn replace<R: Drop>(rows: &mut Vec<R>, place: usize, item: R)
     rows[place] = item;
 }
 
-// Puts a record in the place of its number, for which room stands ready.
+// Puts a record in the place of its number, for which room is reserved.
 fn put_ready<R: Record>(rows: &mut Vec<R>, item: R)
     requires table { IsTable R.number rows.old.items }
     requires room { vec_len rows.old < vec_capacity rows.old }
@@ -180,7 +180,7 @@ impl<R: Record> Table<R> {
         Ok(())
     }
 
-    /// Puts a record in the place of its number, for which room stands ready.
+    /// Puts a record in the place of its number, for which room is reserved.
     pub fn put_ready(&mut self, item: R)
         requires { 1 ≤ self.old.spare }
         ensures rows { self.new.rows ≡ put R.number item self.old.rows }

@@ -1,7 +1,7 @@
 -- Where the first text among some leaves stands.
 use Rattle.std.proofs.Common.{◌≡◌, ℕ, true, false, List, [], ◌∷◌, Option, Some, None, refl, subst}
 use Rattle.mime_type.specs.Node.{Node}
-use Rattle.mime_type.specs.Forest.{Forest}
+use Rattle.mime_type.specs.PartTrees.{PartTrees}
 use Rattle.mime_tree.specs.Places.{IsPlaced, AllPlaced}
 use Rattle.mail_summary.specs.Leaves.{leaf_numbered, is_text, if_text, first_text}
 use Rattle.mail_summary.proofs.LeafFacts.{leaf_placed}
@@ -14,7 +14,7 @@ text_placed size y (Some x) later placed rest e =
       | false ↦ rest
     ] e
 
--- the first text stands in the message
-pub first_placed : (size : ℕ) (f : Forest) (ns : List ℕ) (y : Node) → AllPlaced size f → first_text f ns ≡ Some y → IsPlaced size y
+-- the first text is in the message
+pub first_placed : (size : ℕ) (f : PartTrees) (ns : List ℕ) (y : Node) → AllPlaced size f → first_text f ns ≡ Some y → IsPlaced size y
 first_placed size f [] y all e = cc
 first_placed size f (n ∷ ns) y all e = text_placed size y (leaf_numbered n f) (first_text f ns) (λ x is. leaf_placed size n f x all is) (first_placed size f ns y all) e

@@ -4,14 +4,14 @@ use Rattle.std.specs.Prelude.{find, ◌||◌, if◌then◌else◌}
 use Rattle.std.specs.List.{list_any}
 use Rattle.std.specs.Option.{option_or}
 use Rattle.mime_type.specs.Node.{Node}
-use Rattle.mime_type.specs.Forest.{Forest, none, part, forest_size}
+use Rattle.mime_type.specs.PartTrees.{PartTrees, none, part, part_count}
 use Rattle.mime_type.specs.Joined.{tree_of, joined, node_of}
 use Rattle.mime_type.specs.declared.part.Part.{Part}
 use Rattle.mime_tree.specs.Kept.{walked}
 use Rattle.mime_tree.specs.Places.{IsPlaced, AllPlaced}
 use Rattle.mail_summary.specs.Leaves.{has_number, leaf_numbered}
 
-pub part_size : (ps : List Part) (i : ℕ) (d : Part) → i < length ps → forest_size (tree_of (get_or ps i d) none) ≤ forest_size (joined ps none)
+pub part_size : (ps : List Part) (i : ℕ) (d : Part) → i < length ps → part_count (tree_of (get_or ps i d) none) ≤ part_count (joined ps none)
 part_size [] i d h = absurd (omega arith)
 part_size (p ∷ ps) zero d h = omega arith
 part_size (p ∷ ps) (suc i) d h = omega (arith, part_size ps i d (omega arith))
@@ -34,7 +34,7 @@ stand_append : (size : ℕ) (xs ys : List Node) → AllStand size xs → AllStan
 stand_append size [] ys a b = b
 stand_append size (x ∷ xs) ys a b = (a.0, stand_append size xs ys a.1 b)
 
-stand_walked : (size : ℕ) (f : Forest) → AllPlaced size f → AllStand size (walked f)
+stand_walked : (size : ℕ) (f : PartTrees) → AllPlaced size f → AllStand size (walked f)
 stand_walked size none all = tt
 stand_walked size (part x inner later) all = (all.0, stand_append size (walked inner) (walked later) (stand_walked size inner all.1) (stand_walked size later all.2))
 
@@ -46,8 +46,8 @@ found_stands size n (x ∷ xs) y all e =
       | false ↦ λ h. found_stands size n xs y all.1 h
     ] e
 
--- a leaf that is found stands in the message
-pub leaf_placed : (size n : ℕ) (f : Forest) (y : Node) → AllPlaced size f → leaf_numbered n f ≡ Some y → IsPlaced size y
+-- a leaf that is found is in the message
+pub leaf_placed : (size n : ℕ) (f : PartTrees) (y : Node) → AllPlaced size f → leaf_numbered n f ≡ Some y → IsPlaced size y
 leaf_placed size n f y all e = found_stands size n (walked f) y (stand_walked size f all) e
 
 find_node : (n : ℕ) (p : Part) (later : List Node) → find (has_number n) (node_of p ∷ (walked p.parts ++ later)) ≡ option_or (leaf_numbered n (tree_of p none)) (find (has_number n) later)

@@ -19,13 +19,15 @@ ids_of bytes name = if_value (last_value_of bytes name (fields_of bytes))
 
 -- those that may link, in the order in which they are taken
 abbrev pub all_ids : List ℕ → List (List ℕ)
-all_ids bytes = ids_of bytes (codes "Message-ID") ++ (ids_of bytes (codes "In-Reply-To") ++ ids_of bytes (codes "References"))
+all_ids bytes = ids_of bytes (codes "Message-ID")
+    ++ (ids_of bytes (codes "In-Reply-To") ++ ids_of bytes (codes "References"))
 
 -- a long one links nothing
 abbrev pub is_short : List ℕ → Bool
 is_short id = nat_le (length id) 256
 
--- at its place in byte order before or behind the first of some texts; one that is there already stays alone
+-- at its place in byte order before or after the first of some texts; one that is there already
+-- stays alone
 abbrev pub put_by : Ordering → List ℕ → List ℕ → List (List ℕ) → List (List ℕ) → List (List ℕ)
 put_by Less id x xs later = id ∷ x ∷ xs
 put_by Equal id x xs later = x ∷ xs

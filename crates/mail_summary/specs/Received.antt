@@ -1,4 +1,5 @@
--- When a message was received, by the server that wrote its first trace field (RFC 5322, section 3.6.7).
+-- When a message was received, by the server that wrote its first trace field (RFC 5322, section
+-- 3.6.7).
 use Rattle.std.specs.Prelude.{ℕ, Bool, false, ◌==◌, List, [], ◌∷◌, find, Option, Some, None, option_map, codes, if◌then◌else◌}
 use Rattle.std.specs.Option.{option_or, option_and_then}
 use Rattle.jm_base.specs.declared.identifiers.UtcDate.{UtcDate}
@@ -12,7 +13,8 @@ use Rattle.header_forms.specs.Dates.{utc_of}
 
 -- the value of the first field that has this name
 abbrev pub first_value_of : List ℕ → List ℕ → Option (List ℕ)
-first_value_of bytes name = option_map (value_in bytes) (find (is_named bytes name) (fields_of bytes))
+first_value_of bytes name =
+    option_map (value_in bytes) (find (is_named bytes name) (fields_of bytes))
 
 -- a semicolon outside comments
 abbrev pub is_mark : State → ℕ → Bool
@@ -20,10 +22,11 @@ is_mark Outside b = b == 59
 is_mark (Inside depth) b = false
 is_mark (Escaped depth) b = false
 
--- what stands behind the last of them
+-- what follows the last of them
 abbrev pub behind_last : State → List ℕ → Option (List ℕ)
 behind_last state [] = None
-behind_last state (b ∷ bs) = option_or (behind_last (next state b) bs) (if is_mark state b then Some bs else None)
+behind_last state (b ∷ bs) =
+    option_or (behind_last (next state b) bs) (if is_mark state b then Some bs else None)
 
 abbrev pub moment_behind : List ℕ → Option UtcDate
 moment_behind value = option_and_then utc_of (behind_last Outside (on_one_line value))

@@ -1,4 +1,4 @@
--- The subject by which threads are told apart (RFC 5256, section 2.1, in part).
+-- The subject by which threads are distinguished (RFC 5256, section 2.1, in part).
 use Rattle.std.specs.Prelude.{ℕ, zero, suc, ◌-◌, ◌||◌, ◌==◌, nat_eq, List, [], ◌∷◌, map, codes, if◌then◌else◌}
 use Rattle.std.specs.List.{starts_with}
 use Rattle.std.specs.Char.{is_ascii_whitespace, to_ascii_lowercase}
@@ -10,13 +10,15 @@ prefix_size text =
     if starts_with nat_eq text (codes "re:") || starts_with nat_eq text (codes "fw:") then 3
     else (if starts_with nat_eq text (codes "fwd:") then 4 else 0)
 
--- behind this many characters, those without the prefixes at their front and the white space round each
+-- after this many characters, those without the prefixes at their front and the white space round
+-- each
 abbrev pub without_prefixes : List ℕ → ℕ → List ℕ
 without_prefixes [] left = []
 without_prefixes (b ∷ bs) (suc left) = without_prefixes bs left
 without_prefixes (b ∷ bs) zero =
     if is_ascii_whitespace b then without_prefixes bs 0
-    else (if prefix_size (b ∷ bs) == 0 then b ∷ bs else without_prefixes bs (prefix_size (b ∷ bs) - 1))
+    else (if prefix_size (b ∷ bs) == 0 then b ∷ bs
+    else without_prefixes bs (prefix_size (b ∷ bs) - 1))
 
 -- of the characters of a subject, in lower case
 abbrev pub stripped : List ℕ → List ℕ

@@ -1,4 +1,4 @@
--- What is kept of a message beside its bytes.
+-- What is kept of a message in addition to its bytes.
 use Rattle.std.specs.Prelude.{ℕ, List, [], ◌∷◌, Option, Some, None, unwrap_or, codes}
 use Rattle.std.specs.Option.{option_and_then}
 use Rattle.std.specs.Str.{chars}

@@ -27,7 +27,8 @@ is_unknown Unknown = true
 
 -- an encoding problem: of the charset, or a transfer encoding that isn't known
 abbrev pub body_problem : List ℕ → Node → Bool
-body_problem bytes x = is_unknown x.coding || has_problem (charset_named (charset_name x)) (body_bytes bytes x)
+body_problem bytes x =
+    is_unknown x.coding || has_problem (charset_named (charset_name x)) (body_bytes bytes x)
 
 -- CRLF becomes LF
 abbrev pub is_line_feed : List ℕ → Bool
@@ -36,9 +37,10 @@ is_line_feed (b ∷ bs) = b == 10
 
 abbrev pub with_line_feeds : List ℕ → List ℕ
 with_line_feeds [] = []
-with_line_feeds (b ∷ bs) = if b == 13 && is_line_feed bs then with_line_feeds bs else b ∷ with_line_feeds bs
+with_line_feeds (b ∷ bs) =
+    if b == 13 && is_line_feed bs then with_line_feeds bs else b ∷ with_line_feeds bs
 
--- at most so many bytes of a text, and no part of a character; 0 stands for all
+-- at most so many bytes of a text, and no part of a character; 0 means all
 abbrev pub is_cut : ℕ → List ℕ → Bool
 is_cut most text = not (most == 0) && nat_lt most (length text)
 
@@ -84,8 +86,8 @@ without_space (c ∷ cs) = if c == 32 then cs else c ∷ cs
 abbrev pub one_spaced : List ℕ → List ℕ
 one_spaced characters = without_space (spaced characters)
 
--- HTML read from a place: `outside` is its text where no tag is open there; where one is open, `inside` is the text behind
--- the first bracket that closes it
+-- HTML read from a place: `outside` is its text where no tag is open there; where one is open,
+-- `inside` is the text after the first bracket that closes it
 pub record Read : Type 0 where
   pub outside : List ℕ
   pub inside : Option (List ℕ)

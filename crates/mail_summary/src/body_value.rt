@@ -21,9 +21,10 @@ use std::alloc::Global;
 pub struct BodyValue {
     /// The text in Unicode, with LF for each CRLF.
     pub text: Text,
-    /// Whether its bytes weren't what their charset allows, or the charset or the transfer encoding isn't known.
+    /// Whether its bytes weren't what their charset allows, or the charset or the transfer encoding
+    /// isn't known.
     pub problem: bool,
-    /// Whether the text goes on behind the bytes that were asked for.
+    /// Whether the text continues after the bytes that were asked for.
     pub truncated: bool,
 }
 
@@ -47,15 +48,17 @@ fn charset_name(part: &Part) -> &[u8]
     }
 }
 
-/// The text that a body of this coding and charset stands for.
+/// The text that a body of this coding and charset encodes.
 fn read_text(
     alloc: Global,
     coding: Coding,
     charset: &[u8],
     body: &[u8],
 ) -> Result<Decoded, NoMemory>
-    ensures text { IfOk result (λ d. d.text ≡ text_of (charset_named charset.now) (decoded coding body.now)) }
-    ensures problem { IfOk result (λ d. d.problem ≡ has_problem (charset_named charset.now) (decoded coding body.now)) }
+    ensures text { IfOk result (λ d. d.text ≡ text_of (charset_named charset.now)
+        (decoded coding body.now)) }
+    ensures problem { IfOk result (λ d. d.problem
+        ≡ has_problem (charset_named charset.now) (decoded coding body.now)) }
 {
     match coding {
         Coding::Plain | Coding::Unknown => decode_charset(alloc, charset, body),
@@ -70,20 +73,22 @@ fn read_text(
 pub(crate) fn read_body_text(alloc: Global, bytes: &[u8], part: &Part) -> Result<Decoded, NoMemory>
     requires { IsPlaced (length bytes.now) (node_of part.now) }
     ensures text { IfOk result (λ d. d.text ≡ body_text bytes.now (node_of part.now)) }
-    ensures problem { IfOk result (λ d. d.problem ≡ has_problem (charset_named (Texts.charset_name (node_of part.now))) (body_bytes bytes.now (node_of part.now))) }
+    ensures problem { IfOk result (λ d. d.problem
+        ≡ has_problem (charset_named (Texts.charset_name (node_of part.now)))
+        (body_bytes bytes.now (node_of part.now))) }
 {
     let body = &bytes[part.body as usize..part.end as usize];
     read_text(alloc, part.coding, charset_name(part), body)
 }
 
-/// Whether a text has more bytes than this; 0 stands for all.
+/// Whether a text has more bytes than this; 0 means all.
 fn is_cut(most: u64, text: &str) -> bool
     ensures { result ≡ Texts.is_cut most text.now }
 {
     most != 0 && most < text.len() as u64
 }
 
-/// Cuts a text to at most so many bytes, before a character that doesn't fit; 0 stands for all.
+/// Cuts a text to at most so many bytes, before a character that doesn't fit; 0 means all.
 fn cut(most: u64, text: &mut String)
     ensures { string_bytes text.new ≡ Texts.cut_to most (string_bytes text.old) }
 {
@@ -93,8 +98,8 @@ fn cut(most: u64, text: &mut String)
     }
 }
 
-/// The text of a leaf, cut to at most `most` bytes, where that isn't 0 (RFC 8621, section 4.2: bodyValues and
-/// maxBodyValueBytes).
+/// The text of a leaf, cut to at most `most` bytes, where that isn't 0 (RFC 8621, section 4.2:
+/// bodyValues and maxBodyValueBytes).
 pub fn body_value_of(
     alloc: Global,
     bytes: &[u8],

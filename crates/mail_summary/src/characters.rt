@@ -9,7 +9,7 @@ use jm_base::{NoMemory, Text};
 use std::alloc::Global;
 
 /// How many characters of a text are kept.
-const MOST: usize = 256;
+const MAX_SHOWN_CHARACTERS: usize = 256;
 
 pub fn characters(alloc: Global, text: &str) -> Result<Vec<char>, NoMemory>
     ensures { IfOk result (λ cs. cs.items ≡ chars text.now) }
@@ -30,8 +30,8 @@ pub fn lower(alloc: Global, text: &[char]) -> Result<Vec<char>, NoMemory>
 fn front(text: &[char]) -> &[char]
     ensures { result.now ≡ take 256 text.now }
 {
-    if text.len() > MOST {
-        &text[..MOST]
+    if text.len() > MAX_SHOWN_CHARACTERS {
+        &text[..MAX_SHOWN_CHARACTERS]
     } else {
         text
     }
@@ -62,9 +62,11 @@ pub fn brief_text(alloc: Global, text: &str) -> Result<Text, NoMemory>
     brief_of(alloc, all.as_slice())
 }
 
-/// Adds a character, behind a space where there is a gap before it; tells whether there is one behind it.
+/// Adds a character, after a space where there is a gap before it; tells whether there is one after
+/// it.
 fn push_spaced(out: &mut Vec<char>, gap: bool, c: char) -> Result<bool, NoMemory>
-    ensures { (later : List ℕ) → IfOk result (λ g. out.new.items ++ behind g (spaced later) ≡ out.old.items ++ behind gap (spaced (c ∷ later))) }
+    ensures { (later : List ℕ) → IfOk result (λ g. out.new.items ++ behind g (spaced later)
+        ≡ out.old.items ++ behind gap (spaced (c ∷ later))) }
 {
     if c.is_ascii_whitespace() {
         return Ok(true);
@@ -100,14 +102,15 @@ fn after_space(text: &[char]) -> &[char]
     }
 }
 
-/// The first 257 characters of a text with one space for each run of white space and none at the end, and perhaps more of them.
+/// The first 257 characters of a text with one space for each run of white space and none at the
+/// end, and perhaps more of them.
 fn front_spaced(alloc: Global, text: &str) -> Result<Vec<char>, NoMemory>
     ensures { IfOk result (λ cs. take 257 cs.items ≡ take 257 (spaced (chars text.now))) }
 {
     let mut out = Vec::new(alloc);
     let mut gap = false;
     for c in text.chars() {
-        if out.len() > MOST {
+        if out.len() > MAX_SHOWN_CHARACTERS {
             break;
         }
         gap = push_spaced(&mut out, gap, c)?;
@@ -115,7 +118,8 @@ fn front_spaced(alloc: Global, text: &str) -> Result<Vec<char>, NoMemory>
     Ok(out)
 }
 
-/// The first 256 characters of a text with one space for each run of white space and none at either end.
+/// The first 256 characters of a text with one space for each run of white space and none at either
+/// end.
 pub fn brief_spaced(alloc: Global, text: &str) -> Result<Text, NoMemory>
     ensures { IfOk result (λ t. t ≡ brief (Texts.one_spaced (chars text.now))) }
 {

@@ -1,5 +1,5 @@
-// Laws of the texts that a summary and a body are made of, and what the definitions say of examples. Each is the contract of a
-// function that does nothing.
+// Laws of the texts that a summary and a body are made of, and what the definitions say of
+// examples. Each is the contract of a function that does nothing.
 ghost use Rattle.std.specs.Prelude.{◌≡◌, ◌==◌, [], ◌∷◌, ◌++◌, List, ℕ, Some, None, false, codes};
 ghost use Rattle.std.specs.List.{list_any};
 ghost use Rattle.mail_text.specs.Comments.{after_text};
@@ -20,8 +20,11 @@ pub fn examples_of_texts()
     ensures date { behind_last Outside (codes "a; b (c; d \\) e) f; g (h; i)") ≡ Some (codes " g (h; i)") }
 {}
 
-/// In a Received field the date is what follows the last semicolon outside comments (RFC 5322, section 3.6.7): where the comments
-/// before a semicolon are closed and no other semicolon follows, it is all that follows this one.
+/// In a Received field the date is what follows the last semicolon outside comments (RFC 5322,
+/// section 3.6.7): where the comments before a semicolon are closed and no other semicolon follows,
+/// it is all that follows this one.
 pub fn date_of_received_follows_the_last_semicolon()
-    ensures { (front back : List ℕ) → after_text Outside front ≡ Outside → list_any (λ b. b == 59) back ≡ false → behind_last Outside (front ++ 59 ∷ back) ≡ Some back }
+    ensures { (front back : List ℕ) → after_text Outside front ≡ Outside
+        → list_any (λ b. b == 59) back ≡ false → behind_last Outside (front ++ 59 ∷ back)
+        ≡ Some back }
 {}

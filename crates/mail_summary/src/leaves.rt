@@ -1,7 +1,7 @@
 // The leaves of a message by their numbers.
 ghost use Rattle.std.specs.Prelude.{◌≡◌, ◌≤◌, length, find, option_map, IfOk};
 ghost use Rattle.std.specs.List.{list_any};
-ghost use Rattle.mime_type.specs.Forest.{none};
+ghost use Rattle.mime_type.specs.PartTrees.{none};
 ghost use Rattle.mime_type.specs.Joined.{node_of, tree_of, joined};
 ghost use Rattle.mime_tree.specs.Kept.{walked};
 ghost use Rattle.mime_tree.specs.Places.{IsPlaced};
@@ -48,7 +48,7 @@ fn leaf_within(parts: &[Part], number: u64) -> Option<&Part>
     None
 }
 
-/// The bytes that a part's body stands for.
+/// The bytes that a part's body encodes.
 pub fn read_body(alloc: Global, bytes: &[u8], part: &Part) -> Result<Bytes, NoMemory>
     requires { IsPlaced (length bytes.now) (node_of part.now) }
     ensures { IfOk result (λ b. b ≡ body_bytes bytes.now (node_of part.now)) }
@@ -60,7 +60,8 @@ pub fn read_body(alloc: Global, bytes: &[u8], part: &Part) -> Result<Bytes, NoMe
     )
 }
 
-/// The bytes that the leaf with this number stands for (RFC 8621, section 4.1.4: blobId); none where no leaf has it.
+/// The bytes that the leaf with this number encodes (RFC 8621, section 4.1.4: blobId); none where
+/// no leaf has it.
 pub fn part_bytes(alloc: Global, bytes: &[u8], number: u64) -> Result<Option<Bytes>, NoMemory>
     ensures { IfOk result (λ b. b ≡ part_bytes_of bytes.now number) }
 {

@@ -8,20 +8,20 @@ ghost use Rattle.mail_summary.specs.Links.{gathered, if_value, is_short, links, 
 
 use header_forms::{angle_texts_of, on_one_line};
 use jm_base::{NoMemory, Text, Texts};
+use mail_records::MAX_LINKS_PER_EMAIL;
 use mime_lines::{FieldSpans, last_value};
 use std::alloc::Global;
 use std::cmp::Ordering;
 use std::collections::VecDeque;
 
-/// How many identifiers are kept.
-const LIMIT: usize = 100;
-
 /// How many bytes one has at most that links.
-const LONGEST: usize = 256;
+const MAX_LINK_BYTES: usize = 256;
 
 /// The place of a text among texts in byte order; none where it is there already.
 fn place_of(kept: &[Text], id: &Text) -> Option<usize>
-    ensures { MatchOption result (Links.put id.now kept.now ≡ kept.now) (λ i. (i ≤ length kept.now) × (Links.put id.now kept.now ≡ take i kept.now ++ id.now ∷ drop i kept.now)) }
+    ensures { MatchOption result (Links.put id.now kept.now ≡ kept.now)
+        (λ i. (i ≤ length kept.now) × (Links.put id.now kept.now ≡ take i kept.now ++ id.now
+        ∷ drop i kept.now)) }
 {
     for (i, other) in kept.iter().enumerate() {
         match id.as_bytes().cmp(other.as_bytes()) {
@@ -37,7 +37,7 @@ fn place_of(kept: &[Text], id: &Text) -> Option<usize>
 fn put(kept: &mut Vec<Text>, id: Text) -> Result<(), NoMemory>
     ensures { OnOk result (kept.new.items ≡ gathered kept.old.items (filter is_short (id ∷ []))) }
 {
-    if id.as_str().len() > LONGEST || kept.len() >= LIMIT {
+    if id.as_str().len() > MAX_LINK_BYTES || kept.len() >= MAX_LINKS_PER_EMAIL as usize {
         return Ok(());
     }
     match place_of(kept.as_slice(), &id) {

@@ -1,7 +1,7 @@
 // The preview of a message.
 ghost use Rattle.std.specs.Prelude.{◌≡◌, length, option_map, IfOk, Some, None};
 ghost use Rattle.body_lists.specs.Lists;
-ghost use Rattle.mime_type.specs.Forest.{none};
+ghost use Rattle.mime_type.specs.PartTrees.{none};
 ghost use Rattle.mime_type.specs.Joined.{node_of, tree_of};
 ghost use Rattle.mime_tree.specs.Places.{IsPlaced, AllPlaced};
 ghost use Rattle.mail_summary.specs.Leaves;
@@ -32,13 +32,15 @@ fn is_text(part: &Part) -> bool
 
 /// The leaf with this number, where it is plain text or HTML.
 fn text_numbered(root: &Part, number: u64) -> Option<&Part>
-    ensures { option_map node_in result ≡ if_text (leaf_numbered number (tree_of root.now none)) None }
+    ensures { option_map node_in result ≡ if_text (leaf_numbered number (tree_of root.now none))
+        None }
 {
     let found = leaf(root, number)?;
     if is_text(found) { Some(found) } else { None }
 }
 
-/// The first of the leaves with these numbers that is plain text or HTML, of a part and those within it.
+/// The first of the leaves with these numbers that is plain text or HTML, of a part and those
+/// within it.
 pub fn first_text_of<'a>(root: &'a Part, numbers: &[u64]) -> Option<&'a Part>
     ensures { option_map node_in result ≡ first_text (tree_of root.now none) numbers.now }
 {
@@ -70,8 +72,9 @@ fn part_preview(alloc: Global, bytes: &[u8], part: &Part) -> Result<Text, NoMemo
     brief_spaced(alloc, shown.as_str())
 }
 
-/// The preview of a message with this tree of parts, where the leaves of these numbers are its text: the words of the first
-/// of them that is plain text or HTML, then without its tags, cut to 256 characters (RFC 8621, section 4.1.4: preview).
+/// The preview of a message with this tree of parts, where the leaves of these numbers are its
+/// text: the words of the first of them that is plain text or HTML, then without its tags, cut to
+/// 256 characters (RFC 8621, section 4.1.4: preview).
 pub fn preview_of(
     alloc: Global,
     bytes: &[u8],
@@ -79,7 +82,8 @@ pub fn preview_of(
     numbers: &[u64],
 ) -> Result<Text, NoMemory>
     requires { AllPlaced (length bytes.now) (tree_of root.now none) }
-    ensures { IfOk result (λ t. t ≡ preview_by bytes.now (first_text (tree_of root.now none) numbers.now)) }
+    ensures { IfOk result (λ t. t ≡ preview_by bytes.now
+        (first_text (tree_of root.now none) numbers.now)) }
 {
     match first_text_of(root, numbers) {
         Some(first) => part_preview(alloc, bytes, first),

@@ -7,7 +7,7 @@ ghost use Rattle.mail_summary.specs.Received;
 ghost use Rattle.mail_summary.specs.Received.{moment_behind, received, first_value_of};
 ghost use Rattle.mail_summary.specs.Shown.{bytes_in};
 
-use header_forms::{moment_of, on_one_line};
+use header_forms::{on_one_line, timestamp_of};
 use jm_base::{NoMemory, UtcDate};
 use mail_text::{State, next_state};
 use mime_lines::{Field, fields};
@@ -16,7 +16,8 @@ use std::alloc::Global;
 /// The value of the first field that has this name.
 fn first_value<'a>(bytes: &'a [u8], fields: &[Field], name: &[u8]) -> Option<&'a [u8]>
     requires { All (IsWithin bytes.now) fields.now }
-    ensures { option_map bytes_in result ≡ option_map (value_in bytes.now) (find (is_named bytes.now name.now) fields.now) }
+    ensures { option_map bytes_in result ≡ option_map (value_in bytes.now)
+        (find (is_named bytes.now name.now) fields.now) }
 {
     for field in fields {
         if field.is_named(bytes, name) {
@@ -35,9 +36,10 @@ fn is_mark(state: State, byte: u8) -> bool
     }
 }
 
-/// What stands behind the last semicolon so far.
+/// What follows the last semicolon up to here.
 fn latest<'a>(last: Option<&'a [u8]>, state: State, byte: u8, after: &'a [u8]) -> Option<&'a [u8]>
-    ensures { option_map bytes_in result ≡ (if Received.is_mark state byte then Some after.now else option_map bytes_in last.entry) }
+    ensures { option_map bytes_in result ≡ (if Received.is_mark state byte then Some after.now
+        else option_map bytes_in last.entry) }
 {
     if is_mark(state, byte) {
         Some(after)
@@ -46,7 +48,7 @@ fn latest<'a>(last: Option<&'a [u8]>, state: State, byte: u8, after: &'a [u8]) -
     }
 }
 
-/// What stands behind the last semicolon outside comments.
+/// What follows the last semicolon outside comments.
 fn behind_last(text: &[u8]) -> Option<&[u8]>
     ensures { option_map bytes_in result ≡ Received.behind_last State.Outside text.now }
 {
@@ -55,7 +57,7 @@ fn behind_last(text: &[u8]) -> Option<&[u8]>
     let mut rest = text;
     while let Some((byte, after)) = rest.split_first() {
         last = latest(last, state, *byte, after);
-        state = next_state(state, *byte);
+        state = next_state(state, *byte as u32);
         rest = after;
     }
     last
@@ -67,14 +69,14 @@ fn read_moment(alloc: Global, value: &[u8]) -> Result<Option<UtcDate>, NoMemory>
 {
     let line = on_one_line(alloc, value)?;
     match behind_last(line.as_bytes()) {
-        Some(text) => Ok(moment_of(text)),
+        Some(text) => Ok(timestamp_of(text)),
         None => Ok(None),
     }
 }
 
-/// The moment when a message was received: that of the date behind the last semicolon outside comments in its first
-/// Received field (RFC 5322, section 3.6.7). None where the field, the semicolon or a date isn't there, or the moment isn't
-/// of the years 0001 to 9999.
+/// The moment when a message was received: that of the date after the last semicolon outside
+/// comments in its first Received field (RFC 5322, section 3.6.7). None where the field, the
+/// semicolon or a date isn't there, or the moment isn't of the years 0001 to 9999.
 pub fn received_of(alloc: Global, bytes: &[u8]) -> Result<Option<UtcDate>, NoMemory>
     ensures value { IfOk result (λ d. d ≡ received bytes.now) }
     ensures kept { IfOk result (λ d. ForSome d IsUtcDate) }

@@ -1,4 +1,4 @@
-// The subject by which threads are told apart.
+// The subject by which threads are distinguished.
 ghost use Rattle.std.specs.Prelude.{◌≡◌, ◌<◌, length, drop, MatchOption, IfOk, IfSome};
 ghost use Rattle.std.specs.Str.{chars};
 ghost use Rattle.header_forms.specs.Texts.{text_of};
@@ -35,9 +35,10 @@ fn after_front(text: &[char], size: usize) -> &[char]
     }
 }
 
-/// What stands behind the white space or the prefix at the beginning.
+/// What follows the white space or the prefix at the beginning.
 fn behind_prefix(text: &[char]) -> Option<&[char]>
-    ensures value { MatchOption result (without_prefixes text.now 0 ≡ text.now) (λ a. without_prefixes text.now 0 ≡ without_prefixes a.now 0) }
+    ensures value { MatchOption result (without_prefixes text.now 0 ≡ text.now)
+        (λ a. without_prefixes text.now 0 ≡ without_prefixes a.now 0) }
     ensures shorter { IfSome result (λ a. length a.now < length text.now) }
 {
     let Some((c, after)) = text.split_first() else {
@@ -64,8 +65,8 @@ fn after_prefixes(text: &[char]) -> &[char]
     rest
 }
 
-/// The subject of a value without the prefixes of replies and forwards, in lower case and with one space for each run of
-/// white space.
+/// The subject of a value without the prefixes of replies and forwards, in lower case and with one
+/// space for each run of white space.
 pub fn read_subject(alloc: Global, value: &[u8]) -> Result<Text, NoMemory>
     ensures { IfOk result (λ t. t ≡ brief (stripped (chars (text_of value.now)))) }
 {

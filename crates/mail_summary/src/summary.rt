@@ -1,4 +1,4 @@
-// What is kept of a message beside its bytes.
+// What is kept of a message in addition to its bytes.
 ghost use Rattle.std.specs.Prelude.{◌≡◌, All, IfOk, codes, unwrap_or};
 ghost use Rattle.std.specs.Option.{ForSome, option_and_then};
 ghost use Rattle.std.specs.Str.{chars};
@@ -12,7 +12,7 @@ use crate::characters::brief_text;
 use crate::leaves::has_attachment;
 use crate::links::links_of;
 use crate::subjects::read_subject;
-use header_forms::{Address, addresses_of, moment_of, on_one_line};
+use header_forms::{Address, addresses_of, on_one_line, timestamp_of};
 use jm_base::{NoMemory, Text, UtcDate};
 use mail_records::Summary;
 use mime_lines::{FieldSpans, fields, last_value};
@@ -69,7 +69,7 @@ fn sent_in(alloc: Global, bytes: &[u8], fields: &FieldSpans) -> Result<Option<Ut
     match last_value(bytes, fields, b"Date") {
         Some(value) => {
             let line = on_one_line(alloc, value)?;
-            Ok(moment_of(line.as_bytes()))
+            Ok(timestamp_of(line.as_bytes()))
         }
         None => Ok(None),
     }

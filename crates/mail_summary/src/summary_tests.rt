@@ -4,7 +4,8 @@ use jm_base::NoMemory;
 use std::alloc::Global;
 use std::test::Fail;
 
-/// A summary on one line: subject, from, to, the seconds of its date, `+` for an attachment, and its links.
+/// A summary on one line: subject, from, to, the seconds of its date, `+` for an attachment, and
+/// its links.
 fn told(alloc: Global, message: &[u8]) -> Result<String, NoMemory> {
     let found = summary_of(alloc, message)?;
     let mut out = format!(in alloc;
@@ -41,7 +42,7 @@ fn summaries_of_messages(rt: HostRuntime) -> Result<(), Fail> {
         // A prefix within a subject is text, and so is one of another language.
         (b"Subject: a re: b\n", "a re: b|||||"),
         (b"Subject: SV: Re: b\n", "sv: re: b|||||"),
-        // Links are told apart, and in byte order.
+        // Links are distinguished, and in byte order.
         (
             b"References: <b@x> <a@x>\nIn-Reply-To: <c@x>\nMessage-ID: <b @x>\n",
             "|||||a@x b@x c@x ",

@@ -15,9 +15,10 @@ fn begins_with_line_feed(text: &str) -> bool
     }
 }
 
-/// Adds a CR that stands before some text, if it doesn't end a line with the LF behind it.
+/// Adds a CR that stands before some text, if it doesn't end a line with the LF after it.
 fn push_return(out: &mut String, behind: &str) -> Result<(), NoMemory>
-    ensures { OnOk result (string_bytes out.new ++ with_line_feeds behind.now ≡ string_bytes out.old ++ with_line_feeds (13 ∷ behind.now)) }
+    ensures { OnOk result (string_bytes out.new ++ with_line_feeds behind.now ≡ string_bytes out.old
+        ++ with_line_feeds (13 ∷ behind.now)) }
 {
     if !begins_with_line_feed(behind) {
         out.push('\r')?;

@@ -5,10 +5,12 @@ ghost use Rattle.mail_summary.specs.Texts.{without_tags};
 use jm_base::{NoMemory, Text};
 use std::alloc::Global;
 
-/// Adds what an opening bracket and the text behind it give up to the end of the tag, and gives the text behind that. Where
-/// no bracket closes the tag, all of it stays: there is no tag in the text behind it either.
+/// Adds what an opening bracket and the text after it give up to the end of the tag, and gives the
+/// text after that. Where no bracket closes the tag, all of it stays: there is no tag in the text
+/// after it either.
 fn push_tag<'a>(out: &mut String, behind: &'a str) -> Result<&'a str, NoMemory>
-    ensures value { IfOk result (λ later. string_bytes out.new ++ without_tags later.now ≡ string_bytes out.old ++ without_tags (60 ∷ behind.now)) }
+    ensures value { IfOk result (λ later. string_bytes out.new ++ without_tags later.now
+        ≡ string_bytes out.old ++ without_tags (60 ∷ behind.now)) }
     ensures within { IfOk result (λ later. length later.now ≤ length behind.now) }
 {
     match behind.split_once('>') {

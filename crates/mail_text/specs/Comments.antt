@@ -1,5 +1,5 @@
--- Comments and the white space around them (RFC 5322, section 3.2.2). A comment is in parentheses and
--- may hold others; in it a backslash quotes the next byte (quoted-pair; section 3.2.1).
+-- Comments and the white space around them (RFC 5322, section 3.2.2). A comment is in parentheses
+-- and may hold others; in it a backslash quotes the next byte (quoted-pair; section 3.2.1).
 use Rattle.std.specs.Prelude.{ℕ, zero, suc, ◌+◌, Bool, true, false, ◌||◌, ◌==◌, List, [], ◌∷◌, Option, Some, None, if◌then◌else◌}
 use Rattle.std.specs.Char.{is_ascii_whitespace}
 use Rattle.mail_text.specs.declared.comment.State.{State}
@@ -57,8 +57,8 @@ at_end Outside = Some []
 at_end (Inside depth) = None
 at_end (Escaped depth) = None
 
--- what is left of a text after the white space and the comments at its front; none if a comment there
--- isn't closed
+-- what is left of a text after the white space and the comments at its front; none if a comment
+-- there isn't closed
 abbrev pub gap_from : (ℕ → Bool) → List ℕ → State → Option (List ℕ)
 gap_from white [] state = at_end state
 gap_from white (b ∷ bs) state =

@@ -1,5 +1,5 @@
--- Texts without the white space at their ends, and names without case. White space is ASCII's: space,
--- tab, LF, CR and FF.
+-- Texts without the white space at their ends, and names without case. White space is ASCII's:
+-- space, tab, LF, CR and FF.
 use Rattle.std.specs.Prelude.{ℕ, ◌-◌, Bool, List, length, take, drop, bytes_eq}
 use Rattle.std.specs.List.{prefix_len, suffix_len}
 use Rattle.std.specs.Char.{is_ascii_whitespace}

@@ -34,7 +34,8 @@ fn is_in_gap(white: WhiteSpace, state: State, byte: u8) -> bool
     }
 }
 
-/// Returns what is left of a text after the white space and the comments at its front; none if a comment there isn't closed.
+/// Returns what is left of a text after the white space and the comments at its front; none if a
+/// comment there isn't closed.
 pub fn skip_gap(text: &[u8], white: WhiteSpace) -> Option<&[u8]>
     ensures value { option_map (λ r. r.now) result ≡ after_gap (is_white white) text.now }
     ensures within { IfSome result (λ r. length r.now ≤ length text.now) }
@@ -45,7 +46,7 @@ pub fn skip_gap(text: &[u8], white: WhiteSpace) -> Option<&[u8]>
         if !is_in_gap(white, state, *byte) {
             return Some(rest);
         }
-        state = next_state(state, *byte);
+        state = next_state(state, *byte as u32);
         rest = after;
     }
     if is_outside(state) { Some(rest) } else { None }

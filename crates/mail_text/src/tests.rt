@@ -1,7 +1,7 @@
 // Tables by RFC 5322, sections 3.2.1 and 3.2.2.
 use crate::{WhiteSpace, is_same_name, skip_gap, trim};
 
-/// Whether each text has what stands beside it after its gap.
+/// Whether each text has what is next to it after its gap.
 fn all_skip(table: &[(&[u8], Option<&[u8]>)], white: WhiteSpace) -> bool {
     for (text, rest) in table {
         if skip_gap(text, white) != *rest {

@@ -1,4 +1,4 @@
--- A run with no equals sign stands for itself.
+-- A run with no equals sign encodes itself.
 use Rattle.std.proofs.Common.{◌≡◌, ℕ, zero, suc, ◌<◌, ◌≤◌, false, eqb, List, [], ◌∷◌, ◌++◌, length, get_or, take, drop, refl, ap, arith}
 use Rattle.mime_codec.specs.Quoted.{unescaped}
 

@@ -1,5 +1,5 @@
--- Base64 (RFC 2045, 6.8): characters outside the alphabet are ignored, the data end at the first equals sign, and
--- bits that fill no byte are dropped.
+-- Base64 (RFC 2045, 6.8): characters outside the alphabet are ignored, the data end at the first
+-- equals sign, and bits that fill no byte are dropped.
 use Rattle.std.specs.Prelude.{ℕ, ◌+◌, ◌-◌, ◌*◌, ◌/◌, ◌%◌, ◌==◌, List, [], ◌∷◌, Option, None, Some, if◌then◌else◌}
 use Rattle.mime_codec.specs.Quoted.{is_between}
 
@@ -26,7 +26,8 @@ packed [] = []
 packed (a ∷ []) = []
 packed (a ∷ b ∷ []) = (a * 4 + b / 16) ∷ []
 packed (a ∷ b ∷ c ∷ []) = (a * 4 + b / 16) ∷ ((b % 16) * 16 + c / 4) ∷ []
-packed (a ∷ b ∷ c ∷ d ∷ rest) = (a * 4 + b / 16) ∷ ((b % 16) * 16 + c / 4) ∷ ((c % 4) * 64 + d) ∷ packed rest
+packed (a ∷ b ∷ c ∷ d ∷ rest) =
+    (a * 4 + b / 16) ∷ ((b % 16) * 16 + c / 4) ∷ ((c % 4) * 64 + d) ∷ packed rest
 
 abbrev pub base64 : List ℕ → List ℕ
 base64 bytes = packed (letters bytes)

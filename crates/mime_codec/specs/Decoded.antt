@@ -1,4 +1,4 @@
--- What bytes stand for by their transfer coding (RFC 2045, 6).
+-- What bytes encode by their transfer encoding (RFC 2045, 6).
 use Rattle.std.specs.Prelude.{ℕ, List}
 use Rattle.mime_codec.specs.Quoted.{quoted_printable}
 use Rattle.mime_codec.specs.Base64.{base64}

@@ -24,24 +24,25 @@ unescaped [] = []
 unescaped (b ∷ []) = b ∷ []
 unescaped (b ∷ c ∷ []) = b ∷ c ∷ []
 unescaped (b ∷ c ∷ d ∷ bs) =
-    if is_escape b c d then (16 * hex_value c + hex_value d) ∷ unescaped bs else b ∷ unescaped (c ∷ d ∷ bs)
+    if is_escape b c d then (16 * hex_value c + hex_value d) ∷ unescaped bs
+    else b ∷ unescaped (c ∷ d ∷ bs)
 
 -- without the blanks at the end
 abbrev pub without_end_blanks : List ℕ → List ℕ
 without_end_blanks xs = take (length xs - suffix_len is_blank xs) xs
 
--- an equals sign at the end of a line: the next line goes on with it
+-- an equals sign at the end of a line: the next line continues it
 abbrev pub is_soft : List ℕ → Bool
 is_soft t = get_or t (length t - 1) 0 == 61
 
--- what a text stands for that is left of a line, with the line end where it is no soft break
+-- what a text encodes that is left of a line, with the line end where it is no soft break
 abbrev pub text_with_end : List ℕ → List ℕ → List ℕ
 text_with_end t end = if is_soft t then unescaped (take (length t - 1) t) else unescaped t ++ end
 
--- what a line stands for
+-- what a line encodes
 abbrev pub quoted_line : List ℕ → List ℕ
 quoted_line line = text_with_end (without_end_blanks (text line)) (drop (length (text line)) line)
 
--- what the lines stand for, one after the other
+-- what the lines encode, one after the other
 abbrev pub quoted_printable : List ℕ → List ℕ
 quoted_printable bytes = flat_map quoted_line (lines bytes)

@@ -1,4 +1,5 @@
-// Base64 (RFC 2045, section 6.8). Four letters make three bytes; up to three letters wait until the fourth is there.
+// Base64 (RFC 2045, section 6.8). Four letters make three bytes; up to three letters wait until the
+// fourth is there.
 ghost use Rattle.std.specs.Prelude.{◌≡◌, ◌<◌, ◌∷◌, ◌++◌, [], List, ℕ, ◌≤◌, ◌≢◌, IfOk, OnOk, Some, None, slice_index};
 ghost use Rattle.mime_codec.specs.Base64.{letter, with_letter, packed, base64};
 ghost use Rattle.mime_codec.specs.Waiting.{before, AreSmall};
@@ -18,7 +19,8 @@ enum Waiting {
 /// What `six_bits` gives for a character that isn't of the alphabet.
 pub const NO_LETTER: u8 = 64;
 
-/// The six bits of each character, or `NO_LETTER`: a table, since tests on random text are jumps that are not foreseen.
+/// The six bits of each character, or `NO_LETTER`: a table, since tests on random text are jumps
+/// that are not foreseen.
 const LETTERS: [u8; 256] = [
     64, 64, 64, 64, 64, 64, 64, 64, 64, 64, 64, 64, 64, 64, 64, 64, 64, 64, 64, 64, 64, 64, 64, 64,
     64, 64, 64, 64, 64, 64, 64, 64, 64, 64, 64, 64, 64, 64, 64, 64, 64, 64, 64, 62, 64, 64, 64, 63,
@@ -54,7 +56,8 @@ fn push_letter(out: &mut Vec<u8>, waiting: Waiting, value: u8) -> Result<Waiting
     requires waiting { AreSmall waiting }
     requires value { value < 64 }
     ensures small { IfOk result AreSmall }
-    ensures bytes { IfOk result (λ now. (later : List ℕ) → out.new.items ++ packed (before now later) ≡ out.old.items ++ packed (before waiting (value ∷ later))) }
+    ensures bytes { IfOk result (λ now. (later : List ℕ) → out.new.items
+        ++ packed (before now later) ≡ out.old.items ++ packed (before waiting (value ∷ later))) }
 {
     match waiting {
         Waiting::Nothing => Ok(Waiting::One(value)),
@@ -73,7 +76,9 @@ fn push_letter(out: &mut Vec<u8>, waiting: Waiting, value: u8) -> Result<Waiting
 fn push_character(out: &mut Vec<u8>, waiting: Waiting, byte: u8) -> Result<Waiting, NoMemory>
     requires { AreSmall waiting }
     ensures small { IfOk result AreSmall }
-    ensures bytes { IfOk result (λ now. (later : List ℕ) → out.new.items ++ packed (before now later) ≡ out.old.items ++ packed (before waiting (with_letter (letter byte) later))) }
+    ensures bytes { IfOk result (λ now. (later : List ℕ) → out.new.items
+        ++ packed (before now later) ≡ out.old.items
+        ++ packed (before waiting (with_letter (letter byte) later))) }
 {
     let value = six_bits(byte);
     if value == NO_LETTER {
@@ -101,7 +106,7 @@ fn push_last(out: &mut Vec<u8>, waiting: Waiting) -> Result<(), NoMemory>
     }
 }
 
-/// The bytes that base64 stands for.
+/// The bytes that base64 encodes.
 pub fn decode_base64(alloc: Global, bytes: &[u8]) -> Result<Vec<u8>, NoMemory>
     ensures { IfOk result (λ out. out.items ≡ base64 bytes.now) }
 {

@@ -20,7 +20,7 @@ pub enum Coding {
     Unknown,
 }
 
-/// The bytes that `bytes` stand for in this coding.
+/// The bytes that `bytes` encode in this coding.
 pub fn decode(alloc: Global, coding: Coding, bytes: &[u8]) -> Result<Bytes, NoMemory>
     ensures { IfOk result (λ out. out ≡ decoded coding bytes.now) }
 {

@@ -1,4 +1,5 @@
-// Quoted-printable (RFC 2045, section 6.7), line by line; in a line the runs between equals signs are found by memchr.
+// Quoted-printable (RFC 2045, section 6.7), line by line; in a line the runs between equals signs
+// are found by memchr.
 ghost use Rattle.std.specs.Prelude.{◌≡◌, true, ◌<◌, ◌≤◌, ◌+◌, ◌*◌, ◌∷◌, ◌++◌, length, take, drop, IfOk, OnOk};
 ghost use Rattle.mime_lines.specs.Lines.{lines, text, is_blank};
 ghost use Rattle.mime_codec.specs.Quoted.{is_hex, hex_value, unescaped, without_end_blanks, text_with_end, quoted_line, quoted_printable};
@@ -29,14 +30,14 @@ fn digit(byte: u8) -> u8
     }
 }
 
-/// The first byte that a text stands for, and the text after it.
+/// The first byte that a text encodes, and the text after it.
 #[derive(Clone, Copy)]
 pub struct First<'a> {
     pub byte: u8,
     pub rest: &'a [u8],
 }
 
-/// The byte of the escape at the front, or the first byte itself, and the text after it.
+/// The byte of the escape at the start, or the first byte itself, and the text after it.
 pub fn split_first(text: &[u8]) -> First<'_>
     requires { 0 < length text.now }
     ensures value { unescaped text.now ≡ result.byte ∷ unescaped result.rest.now }
@@ -65,9 +66,10 @@ fn split_run(text: &[u8]) -> (&[u8], &[u8])
     }
 }
 
-/// Adds the first byte that a text stands for, if there is one, and gives the text after it.
+/// Adds the first byte that a text encodes, if there is one, and gives the text after it.
 fn push_first<'a>(out: &mut Vec<u8>, text: &'a [u8]) -> Result<&'a [u8], NoMemory>
-    ensures value { IfOk result (λ rest. out.new.items ++ unescaped rest.now ≡ out.old.items ++ unescaped text.now) }
+    ensures value { IfOk result (λ rest. out.new.items ++ unescaped rest.now ≡ out.old.items
+        ++ unescaped text.now) }
     ensures shorter { IfOk result (λ rest. 0 < length text.now → length rest.now < length text.now) }
     ensures within { IfOk result (λ rest. length rest.now ≤ length text.now) }
 {
@@ -79,7 +81,7 @@ fn push_first<'a>(out: &mut Vec<u8>, text: &'a [u8]) -> Result<&'a [u8], NoMemor
     Ok(first.rest)
 }
 
-/// Adds what a text stands for, its escapes put in place of the bytes that they name.
+/// Adds what a text encodes, its escapes put in place of the bytes that they name.
 fn push_unescaped(out: &mut Vec<u8>, text: &[u8]) -> Result<(), NoMemory>
     ensures { OnOk result (out.new.items ≡ out.old.items ++ unescaped text.now) }
 {
@@ -92,8 +94,8 @@ fn push_unescaped(out: &mut Vec<u8>, text: &[u8]) -> Result<(), NoMemory>
     Ok(())
 }
 
-/// The text with each escape of `=` and two hexadecimal digits put in place of the byte that it names. All else
-/// stays, bad escapes too. Lines and white space mean nothing here.
+/// The text with each escape of `=` and two hexadecimal digits put in place of the byte that it
+/// names. All else stays, bad escapes too. Lines and white space mean nothing here.
 pub fn unescape(alloc: Global, text: &[u8]) -> Result<Bytes, NoMemory>
     ensures { IfOk result (λ out. out ≡ unescaped text.now) }
 {
@@ -119,7 +121,7 @@ pub fn trim_end(text: &[u8]) -> &[u8]
     &text[..len]
 }
 
-/// Adds what a line stands for, of which this text is left, and which ends so.
+/// Adds what a line encodes, of which this text is left, and which ends so.
 fn push_text(out: &mut Vec<u8>, text: &[u8], end: &[u8]) -> Result<(), NoMemory>
     ensures { OnOk result (out.new.items ≡ out.old.items ++ text_with_end text.now end.now) }
 {
@@ -139,7 +141,7 @@ fn push_line(out: &mut Vec<u8>, line: &[u8]) -> Result<(), NoMemory>
     push_text(out, trim_end(text), end)
 }
 
-/// The bytes that quoted-printable stands for.
+/// The bytes that quoted-printable encodes.
 pub fn decode_quoted(alloc: Global, bytes: &[u8]) -> Result<Vec<u8>, NoMemory>
     ensures { IfOk result (λ out. out.items ≡ quoted_printable bytes.now) }
 {

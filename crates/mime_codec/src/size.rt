@@ -1,4 +1,4 @@
-// How many bytes a body stands for, found without making them.
+// How many bytes a body encodes, found without making them.
 ghost use Rattle.std.specs.Prelude.{◌≡◌, ◌≤◌, ◌<◌, ◌+◌, ◌^◌, List, ℕ, length};
 ghost use Rattle.mime_codec.specs.Base64.{letter, with_letter, letters, base64};
 ghost use Rattle.mime_codec.specs.Decoded.{decoded};
@@ -11,7 +11,8 @@ use mime_lines::{split_line, text_len};
 
 /// How many letters a character is: one, or none where it isn't of the alphabet.
 fn letters_of(byte: u8) -> usize
-    ensures value { (later : List ℕ) → length (with_letter (letter byte) later) ≡ result + length later }
+    ensures value { (later : List ℕ) → length (with_letter (letter byte) later) ≡ result
+        + length later }
     ensures within { result ≤ 1 }
 {
     if six_bits(byte) == NO_LETTER { 0 } else { 1 }
@@ -40,7 +41,7 @@ fn base64_size(bytes: &[u8]) -> usize
     count / 4 * 3 + (count % 4) * 3 / 4
 }
 
-/// How many bytes a text stands for, its escapes counted as one each.
+/// How many bytes a text encodes, its escapes counted as one each.
 fn unescaped_size(text: &[u8]) -> usize
     ensures value { result ≡ length (unescaped text.now) }
     ensures within { result ≤ length text.now }
@@ -88,7 +89,7 @@ fn quoted_size(bytes: &[u8]) -> usize
     size
 }
 
-/// How many bytes `bytes` stand for in this coding: no more than they are. It takes no memory.
+/// How many bytes `bytes` encode in this coding: no more than they are. It takes no memory.
 pub fn decoded_size(coding: Coding, bytes: &[u8]) -> u64
     ensures value { result ≡ length (decoded coding bytes.now) }
     ensures within { result ≤ length bytes.now }

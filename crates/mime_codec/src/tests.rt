@@ -1,4 +1,5 @@
-// Tables of both codings. The values of escapes and of base64 are those of Python's `quopri` and `base64`.
+// Tables of both codings. The values of escapes and of base64 are those of Python's `quopri` and
+// `base64`.
 use crate::{Coding, decode, decoded_size, unescape};
 use std::alloc::Global;
 
@@ -35,7 +36,7 @@ fn quoted_printable_lines(rt: HostRuntime) {
             b"Now's the time for all folk to come to the aid of their country."
         )
     );
-    // White space before a line's end goes, also behind the sign of a soft break.
+    // White space before a line's end goes, also after the sign of a soft break.
     assert!(rt; quoted(alloc, b"a \t\r\nb\t \nc  ", b"a\r\nb\nc"));
     assert!(rt; quoted(alloc, b"a= \t\r\nb=\nc=", b"abc"));
     // A CR alone is text.

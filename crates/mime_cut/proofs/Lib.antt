@@ -1,3 +1,3 @@
 pub mod CutFacts
 pub mod ReadFacts
-pub mod MarkFacts
+pub mod LineKindFacts

@@ -1,8 +1,8 @@
 -- The pieces of a multipart's body, from its lines (RFC 2046, section 5.1.1).
 use Rattle.std.specs.Prelude.{ℕ, ◌+◌, Bool, true, false, List, [], ◌∷◌, ◌++◌, length, if◌then◌else◌}
 use Rattle.mime_lines.specs.Lines.{text}
-use Rattle.mime_cut.specs.declared.mark.Mark.{Mark}
-use Rattle.mime_cut.specs.Marks.{mark_of, by_mark}
+use Rattle.mime_cut.specs.declared.line_kind.LineKind.{LineKind}
+use Rattle.mime_cut.specs.DelimiterLines.{line_kind, by_line_kind}
 
 -- some bytes of a message, and the place of the first
 pub record Piece : Type 0 where
@@ -18,28 +18,30 @@ grown at front [] = []
 grown at front (p ∷ ps) = piece at (front ++ p.bytes) ∷ ps
 
 -- whether a delimiter comes next
-abbrev pub next_marks : List ℕ → List (List ℕ) → Bool
-next_marks boundary [] = false
-next_marks boundary (l ∷ ls) = by_mark (mark_of boundary l) false true true
+abbrev pub is_delimiter_next : List ℕ → List (List ℕ) → Bool
+is_delimiter_next boundary [] = false
+is_delimiter_next boundary (l ∷ ls) = by_line_kind (line_kind boundary l) false true true
 
--- The pieces of the lines behind a delimiter, the first line at `at`. Each delimiter ends a piece, and one that doesn't
--- close begins the next; the line end before a delimiter belongs to it. What follows the close is left out. Without a
--- close the last piece ends with the lines.
+-- The pieces of the lines after a delimiter, the first line at `at`. Each delimiter ends a piece,
+-- and one that doesn't close begins the next; the line end before a delimiter belongs to it. What
+-- follows the close is left out. Without a close the last piece ends with the lines.
 abbrev pub pieces : List ℕ → ℕ → List (List ℕ) → List Piece
 pieces boundary at [] = piece at [] ∷ []
 pieces boundary at (l ∷ ls) =
-    by_mark (mark_of boundary l)
-    (grown at (if next_marks boundary ls then text l else l) (pieces boundary (at + length l) ls))
+    by_line_kind (line_kind boundary l)
+    (grown at (if is_delimiter_next boundary ls then text l else l)
+    (pieces boundary (at + length l) ls))
     (piece at [] ∷ pieces boundary (at + length l) ls)
     (piece at [] ∷ [])
 
--- The pieces of a multipart's lines, the first line at `at`. Lines before the first delimiter are left out; without a
--- delimiter there is no piece.
+-- The pieces of a multipart's lines, the first line at `at`. Lines before the first delimiter are
+-- left out; without a delimiter there is no piece.
 abbrev pub cut : List ℕ → ℕ → List (List ℕ) → List Piece
 cut boundary at [] = []
 cut boundary at (l ∷ ls) =
-    by_mark (mark_of boundary l) (cut boundary (at + length l) ls) (pieces boundary (at + length l) ls) []
+    by_line_kind (line_kind boundary l) (cut boundary (at + length l) ls)
+    (pieces boundary (at + length l) ls) []
 
--- the pieces behind a delimiter: one that opens begins them, the close or the end does not
-abbrev pub after_mark : List ℕ → Mark → ℕ → List (List ℕ) → List Piece
-after_mark boundary mark at ls = by_mark mark [] (pieces boundary at ls) []
+-- the pieces after a delimiter: one that opens begins them, the close or the end does not
+abbrev pub after_line : List ℕ → LineKind → ℕ → List (List ℕ) → List Piece
+after_line boundary kind at ls = by_line_kind kind [] (pieces boundary at ls) []

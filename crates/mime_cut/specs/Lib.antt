@@ -1,4 +1,4 @@
-pub mod Marks
+pub mod DelimiterLines
 pub mod Cut
-pub mod Stretch
-pub mod Reads
+pub mod UpToDelimiter
+pub mod HasBytesAt

@@ -1,14 +1,14 @@
 // Bodies of multiparts, with the pieces that they have.
-use crate::{Mark, next_delimiter};
+use crate::{LineKind, next_delimiter};
 use std::alloc::{AllocError, Global};
 use std::test::Fail;
 
-/// The pieces in turn, each with `|` behind it.
+/// The pieces in turn, each with `|` after it.
 fn pieces(alloc: Global, boundary: &[u8], body: &[u8]) -> Result<Vec<u8>, AllocError> {
     let mut pieces = Vec::new(alloc);
     let mut found = next_delimiter(boundary, body);
     for _ in 0..100 {
-        if found.mark != Mark::Opens {
+        if found.kind != LineKind::DelimiterLine {
             return Ok(pieces);
         }
         let next = next_delimiter(boundary, found.rest);

@@ -1,4 +1,4 @@
--- What stands at a field's places is what its lines say.
+-- What is at a field's places is what its lines say.
 use Rattle.std.proofs.Common.{◌≡◌, ℕ, zero, suc, ◌+◌, ◌-◌, ◌<◌, ◌≤◌, true, false, cond, eqb, List, [], ◌∷◌, ◌++◌, length, take, drop, map, refl, ap, sym, ◌∙◌, arith, append_assoc, length-drop}
 use Rattle.std.specs.List.{concat, onto_first}
 use Rattle.std.proofs.lemmas.List.{take-append-drop, drop_at, drop-drop, take-append-le, take_at}
@@ -39,7 +39,7 @@ concat_joined (l ∷ ls) = elim (next_goes_on ls) as (λ v. concat (cond v (onto
   | false ↦ ap (λ t. l ++ t) (concat_joined ls)
 ]
 
--- the header is a front of the lines
+-- the header is a prefix of the lines
 concat_header : (ls : List (List ℕ)) → (more : List ℕ) × (concat ls ≡ concat (header ls) ++ more)
 concat_header [] = ([], refl)
 concat_header (l ∷ ls) = elim (is_line_end l) as (λ v. (more : List ℕ) × (concat (l ∷ ls) ≡ concat (cond v [] (l ∷ header ls)) ++ more)) [

@@ -36,7 +36,7 @@ joined_first l (m ∷ ms) = elim (goes_on m) as (λ b. goes_on m ≡ b → joine
   | false ↦ λ h. rw h (ap (λ t. t ∷ joined (m ∷ ms)) (sym (append-nil l)))
 ] refl
 
--- where a line isn't empty, the header and the body go on behind its field
+-- where a line isn't empty, the header and the body continue after its field
 not_folded_empty : (l : List ℕ) → goes_on l ≡ true → is_line_end l ≡ false
 not_folded_empty [] h = refl
 not_folded_empty (b ∷ []) h = elim (cases_eq b 10) as (λ _. eqb b 10 ≡ false) [

@@ -14,7 +14,7 @@ abbrev pub body_at : ℕ → List (List ℕ) → ℕ
 body_at at [] = at
 body_at at (l ∷ ls) = if is_line_end l then at + length l else body_at (at + length l) ls
 
--- a line that goes on with the one before it begins with space or tab (RFC 5322, section 2.2.3)
+-- a line that continues the one before it begins with space or tab (RFC 5322, section 2.2.3)
 abbrev pub goes_on : List ℕ → Bool
 goes_on [] = false
 goes_on (b ∷ bs) = is_blank b
@@ -27,7 +27,7 @@ abbrev pub onto_next : List ℕ → List (List ℕ) → List (List ℕ)
 onto_next l [] = l ∷ []
 onto_next l (g ∷ gs) = (l ++ g) ∷ gs
 
--- each line joined with the lines that go on with it
+-- each line joined with the lines that continue it
 abbrev pub joined : List (List ℕ) → List (List ℕ)
 joined [] = []
 joined (l ∷ ls) = if next_goes_on ls then onto_next l (joined ls) else l ∷ joined ls
@@ -50,7 +50,8 @@ span_of at l = record { start = at; colon = at + name_len l; end = at + length (
 -- the places of those joined lines that are fields, if the first begins at `at`; others are skipped
 abbrev pub spans : ℕ → List (List ℕ) → List Field
 spans at [] = []
-spans at (l ∷ ls) = let later = spans (at + length l) ls in if is_field l then span_of at l ∷ later else later
+spans at (l ∷ ls) =
+    let later = spans (at + length l) ls in if is_field l then span_of at l ∷ later else later
 
 -- the fields of a message or of a part
 abbrev pub fields_of : List ℕ → List Field

@@ -23,6 +23,7 @@ text (b ∷ bs) = if is_line_end (b ∷ bs) then [] else b ∷ text bs
 abbrev pub is_blank : ℕ → Bool
 is_blank b = b == 32 || b == 9
 
--- a value that was folded over several lines, as one line: without its line ends (RFC 5322, section 2.2.3)
+-- a value that was folded over several lines, as one line: without its line ends (RFC 5322, section
+-- 2.2.3)
 abbrev pub unfolded : List ℕ → List ℕ
 unfolded bytes = flat_map text (lines bytes)

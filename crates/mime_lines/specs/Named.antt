@@ -1,4 +1,4 @@
--- What stands at a field's places, and the field that a name means.
+-- What is at a field's places, and the field that a name means.
 use Rattle.std.specs.Prelude.{ℕ, ◌+◌, ◌≤◌, ◌<◌, Bool, List, length, map, reverse, find, bytes_eq, Option, option_map, slice_range}
 use Rattle.std.specs.Char.{to_ascii_lowercase}
 use Rattle.mime_lines.specs.declared.field.Field.{Field}
@@ -13,7 +13,7 @@ pub record IsWithin (bytes : List ℕ) (f : Field) : Type 0 where
 abbrev pub name_in : List ℕ → Field → List ℕ
 name_in bytes f = slice_range bytes f.start f.colon
 
--- the value: what stands behind the colon, its inner line ends too
+-- the value: what follows the colon, its inner line ends too
 abbrev pub value_in : List ℕ → Field → List ℕ
 value_in bytes f = slice_range bytes (f.colon + 1) f.end
 
@@ -27,4 +27,5 @@ is_named bytes name f = bytes_eq (lowered (name_in bytes f)) (lowered name)
 
 -- the value of the last field that has this name
 abbrev pub last_value_of : List ℕ → List ℕ → List Field → Option (List ℕ)
-last_value_of bytes name fields = option_map (value_in bytes) (find (is_named bytes name) (reverse fields))
+last_value_of bytes name fields =
+    option_map (value_in bytes) (find (is_named bytes name) (reverse fields))

@@ -5,7 +5,7 @@ use Rattle.mime_lines.specs.Fields.{header, joined, name_len, is_field}
 use Rattle.mime_lines.specs.Named.{name_in, value_in}
 use Rattle.mime_lines.specs.declared.field.Field.{Field}
 
--- a name, and what stands behind its colon
+-- a name, and what follows its colon
 pub record FieldText : Type 0 where
   pub name : List ℕ
   pub value : List ℕ
@@ -23,6 +23,6 @@ texts_of (l ∷ ls) = if is_field l then text_of l ∷ texts_of ls else texts_of
 abbrev pub field_texts : List ℕ → List FieldText
 field_texts bytes = texts_of (joined (header (lines bytes)))
 
--- what stands in the bytes at a field's places
+-- what is in the bytes at a field's places
 abbrev pub read_at : List ℕ → Field → FieldText
 read_at bytes f = record { name = name_in bytes f; value = value_in bytes f }

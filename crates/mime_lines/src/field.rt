@@ -1,4 +1,4 @@
-// A field of a header: its places in the bytes, and what stands there.
+// A field of a header: its places in the bytes, and what is there.
 ghost use Rattle.std.specs.Prelude.{List, ℕ, map, ◌≡◌, ◌↔◌, All, IsTrue, MatchOption, Some, None};
 ghost use Rattle.mime_lines.specs.Fields.{fields_of};
 ghost use Rattle.mime_lines.specs.Read.{read_at, field_texts};
@@ -6,8 +6,8 @@ ghost use Rattle.mime_lines.specs.Named.{IsWithin, name_in, value_in, lowered, l
 
 use jm_base::Sequence;
 
-/// A field of a header, as places in the bytes that were read: where it begins, where its colon stands, and where it
-/// ends, its last line end left out. All count bytes from 0.
+/// A field of a header, as places in the bytes that were read: where it begins, where its colon
+/// stands, and where it ends, its last line end left out. All count bytes from 0.
 #[derive(Clone, Copy, Debug, PartialEq, Eq)]
 pub struct Field {
     pub start: u64,
@@ -27,7 +27,7 @@ impl Field {
         &bytes[self.start as usize..self.colon as usize]
     }
 
-    /// What stands behind the colon, with the line ends within it (RFC 8621, section 4.1.2.1).
+    /// What follows the colon, with the line ends within it (RFC 8621, section 4.1.2.1).
     pub fn value<'a>(&self, bytes: &'a [u8]) -> &'a [u8]
         requires { IsWithin bytes.now self.now }
         ensures { result.now ≡ value_in bytes.now self.now }
@@ -47,7 +47,8 @@ impl Field {
 /// The value of the last field that has this name, in either case.
 pub fn last_value<'a>(bytes: &'a [u8], fields: &FieldSpans, name: &[u8]) -> Option<&'a [u8]>
     requires { All (IsWithin bytes.now) fields.now }
-    ensures { MatchOption result (last_value_of bytes.now name.now fields.now ≡ None) (λ v. last_value_of bytes.now name.now fields.now ≡ Some v.now) }
+    ensures { MatchOption result (last_value_of bytes.now name.now fields.now ≡ None)
+        (λ v. last_value_of bytes.now name.now fields.now ≡ Some v.now) }
 {
     let fields = fields.as_slice();
     let mut left = fields.len();
@@ -60,7 +61,8 @@ pub fn last_value<'a>(bytes: &'a [u8], fields: &FieldSpans, name: &[u8]) -> Opti
     None
 }
 
-/// What stands at the places of a header's fields is the name and the value that its lines give, for all bytes.
+/// What is at the places of a header's fields is the name and the value that its lines give, for
+/// all bytes.
 pub fn fields_stand()
     ensures { (bytes : List ℕ) → map (read_at bytes) (fields_of bytes) ≡ field_texts bytes }
 {}

@@ -8,7 +8,8 @@ use crate::scan::{colon_of, is_line_end, split_field, split_line, text_len};
 use jm_base::{NoMemory, Sequence};
 use std::alloc::Global;
 
-/// The fields of a header, and where the body begins: behind the first empty line, or at the end where there is none.
+/// The fields of a header, and where the body begins: after the first empty line, or at the end
+/// where there is none.
 #[derive(Drop)]
 pub struct Head {
     pub fields: FieldSpans,
@@ -30,8 +31,9 @@ fn push_field(fields: &mut FieldSpans, at: usize, lines: &[u8]) -> Result<(), No
     Ok(())
 }
 
-/// Finds the fields of the header at the front of a message or a part, and its body (RFC 5322, section 2.2). A line
-/// that begins no field is skipped, with the lines that go on with it. Total for all bytes, in time linear in the header.
+/// Finds the fields of the header at the start of a message or a part, and its body (RFC 5322,
+/// section 2.2). A line that begins no field is skipped, with the lines that continue it. Total for
+/// all bytes, in time linear in the header.
 pub fn fields(alloc: Global, bytes: &[u8]) -> Result<Head, NoMemory>
     ensures fields { IfOk result (λ head. head.fields ≡ fields_of bytes.now) }
     ensures within { IfOk result (λ head. All (IsWithin bytes.now) head.fields) }

@@ -1,4 +1,5 @@
-// Lines and fields at the front of a slice. Each call takes and gives slices, so that places are added up in one function alone.
+// Lines and fields at the start of a slice. Each call takes and gives slices, so that places are
+// added up in one function alone.
 ghost use Rattle.std.specs.Prelude.{◌≡◌, ◌≤◌, ◌<◌, ◌+◌, ◌∷◌, ◌++◌, length, take, drop, get_or, cond, None, Some, IfSome};
 ghost use Rattle.mime_lines.specs.Lines.{lines, text};
 ghost use Rattle.mime_lines.specs.Fields.{is_field, name_len, goes_on, is_name_byte};
@@ -55,7 +56,7 @@ fn is_folded(line: &[u8]) -> bool
     }
 }
 
-/// The length of the lines at the front that go on with the one before them.
+/// The length of the lines at the start that continue the one before them.
 fn folded_len(rest: &[u8]) -> usize
     ensures within { result ≤ length rest.now }
     ensures front { followers (lines rest.now) ≡ take result rest.now }
@@ -74,7 +75,7 @@ fn folded_len(rest: &[u8]) -> usize
     len
 }
 
-/// The first line with the lines that go on with it, and what stands after them.
+/// The first line with the lines that continue it, and what stands after them.
 pub fn split_field<'a>(rest: &'a [u8], line: &[u8], after: &[u8]) -> (&'a [u8], &'a [u8])
     requires { rest.now ≡ line.now ++ after.now }
     ensures whole { rest.now ≡ result.0.now ++ result.1.now }
@@ -84,14 +85,14 @@ pub fn split_field<'a>(rest: &'a [u8], line: &[u8], after: &[u8]) -> (&'a [u8], 
     rest.split_at(line.len() + folded_len(after))
 }
 
-/// Whether a byte may stand in the name of a field.
+/// Whether a byte may be in the name of a field.
 fn is_in_name(byte: u8) -> bool
     ensures { result ≡ is_name_byte byte }
 {
     33 <= byte && byte <= 126 && byte != b':'
 }
 
-/// How many bytes of a field's name stand at the front.
+/// How many bytes of a field's name are at the start.
 fn name_length(line: &[u8]) -> usize
     ensures within { result ≤ length line.now }
     ensures value { result ≡ name_len line.now }

@@ -28,10 +28,10 @@ fn shapes_of_headers(rt: HostRuntime) -> Result<(), Fail> {
         (b"A: b\r\n\r\nx", &[0, 1, 4, 8]),
         (b"A: b\n\nC:d", &[0, 1, 4, 6]),
         (b"A:1\r\r\nB", &[0, 1, 4, 7]),
-        // Lines that begin with space or tab go on with the one before them, blank ones too.
+        // Lines that begin with space or tab continue the one before them, blank ones too.
         (b"A: b\n c\nB:\n\nx", &[0, 1, 7, 8, 9, 10, 12]),
         (b"A:1\n \n\tx\n\nx", &[0, 1, 8, 10]),
-        // A line that is no field is skipped with those that go on with it.
+        // A line that is no field is skipped with those that continue it.
         (b"skip\n on: 1\nA:1\n", &[12, 13, 15, 16]),
         (b" A:1\nB:2\r\n", &[5, 6, 8, 10]),
         (b":x\nA b:y\n\x80:z\n", &[13]),

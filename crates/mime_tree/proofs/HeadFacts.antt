@@ -6,7 +6,7 @@ use Rattle.mime_lines.specs.Fields.{body_of}
 use Rattle.mime_cut.specs.Cut.{Piece, piece}
 use Rattle.mime_type.specs.Node.{Node}
 use Rattle.mime_type.specs.declared.part.Part.{Part}
-use Rattle.mime_type.specs.Forest.{none}
+use Rattle.mime_type.specs.PartTrees.{none}
 use Rattle.mime_type.specs.Joined.{tree_of, joined}
 use Rattle.mime_type.specs.Head.{head_at}
 use Rattle.mime_tree.specs.Tree.{closed, node_at}

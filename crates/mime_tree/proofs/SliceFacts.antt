@@ -18,7 +18,7 @@ take-slice xs a e n h =
     let count : n ≡ a + n - a = omega arith in
     take_within n (e - a) (drop a xs) (omega arith) ∙ ap (λ k. take k (drop a xs)) count
 
--- what stands behind its front
+-- what follows its front
 pub drop-slice : (xs : List ℕ) (a e n : ℕ) → a + n ≤ e → drop n (slice_range xs a e) ≡ slice_range xs (a + n) e
 drop-slice xs a e n h =
     let count : e - a ≡ n + (e - (a + n)) = omega arith in

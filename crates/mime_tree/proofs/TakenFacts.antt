@@ -1,26 +1,26 @@
 -- What a budget takes of a tree, part by part.
 use Rattle.std.proofs.Common.{◌≡◌, ℕ, zero, suc, ◌+◌, ◌-◌, ◌<◌, Bool, false, List, [], ◌∷◌, ◌++◌, drop, refl, ap, sym, ◌∙◌, arith, Some, None}
 use Rattle.mime_lines.specs.Fields.{body_of}
-use Rattle.mime_cut.specs.declared.mark.Mark.{Mark}
-use Rattle.mime_cut.specs.declared.mark.Mark.TheVariants.{Plain, Opens, Closes}
-use Rattle.mime_cut.specs.Cut.{Piece, piece, after_mark}
+use Rattle.mime_cut.specs.declared.line_kind.LineKind.{LineKind}
+use Rattle.mime_cut.specs.declared.line_kind.LineKind.TheVariants.{Other, DelimiterLine, CloseDelimiter}
+use Rattle.mime_cut.specs.Cut.{Piece, piece, after_line}
 use Rattle.mime_type.specs.Node.{Node}
-use Rattle.mime_type.specs.Forest.{Forest, none, part}
+use Rattle.mime_type.specs.PartTrees.{PartTrees, none, part}
 use Rattle.mime_type.specs.Joined.{node_of, tree_of, joined}
 use Rattle.mime_type.specs.declared.part.Part.{Part}
-use Rattle.mime_tree.specs.Tree.{is_digest, node_at, within, grow}
+use Rattle.mime_tree.specs.Tree.{is_digest, node_at, within, part_tree}
 use Rattle.mime_tree.specs.Kept.{kept, numbered, number_of, next_number, parts_of}
 use Rattle.mime_tree.specs.Counted.{Taken, taken, with_number}
 
-abbrev pub took : Forest → ℕ → ℕ → Taken
+abbrev pub took : PartTrees → ℕ → ℕ → Taken
 took parts left number = record { parts = parts; left = left; number = number }
 
-pub taken_zero : (f : Forest) (m : ℕ) → taken f 0 m ≡ took none 0 m
+pub taken_zero : (f : PartTrees) (m : ℕ) → taken f 0 m ≡ took none 0 m
 taken_zero none m = refl
 taken_zero (part x a b) m = refl
 
 -- kept and numbered in one walk
-taken_is : (f : Forest) (n m : ℕ) → taken f n m ≡ took (numbered (kept f n).parts m).parts (kept f n).count (numbered (kept f n).parts m).count
+taken_is : (f : PartTrees) (n m : ℕ) → taken f n m ≡ took (numbered (kept f n).parts m).parts (kept f n).count (numbered (kept f n).parts m).count
 taken_is none n m = refl
 taken_is (part x a b) zero m = refl
 taken_is (part x a b) (suc n) m =
@@ -29,21 +29,21 @@ taken_is (part x a b) (suc n) m =
     ap (λ r. took (part (with_number x m) r.parts (taken b r.left r.number).parts) (taken b r.left r.number).left (taken b r.left r.number).number) (taken_is a n (next_number x m))
     ∙ ap (λ r. took (part (with_number x m) l.parts r.parts) r.left r.number) (taken_is b k.count l.count)
 
--- what stands in a part
-abbrev pub inner_of : ℕ → Bool → Piece → Forest
+-- what is in a part
+abbrev pub inner_of : ℕ → Bool → Piece → PartTrees
 inner_of zero digest p = none
 inner_of (suc levels) digest p =
     let node = node_at (suc levels) digest p in
-    within (grow levels (is_digest node)) node.boundary node.body (drop (body_of p.bytes) p.bytes)
+    within (part_tree levels (is_digest node)) node.boundary node.body (drop (body_of p.bytes) p.bytes)
 
-grow_is : (levels : ℕ) (digest : Bool) (p : Piece) (later : Forest) → grow levels digest p later ≡ part (node_at levels digest p) (inner_of levels digest p) later
+grow_is : (levels : ℕ) (digest : Bool) (p : Piece) (later : PartTrees) → part_tree levels digest p later ≡ part (node_at levels digest p) (inner_of levels digest p) later
 grow_is zero digest p later = refl
 grow_is (suc levels) digest p later = refl
 
 -- a part alone
-pub part_alone : (levels : ℕ) (digest : Bool) (p : Piece) (n m k j : ℕ) (node : Node) (inner : Forest) → 0 < n → node ≡ node_at levels digest p
+pub part_alone : (levels : ℕ) (digest : Bool) (p : Piece) (n m k j : ℕ) (node : Node) (inner : PartTrees) → 0 < n → node ≡ node_at levels digest p
     → taken (inner_of levels digest p) (n - 1) (next_number node m) ≡ took inner k j
-    → taken (grow levels digest p none) n m ≡ took (part (with_number node m) inner none) k j
+    → taken (part_tree levels digest p none) n m ≡ took (part (with_number node m) inner none) k j
 part_alone levels digest p zero m k j node inner h e f = absurd (omega arith)
 part_alone levels digest p (suc n) m k j node inner h e f =
     let x = node_at levels digest p in
@@ -58,11 +58,11 @@ inner_none : (levels : ℕ) (digest : Bool) (p : Piece) → (node_at levels dige
 inner_none zero digest p h = refl
 inner_none (suc levels) digest p h =
     let node = node_at (suc levels) digest p in
-    ap (λ o. within (grow levels (is_digest node)) o node.body (drop (body_of p.bytes) p.bytes)) h
+    ap (λ o. within (part_tree levels (is_digest node)) o node.body (drop (body_of p.bytes) p.bytes)) h
 
 -- a leaf alone
 pub leaf_alone : (levels : ℕ) (digest : Bool) (p : Piece) (n m : ℕ) (node : Node) → 0 < n → node ≡ node_at levels digest p → node.boundary ≡ None
-    → taken (grow levels digest p none) n m ≡ took (part (record node { number = Some m }) none none) (n - 1) (m + 1)
+    → taken (part_tree levels digest p none) n m ≡ took (part (record node { number = Some m }) none none) (n - 1) (m + 1)
 leaf_alone levels digest p n m node h e b =
     let empty : inner_of levels digest p ≡ none = inner_none levels digest p (ap (λ x. x.boundary) (sym e) ∙ b) in
     let next : next_number node m ≡ m + 1 = rw b refl in
@@ -71,9 +71,9 @@ leaf_alone levels digest p n m node h e b =
     ∙ ap (λ v. took (part (record node { number = v }) none none) (n - 1) (m + 1)) number
 
 -- a part before later ones
-pub part_first : (levels : ℕ) (digest : Bool) (p : Piece) (later : Forest) (n m k j : ℕ) (node : Node) (inner : Forest) → 0 < n
-    → taken (grow levels digest p none) n m ≡ took (part node inner none) k j
-    → taken (grow levels digest p later) n m ≡ took (part node inner (taken later k j).parts) (taken later k j).left (taken later k j).number
+pub part_first : (levels : ℕ) (digest : Bool) (p : Piece) (later : PartTrees) (n m k j : ℕ) (node : Node) (inner : PartTrees) → 0 < n
+    → taken (part_tree levels digest p none) n m ≡ took (part node inner none) k j
+    → taken (part_tree levels digest p later) n m ≡ took (part node inner (taken later k j).parts) (taken later k j).left (taken later k j).number
 part_first levels digest p later zero m k j node inner h e = absurd (omega arith)
 part_first levels digest p later (suc n) m k j node inner h e =
     let x = with_number (node_at levels digest p) m in
@@ -90,22 +90,22 @@ part_first levels digest p later (suc n) m k j node inner h e =
     ∙ ap (λ i. took (part node inner (taken later i r.number).parts) (taken later i r.number).left (taken later i r.number).number) left_is
     ∙ ap (λ i. took (part node inner (taken later k i).parts) (taken later k i).left (taken later k i).number) number_is
 
--- what stands in a multipart
+-- what is in a multipart
 pub inner_more : (levels : ℕ) (digest : Bool) (p : Piece) (node : Node) (body : List ℕ) → 0 < levels → node ≡ node_at levels digest p
     → drop (body_of p.bytes) p.bytes ≡ body
-    → inner_of levels digest p ≡ within (grow (levels - 1) (is_digest node)) node.boundary node.body body
+    → inner_of levels digest p ≡ within (part_tree (levels - 1) (is_digest node)) node.boundary node.body body
 inner_more zero digest p node body h e f = absurd (omega arith)
 inner_more (suc levels) digest p node body h e f =
     let less : levels ≡ suc levels - 1 = omega arith in
-    ap (λ y. within (grow levels (is_digest y)) y.boundary y.body (drop (body_of p.bytes) p.bytes)) (sym e)
-    ∙ ap (within (grow levels (is_digest node)) node.boundary node.body) f
-    ∙ ap (λ i. within (grow i (is_digest node)) node.boundary node.body body) less
+    ap (λ y. within (part_tree levels (is_digest y)) y.boundary y.body (drop (body_of p.bytes) p.bytes)) (sym e)
+    ∙ ap (within (part_tree levels (is_digest node)) node.boundary node.body) f
+    ∙ ap (λ i. within (part_tree i (is_digest node)) node.boundary node.body body) less
 
 -- parts before what was taken
 abbrev pub onto : List Part → Taken → Taken
 onto items r = took (joined items r.parts) r.left r.number
 
-joined_push : (ps : List Part) (p : Part) (later : Forest) → joined (ps ++ p ∷ []) later ≡ joined ps (tree_of p later)
+joined_push : (ps : List Part) (p : Part) (later : PartTrees) → joined (ps ++ p ∷ []) later ≡ joined ps (tree_of p later)
 joined_push [] p later = refl
 joined_push (q ∷ qs) p later = ap (part (node_of q) q.parts) (joined_push qs p later)
 
@@ -114,17 +114,17 @@ pub onto_push : (items : List Part) (p : Part) (r s : Taken) → s ≡ took (tre
 onto_push items p r s e = ap (λ f. took f r.left r.number) (joined_push items p r.parts) ∙ ap (onto items) (sym e)
 
 -- nothing more is taken
-pub finished : (items : List Part) (r all : Taken) (out : Forest) (left number : ℕ) → onto items r ≡ all → r ≡ took none left number → out ≡ joined items none
+pub finished : (items : List Part) (r all : Taken) (out : PartTrees) (left number : ℕ) → onto items r ≡ all → r ≡ took none left number → out ≡ joined items none
     → all ≡ took out left number
 finished items r all out left number e h o = sym e ∙ ap (onto items) h ∙ ap (λ f. took f left number) (sym o)
 
-pub after_none : (b : List ℕ) (mark : Mark) (at : ℕ) (ls : List (List ℕ)) → ¬ (mark ≡ Opens) → after_mark b mark at ls ≡ []
-after_none b Plain at ls h = refl
-after_none b Opens at ls h = absurd (h refl)
-after_none b Closes at ls h = refl
+pub after_none : (b : List ℕ) (kind : LineKind) (at : ℕ) (ls : List (List ℕ)) → ¬ (kind ≡ DelimiterLine) → after_line b kind at ls ≡ []
+after_none b Other at ls h = refl
+after_none b DelimiterLine at ls h = absurd (h refl)
+after_none b CloseDelimiter at ls h = refl
 
 -- the whole tree
-pub parts_is : (bytes all : List ℕ) (tree : Forest) (left number : ℕ) → all ≡ bytes → taken (grow 32 false (piece 0 all) none) 1000 1 ≡ took tree left number → tree ≡ parts_of bytes
+pub parts_is : (bytes all : List ℕ) (tree : PartTrees) (left number : ℕ) → all ≡ bytes → taken (part_tree 32 false (piece 0 all) none) 1000 1 ≡ took tree left number → tree ≡ parts_of bytes
 parts_is bytes all tree left number e h =
-    let f = grow 32 false (piece 0 all) none in
-    ap (λ (q : Taken). q.parts) (sym h ∙ taken_is f 1000 1) ∙ ap (λ bs. (numbered (kept (grow 32 false (piece 0 bs) none) 1000).parts 1).parts) e
+    let f = part_tree 32 false (piece 0 all) none in
+    ap (λ (q : Taken). q.parts) (sym h ∙ taken_is f 1000 1) ∙ ap (λ bs. (numbered (kept (part_tree 32 false (piece 0 bs) none) 1000).parts 1).parts) e

@@ -3,7 +3,7 @@ use Rattle.std.proofs.Common.{◌≡◌, ℕ, zero, suc, ◌+◌, ◌-◌, Bool,
 use Rattle.std.specs.Prelude.{is_some, filter, if◌then◌else◌}
 use Rattle.std.specs.List.{filter_map, cons_option}
 use Rattle.mime_type.specs.Node.{Node}
-use Rattle.mime_type.specs.Forest.{Forest, none, part}
+use Rattle.mime_type.specs.PartTrees.{PartTrees, none, part}
 use Rattle.mime_tree.specs.Kept.{walked, kept, numbered, number_of, next_number}
 use Rattle.mime_tree.specs.Numbers.{is_leaf, leaf_count, numbers_in, counted_from}
 
@@ -20,13 +20,13 @@ take_both n [] ys = let e : n - 0 ≡ n = omega arith in rw e (sym (nil_before n
 take_both zero (x ∷ xs) ys = let e : 0 - suc (length xs) ≡ 0 = omega arith in rw e refl
 take_both (suc n) (x ∷ xs) ys = let e : suc n - suc (length xs) ≡ n - length xs = omega arith in rw e (ap (λ t. x ∷ t) (take_both n xs ys))
 
-kept_left : (f : Forest) (n : ℕ) → (kept f n).count ≡ n - length (walked f)
+kept_left : (f : PartTrees) (n : ℕ) → (kept f n).count ≡ n - length (walked f)
 kept_left none n = omega arith
 kept_left (part x a b) zero = omega arith
 kept_left (part x a b) (suc n) = omega (arith, kept_left a n, kept_left b (kept a n).count, length-append (walked a) (walked b))
 
 -- the first parts in walk order are kept
-pub walked-kept : (f : Forest) (n : ℕ) → walked (kept f n).parts ≡ take n (walked f)
+pub walked-kept : (f : PartTrees) (n : ℕ) → walked (kept f n).parts ≡ take n (walked f)
 walked-kept none n = sym (take_none n)
 walked-kept (part x a b) zero = refl
 walked-kept (part x a b) (suc n) = ap (λ t. x ∷ t) (
@@ -65,7 +65,7 @@ ones x = if is_some x.boundary then 0 else 1
 next_ones : (x : Node) (n : ℕ) → next_number x n ≡ n + ones x
 next_ones x n = elim (is_some x.boundary) as (λ v. cond v n (n + 1) ≡ n + cond v 0 1) [ true ↦ omega arith | false ↦ refl ]
 
-leaf_count_part : (x : Node) (a b : Forest) → leaf_count (part x a b) ≡ ones x + (leaf_count a + leaf_count b)
+leaf_count_part : (x : Node) (a b : PartTrees) → leaf_count (part x a b) ≡ ones x + (leaf_count a + leaf_count b)
 leaf_count_part x a b =
     let inner = filter is_leaf (walked a ++ walked b) in
     let both : length inner ≡ leaf_count a + leaf_count b = filter_both is_leaf (walked a) (walked b) in
@@ -74,7 +74,7 @@ leaf_count_part x a b =
       | false ↦ omega arith
     ]
 
-next_after : (f : Forest) (n : ℕ) → (numbered f n).count ≡ n + leaf_count f
+next_after : (f : PartTrees) (n : ℕ) → (numbered f n).count ≡ n + leaf_count f
 next_after none n = omega arith
 next_after (part x a b) n =
     let inner = numbered a (next_number x n) in
@@ -90,7 +90,7 @@ onto_counted x n k =
     ]
 
 -- leaves are numbered one after the other
-pub numbers-numbered : (f : Forest) (n : ℕ) → numbers_in (numbered f n).parts ≡ counted_from n (leaf_count f)
+pub numbers-numbered : (f : PartTrees) (n : ℕ) → numbers_in (numbered f n).parts ≡ counted_from n (leaf_count f)
 numbers-numbered none n = refl
 numbers-numbered (part x a b) n =
     let first = next_number x n in

@@ -1,19 +1,19 @@
 -- Parts kept and numbered in one walk.
 use Rattle.std.specs.Prelude.{ℕ, zero, suc}
 use Rattle.mime_type.specs.Node.{Node}
-use Rattle.mime_type.specs.Forest.{Forest, none, part}
+use Rattle.mime_type.specs.PartTrees.{PartTrees, none, part}
 use Rattle.mime_tree.specs.Kept.{number_of, next_number}
 
 -- some parts, how many more may follow, and the number of the next leaf
 pub record Taken : Type 0 where
-  pub parts : Forest
+  pub parts : PartTrees
   pub left : ℕ
   pub number : ℕ
 
 abbrev pub with_number : Node → ℕ → Node
 with_number x n = record x { number = number_of x n }
 
-abbrev pub taken : Forest → ℕ → ℕ → Taken
+abbrev pub taken : PartTrees → ℕ → ℕ → Taken
 taken none left number = record { parts = none; left = left; number = number }
 taken (part x inner later) zero number = record { parts = none; left = 0; number = number }
 taken (part x inner later) (suc left) number =

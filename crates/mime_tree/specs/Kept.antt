@@ -2,21 +2,21 @@
 use Rattle.std.specs.Prelude.{ℕ, zero, suc, ◌+◌, false, List, [], ◌∷◌, ◌++◌, Option, None, Some, is_some, if◌then◌else◌}
 use Rattle.mime_cut.specs.Cut.{piece}
 use Rattle.mime_type.specs.Node.{Node}
-use Rattle.mime_type.specs.Forest.{Forest, none, part}
-use Rattle.mime_tree.specs.Tree.{grow}
+use Rattle.mime_type.specs.PartTrees.{PartTrees, none, part}
+use Rattle.mime_tree.specs.Tree.{part_tree}
 
--- some parts, and a count that goes on behind them
+-- some parts, and a count that continues after them
 pub record Counted : Type 0 where
-  pub parts : Forest
+  pub parts : PartTrees
   pub count : ℕ
 
 -- the parts in walk order: one before those within it
-abbrev pub walked : Forest → List Node
+abbrev pub walked : PartTrees → List Node
 walked none = []
 walked (part x inner later) = x ∷ (walked inner ++ walked later)
 
 -- the first n parts in walk order; the count says how many more there might have been
-abbrev pub kept : Forest → ℕ → Counted
+abbrev pub kept : PartTrees → ℕ → Counted
 kept none n = record { parts = none; count = n }
 kept (part x inner later) zero = record { parts = none; count = 0 }
 kept (part x inner later) (suc n) =
@@ -32,14 +32,14 @@ abbrev pub next_number : Node → ℕ → ℕ
 next_number x n = if is_some x.boundary then n else n + 1
 
 -- the leaves numbered in walk order, from n on; the count is the number that comes next
-abbrev pub numbered : Forest → ℕ → Counted
+abbrev pub numbered : PartTrees → ℕ → Counted
 numbered none n = record { parts = none; count = n }
 numbered (part x inner later) n =
     let a = numbered inner (next_number x n) in
     let b = numbered later a.count in
     record { parts = part (record x { number = number_of x n }) a.parts b.parts; count = b.count }
 
--- The parts of a message: 32 levels of multiparts are entered, the first 1,000 parts in walk order are kept, the message
--- itself counted, and the leaves among them are numbered from 1.
-abbrev pub parts_of : List ℕ → Forest
-parts_of bytes = (numbered (kept (grow 32 false (piece 0 bytes) none) 1000).parts 1).parts
+-- The parts of a message: 32 levels of multiparts are entered, the first 1,000 parts in walk order
+-- are kept, the message itself counted, and the leaves among them are numbered from 1.
+abbrev pub parts_of : List ℕ → PartTrees
+parts_of bytes = (numbered (kept (part_tree 32 false (piece 0 bytes) none) 1000).parts 1).parts

@@ -2,7 +2,7 @@
 use Rattle.std.specs.Prelude.{ℕ, zero, suc, ◌+◌, Bool, not, List, [], ◌∷◌, length, filter, is_some}
 use Rattle.std.specs.List.{filter_map}
 use Rattle.mime_type.specs.Node.{Node}
-use Rattle.mime_type.specs.Forest.{Forest}
+use Rattle.mime_type.specs.PartTrees.{PartTrees}
 use Rattle.mime_tree.specs.Kept.{walked}
 
 -- a leaf is a part that isn't a multipart
@@ -10,11 +10,11 @@ abbrev pub is_leaf : Node → Bool
 is_leaf x = not (is_some x.boundary)
 
 -- how many leaves there are
-abbrev pub leaf_count : Forest → ℕ
+abbrev pub leaf_count : PartTrees → ℕ
 leaf_count f = length (filter is_leaf (walked f))
 
 -- the numbers that parts have, in walk order
-abbrev pub numbers_in : Forest → List ℕ
+abbrev pub numbers_in : PartTrees → List ℕ
 numbers_in f = filter_map (λ (x : Node). x.number) (walked f)
 
 -- k numbers from n on

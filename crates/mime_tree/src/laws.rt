@@ -1,15 +1,17 @@
 // What the definitions of the limit and of the numbers come to, for every tree.
 ghost use Rattle.std.specs.Prelude.{◌≡◌, ℕ, take};
-ghost use Rattle.mime_type.specs.Forest.{Forest};
+ghost use Rattle.mime_type.specs.PartTrees.{PartTrees};
 ghost use Rattle.mime_tree.specs.Kept.{walked, kept, numbered};
 ghost use Rattle.mime_tree.specs.Numbers.{leaf_count, numbers_in, counted_from};
 
 /// The parts that are kept are the first in walk order, a part before those within it.
 pub fn first_parts_are_kept()
-    ensures { (f : Forest) → (n : ℕ) → walked (kept f n).parts ≡ take n (walked f) }
+    ensures { (f : PartTrees) → (n : ℕ) → walked (kept f n).parts ≡ take n (walked f) }
 {}
 
-/// The leaves have the numbers from n on, one after the other in walk order, and no other part has a number.
+/// The leaves have the numbers from n on, one after the other in walk order, and no other part has
+/// a number.
 pub fn leaves_are_numbered_in_order()
-    ensures { (f : Forest) → (n : ℕ) → numbers_in (numbered f n).parts ≡ counted_from n (leaf_count f) }
+    ensures { (f : PartTrees) → (n : ℕ) → numbers_in (numbered f n).parts
+        ≡ counted_from n (leaf_count f) }
 {}

@@ -1,12 +1,12 @@
 //! The parts of a message as a tree (RFC 2046, section 5.1).
 #![tactic(auto)]
 
-mod grow;
 mod laws;
 mod part;
+mod walk;
 
-pub use grow::parts;
 pub use laws::{first_parts_are_kept, leaves_are_numbered_in_order};
+pub use walk::parts;
 
 #[cfg(test)]
 mod tests;

@@ -1,7 +1,7 @@
 // One part by its head, where so many more levels of multiparts may be entered.
 ghost use Rattle.std.specs.Prelude.{◌≡◌, ◌≤◌, length, slice_range, IfOk};
 ghost use Rattle.mime_cut.specs.Cut.{piece};
-ghost use Rattle.mime_type.specs.Forest.{none};
+ghost use Rattle.mime_type.specs.PartTrees.{none};
 ghost use Rattle.mime_type.specs.Joined.{node_of};
 ghost use Rattle.mime_tree.specs.Tree.{closed, node_at};
 
@@ -23,7 +23,8 @@ fn close(alloc: Global, part: Part) -> Result<Part, NoMemory>
     Ok(part)
 }
 
-/// Reads the head of the part between these places. Where no more levels may be entered, it is a leaf.
+/// HasBytesAt the head of the part between these places. Where no more levels may be entered, it is
+/// a leaf.
 pub fn read_part(
     alloc: Global,
     message: &[u8],
@@ -34,7 +35,8 @@ pub fn read_part(
 ) -> Result<Part, NoMemory>
     requires ordered { start ≤ end }
     requires inside { end ≤ length message.now }
-    ensures node { IfOk result (λ p. node_of p ≡ node_at levels digest (piece start (slice_range message.now start end))) }
+    ensures node { IfOk result (λ p. node_of p
+        ≡ node_at levels digest (piece start (slice_range message.now start end))) }
     ensures parts { IfOk result (λ p. p.parts ≡ none) }
 {
     let part = part_head(alloc, message, start, end, digest)?;

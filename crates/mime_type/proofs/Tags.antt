@@ -32,7 +32,7 @@ not_false : (b : Bool) → not b ≡ false → b ≡ true
 not_false true h = refl
 not_false false h = sym h
 
--- what stands behind a comma of a text is text
+-- what follows a comma of a text is text
 pub after_comma-utf8 : (rest : List ℕ) → IsUtf8 rest → position_or_len is_comma rest < length rest → IsUtf8 (after_first is_comma rest)
 after_comma-utf8 rest u h =
     let at = get_or rest (position_or_len is_comma rest) 0 in

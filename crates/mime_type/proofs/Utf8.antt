@@ -104,7 +104,7 @@ bind_is : {A B : Type 0} (o : Option A) (f : A → Option B) (y : B) → (o >>= 
 bind_is None f y e = absurd (none-some y e)
 bind_is (Some x) f y e = (x, refl, e)
 
--- blanks and comments: what stands behind them begins behind a blank or a parenthesis
+-- blanks and comments: what follows them begins after a blank or a parenthesis
 abbrev IsOut : State → Type 0
 IsOut Outside = Unit {0}
 IsOut (Inside depth) = ⊥

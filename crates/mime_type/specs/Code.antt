@@ -6,7 +6,7 @@ use base.Stored.{Coded, Gv, gnil, gcons}
 use Rattle.mime_codec.specs.declared.coding.Coding.{Coding}
 use Rattle.mime_codec.specs.declared.coding.Coding.TheVariants.{Plain, Quoted, Base64, Unknown}
 use Rattle.mime_type.specs.Node.{Node}
-use Rattle.mime_type.specs.Forest.{Forest, none, part}
+use Rattle.mime_type.specs.PartTrees.{PartTrees, none, part}
 
 abbrev number_of : Coding → ℕ
 number_of Plain = 0
@@ -42,19 +42,30 @@ abbrev coded_places : Coded Places
 coded_places = coded× coded_ℕ (coded× coded_ℕ (coded× coded_ℕ (coded_option coded_ℕ)))
 
 abbrev Texts' : Type 0
-Texts' = Option Bytes' × (Option Bytes' × (Option Bytes' × (Option Bytes' × (Option Bytes' × Option Bytes'))))
+Texts' = Option Bytes' × (Option Bytes' × (Option Bytes'
+    × (Option Bytes' × (Option Bytes' × Option Bytes'))))
 
 abbrev coded_text : Coded (Option Bytes')
 coded_text = coded_option coded_bytes
 
 abbrev coded_texts : Coded Texts'
-coded_texts = coded× coded_text (coded× coded_text (coded× coded_text (coded× coded_text (coded× coded_text coded_text))))
+coded_texts = coded× coded_text (coded× coded_text
+    (coded× coded_text (coded× coded_text (coded× coded_text coded_text))))
 
 abbrev Fields : Type 0
 Fields = Places × (Bytes' × (Texts' × (Option (List Bytes') × Coding)))
 
 abbrev fields_of : Node → Fields
-fields_of n = ((n.start, (n.body, (n.end, n.number))), (n.media, ((n.charset, (n.boundary, (n.disposition, (n.name, (n.cid, n.location))))), (n.language, n.coding))))
+fields_of n = (
+  (n.start, (n.body, (n.end, n.number))),
+  (
+    n.media,
+    (
+      (n.charset, (n.boundary, (n.disposition, (n.name, (n.cid, n.location))))),
+      (n.language, n.coding),
+    ),
+  ),
+)
 
 abbrev node_of : Fields → Node
 node_of f = record {
@@ -74,13 +85,16 @@ node_of f = record {
 }
 
 abbrev pub coded_node : Coded Node
-coded_node = code_by Fields (coded× coded_places (coded× coded_bytes (coded× coded_texts (coded× (coded_option (coded_list coded_bytes)) coded_coding)))) fields_of node_of (λ _. refl)
+coded_node = code_by Fields (coded× coded_places
+    (coded× coded_bytes (coded× coded_texts (coded× (coded_option (coded_list coded_bytes))
+    coded_coding)))) fields_of node_of (λ _. refl)
 
-abbrev of_forest : Forest → Gv
+abbrev of_forest : PartTrees → Gv
 of_forest none = gnil
-of_forest (part n inner later) = gcons (coded_node.code n) (gcons (of_forest inner) (of_forest later))
+of_forest (part n inner later) =
+    gcons (coded_node.code n) (gcons (of_forest inner) (of_forest later))
 
-pub same_forest : (s t : Forest) → of_forest s ≡ of_forest t → s ≡ t
+pub same_forest : (s t : PartTrees) → of_forest s ≡ of_forest t → s ≡ t
 same_forest none none e = refl
 same_forest none (part n inner later) e = cc
 same_forest (part n inner later) none e = cc
@@ -92,5 +106,5 @@ same_forest (part n inner later) (part m inside after) e =
     ∙ ap (λ f. part m f later) (same_forest inner inside one)
     ∙ ap (λ f. part m inside f) (same_forest later after two)
 
-abbrev pub forest_code : Coded Forest
+abbrev pub forest_code : Coded PartTrees
 forest_code = record { code = of_forest; inj = same_forest }

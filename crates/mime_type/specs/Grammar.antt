@@ -1,13 +1,13 @@
--- Content-Type and Content-Disposition: a name, and parameters (RFC 2045, section 5.1; RFC 2183, section 2), with
--- comments and quoted strings by RFC 822, section 3.3.
--- Each `.. at` takes what it names from the front of some text, and gives it with the text after it.
+-- Content-Type and Content-Disposition: a name, and parameters (RFC 2045, section 5.1; RFC 2183,
+-- section 2), with comments and quoted strings by RFC 822, section 3.3. Each `.. at` takes what it
+-- names from the start of some text, and gives it with the text after it.
 use Rattle.std.specs.Prelude.{ℕ, zero, suc, Bool, true, false, ◌||◌, ◌==◌, List, [], ◌∷◌, ◌++◌, length, take, drop, Option, Some, None, bytes_eq, if◌then◌else◌}
 use Rattle.std.specs.List.{prefix_len}
 use Rattle.mail_text.specs.Comments.{is_blank, after_gap}
 use Rattle.mime_lines.specs.Named.{lowered}
 use Rattle.mime_type.specs.Characters.{is_token, is_bare}
 
--- go on with what was found, if anything was
+-- continue what was found, if anything was
 infixl 10 ◌>>=◌
 abbrev pub ◌>>=◌ : {A B : Type 0} → Option A → (A → Option B) → Option B
 None >>= f = None
@@ -31,7 +31,8 @@ after_mark sign text = do
 
 -- one or more bytes of a class
 abbrev pub run_at : (ℕ → Bool) → List ℕ → Option (List ℕ × List ℕ)
-run_at class text = if prefix_len class text == 0 then None else Some (take (prefix_len class text) text, drop (prefix_len class text) text)
+run_at class text = if prefix_len class text == 0 then None
+    else Some (take (prefix_len class text) text, drop (prefix_len class text) text)
 
 abbrev pub onto_value : ℕ → Option (List ℕ × List ℕ) → Option (List ℕ × List ℕ)
 onto_value b None = None
@@ -42,11 +43,13 @@ abbrev pub with_front : List ℕ → Option (List ℕ × List ℕ) → Option (L
 with_front front None = None
 with_front front (Some x) = Some (front ++ x.0, x.1)
 
--- the rest of a quoted string, behind its first quote mark: a backslash goes, and the byte after it stays
+-- the rest of a quoted string, after its first quote mark: a backslash goes, and the byte after it
+-- stays
 abbrev pub quoted_from : Bool → List ℕ → Option (List ℕ × List ℕ)
 quoted_from quoted [] = None
 quoted_from true (b ∷ bs) = onto_value b (quoted_from false bs)
-quoted_from false (b ∷ bs) = if b == 34 then Some ([], bs) else (if b == 92 then quoted_from true bs else onto_value b (quoted_from false bs))
+quoted_from false (b ∷ bs) = if b == 34 then Some ([], bs)
+    else (if b == 92 then quoted_from true bs else onto_value b (quoted_from false bs))
 
 -- how a value may be written between quote marks
 abbrev pub quoted_text : List ℕ → List ℕ
@@ -70,8 +73,8 @@ param_at text = do
   value ← value_at rest
   Some (record { name = lowered name.0; value = value.0 }, value.1)
 
--- what stands at a place where a semicolon or the end may stand: the end, what isn't of the form, nothing before the
--- next semicolon, or a parameter
+-- what is at a place where a semicolon or the end may be: the end, what isn't of the form, nothing
+-- before the next semicolon, or a parameter
 pub data Turn : Type 0 where
   ends : Turn
   breaks : Turn
@@ -82,7 +85,7 @@ abbrev pub turn_of : Option (Pair × List ℕ) → Turn
 turn_of None = breaks
 turn_of (Some x) = gives x.0 x.1
 
--- behind a semicolon and the gap after it
+-- after a semicolon and the gap after it
 abbrev pub slot_at : Option (List ℕ) → Turn
 slot_at None = breaks
 slot_at (Some []) = ends
@@ -140,7 +143,8 @@ type_at text = do
   sub ← run_at is_token rest
   if_whole (lowered (main.0 ++ 47 ∷ sub.0)) (params_of sub.1)
 
--- Content-Disposition: the token at its beginning, with the parameters before the first place that isn't of the form
+-- Content-Disposition: the token at its beginning, with the parameters before the first place that
+-- isn't of the form
 unfoldable pub disposition_at : List ℕ → Option Kind
 disposition_at text = do
   at ← after_blanks text

@@ -1,4 +1,5 @@
--- The head of a part: what its header says of it (RFC 2045; RFC 2046, section 5.1; RFC 2183; RFC 8621, section 4.1.4).
+-- The head of a part: what its header says of it (RFC 2045; RFC 2046, section 5.1; RFC 2183; RFC
+-- 8621, section 4.1.4).
 use Rattle.std.specs.Prelude.{ℕ, ◌+◌, Bool, List, length, Option, None, option_map, codes}
 use Rattle.std.specs.Str.Lossy.{utf8_lossy}
 use Rattle.mime_lines.specs.Lines.{unfolded}
@@ -12,7 +13,8 @@ use Rattle.mail_text.specs.Texts.{trimmed}
 
 -- what the last field of a name says, on one line; bytes that are no UTF-8 become U+FFFD
 unfoldable pub field_text : List ℕ → List ℕ → Option (List ℕ)
-field_text name bytes = option_map (λ value. utf8_lossy (unfolded value)) (last_value_of bytes name (fields_of bytes))
+field_text name bytes =
+    option_map (λ value. utf8_lossy (unfolded value)) (last_value_of bytes name (fields_of bytes))
 
 -- the type and the disposition of a part with these bytes
 abbrev pub kind_in : Bool → List ℕ → Kind
@@ -21,9 +23,10 @@ kind_in digest bytes = type_of digest (field_text (codes "content-type") bytes)
 abbrev pub shown_in : List ℕ → Option Kind
 shown_in bytes = disposition_of (field_text (codes "content-disposition") bytes)
 
--- a part that begins at `start` of a message and has these bytes. `digest` says that it stands in a multipart/digest.
--- A multipart that names no boundary is application/octet-stream, so `boundary` stands for each part that is to be cut.
--- The name isn't decoded by RFC 2047, and no number is known yet.
+-- a part that begins at `start` of a message and has these bytes. `digest` says that it is in a
+-- multipart/digest. A multipart that names no boundary is application/octet-stream, so `boundary`
+-- is there for each part that is to be cut. The name isn't decoded by RFC 2047, and no number is
+-- known yet.
 unfoldable pub head_at : ℕ → List ℕ → Bool → Node
 head_at start bytes digest =
     let kind = kind_in digest bytes in

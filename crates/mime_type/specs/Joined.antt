@@ -1,7 +1,7 @@
 -- What contracts see of the parts that the code holds.
 use Rattle.std.specs.Prelude.{List, [], ◌∷◌}
 use Rattle.mime_type.specs.Node.{Node}
-use Rattle.mime_type.specs.Forest.{Forest, part}
+use Rattle.mime_type.specs.PartTrees.{PartTrees, part}
 use Rattle.mime_type.specs.declared.part.Part.{Part}
 
 -- a part without those within it
@@ -23,10 +23,10 @@ node_of p = record {
 }
 
 -- a part with those within it, before others
-abbrev pub tree_of : Part → Forest → Forest
+abbrev pub tree_of : Part → PartTrees → PartTrees
 tree_of p later = part (node_of p) p.parts later
 
 -- parts in their order, before others
-abbrev pub joined : List Part → Forest → Forest
+abbrev pub joined : List Part → PartTrees → PartTrees
 joined [] later = later
 joined (p ∷ ps) later = tree_of p (joined ps later)

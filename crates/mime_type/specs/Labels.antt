@@ -1,5 +1,6 @@
--- Content-Id, Content-Language, Content-Location and Content-Transfer-Encoding (RFC 2045, sections 6 and 7; RFC 3282,
--- section 2; RFC 2557, section 4). White space is ASCII's: space, tab, LF, CR, FF.
+-- Content-Id, Content-Language, Content-Location and Content-Transfer-Encoding (RFC 2045, sections
+-- 6 and 7; RFC 3282, section 2; RFC 2557, section 4). White space is ASCII's: space, tab, LF, CR,
+-- FF.
 use Rattle.std.specs.Prelude.{ℕ, ◌-◌, Bool, true, false, filter, map, ◌==◌, List, [], ◌∷◌, length, get_or, take, codes, bytes_eq, if◌then◌else◌}
 use Rattle.std.specs.List.{slice_split}
 use Rattle.mail_text.specs.Texts.{trimmed}
@@ -13,7 +14,8 @@ without_open [] = []
 without_open (b ∷ bs) = if b == 60 then bs else b ∷ bs
 
 abbrev pub without_close : List ℕ → List ℕ
-without_close text = if get_or text (length text - 1) 0 == 62 then take (length text - 1) text else text
+without_close text =
+    if get_or text (length text - 1) 0 == 62 then take (length text - 1) text else text
 
 -- the identifier that a Content-Id names
 abbrev pub id_in : List ℕ → List ℕ

@@ -3,7 +3,7 @@ pub mod Grammar
 pub mod Labels
 pub mod Content
 pub mod Node
-pub mod Forest
+pub mod PartTrees
 pub mod Code
 pub mod Joined
 pub mod Falls

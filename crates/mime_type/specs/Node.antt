@@ -2,8 +2,9 @@
 use Rattle.std.specs.Prelude.{ℕ, List, Option}
 use Rattle.mime_codec.specs.declared.coding.Coding.{Coding}
 
--- `start`, `body` and `end` are places in the message: where the part begins, where its body begins, where it ends.
--- `number` is that of a leaf in the message. `media` is the type and subtype.
+-- `start`, `body` and `end` are places in the message: where the part begins, where its body
+-- begins, where it ends. `number` is that of a leaf in the message. `media` is the type and
+-- subtype.
 pub record Node : Type 0 where
   pub start : ℕ
   pub body : ℕ

@@ -17,7 +17,7 @@ fn is_special(byte: u8) -> bool
         || (91 <= byte && byte <= 93)
 }
 
-/// Whether a byte may stand in a token (RFC 2045, section 5.1).
+/// Whether a byte may be in a token (RFC 2045, section 5.1).
 pub fn is_token(byte: u8) -> bool
     ensures { result ≡ Rattle.mime_type.specs.Characters.is_token byte }
 {
@@ -30,8 +30,8 @@ fn is_delimiter(byte: u8) -> bool
     byte == 34 || (40 <= byte && byte <= 41) || byte == 59 || byte == 92
 }
 
-/// Whether a byte may stand in a value without quote marks: a character from `!` to `~` that is no delimiter, or a byte of a
-/// character above U+007F.
+/// Whether a byte may be in a value without quote marks: a character from `!` to `~` that is no
+/// delimiter, or a byte of a character above U+007F.
 pub fn is_bare(byte: u8) -> bool
     ensures { result ≡ Rattle.mime_type.specs.Characters.is_bare byte }
 {

@@ -1,4 +1,5 @@
-// What a type and a disposition say of a part (RFC 2045, section 5; RFC 2046, section 5.1; RFC 2183).
+// What a type and a disposition say of a part (RFC 2045, section 5; RFC 2046, section 5.1; RFC
+// 2183).
 ghost use Rattle.std.specs.Prelude.{◌≡◌, Bool, option_map, IfOk};
 ghost use Rattle.std.specs.Option.{ForSome};
 ghost use Rattle.mime_lines.specs.Named.{lowered};
@@ -89,7 +90,8 @@ pub fn read_media(alloc: Global, kind: Kind<'_>, boundary: &Option<Text>) -> Res
 /// The filename of a disposition.
 fn read_filename(alloc: Global, shown: &Option<Kind<'_>>) -> Result<Option<Text>, NoMemory>
     requires { ForSome shown.now (λ k. IsText (kind_of k)) }
-    ensures { IfOk result (λ n. n ≡ Rattle.mime_type.specs.Content.filename_of (option_map kind_of shown.now)) }
+    ensures { IfOk result (λ n. n ≡ Rattle.mime_type.specs.Content.filename_of
+        (option_map kind_of shown.now)) }
 {
     match shown {
         Some(kind) => first_text(alloc, kind.params, b"filename"),
@@ -105,7 +107,8 @@ pub fn read_name(
 ) -> Result<Option<Text>, NoMemory>
     requires shown { ForSome shown.now (λ k. IsText (kind_of k)) }
     requires kind { IsText (kind_of kind.now) }
-    ensures { IfOk result (λ n. n ≡ Rattle.mime_type.specs.Content.name_of (option_map kind_of shown.now) (kind_of kind.now)) }
+    ensures { IfOk result (λ n. n ≡ Rattle.mime_type.specs.Content.name_of
+        (option_map kind_of shown.now) (kind_of kind.now)) }
 {
     match read_filename(alloc, shown)? {
         Some(name) => Ok(Some(name)),

@@ -3,7 +3,7 @@ ghost use Rattle.std.specs.Prelude.{◌≡◌, ◌≤◌, All, IfOk, length, opt
 ghost use Rattle.mime_lines.specs.Fields.{fields_of};
 ghost use Rattle.mime_lines.specs.Named.{IsWithin};
 ghost use Rattle.mime_type.specs.Content.{charset_of, boundary_of, media_of, name_of, coding_of};
-ghost use Rattle.mime_type.specs.Forest.{none};
+ghost use Rattle.mime_type.specs.PartTrees.{none};
 ghost use Rattle.mime_type.specs.Head;
 ghost use Rattle.mime_type.specs.Head.{head_at, kind_in, shown_in};
 ghost use Rattle.mime_type.specs.Joined.{node_of};
@@ -60,8 +60,10 @@ fn read_content(
     ensures media { IfOk result (λ c. c.media ≡ media_of (kind_in digest bytes.now)) }
     ensures charset { IfOk result (λ c. c.charset ≡ charset_of (kind_in digest bytes.now)) }
     ensures boundary { IfOk result (λ c. c.boundary ≡ boundary_of (kind_in digest bytes.now)) }
-    ensures disposition { IfOk result (λ c. c.disposition ≡ option_map (λ d. d.kind) (shown_in bytes.now)) }
-    ensures name { IfOk result (λ c. c.name ≡ name_of (shown_in bytes.now) (kind_in digest bytes.now)) }
+    ensures disposition { IfOk result (λ c. c.disposition
+        ≡ option_map (λ d. d.kind) (shown_in bytes.now)) }
+    ensures name { IfOk result (λ c. c.name ≡ name_of (shown_in bytes.now)
+        (kind_in digest bytes.now)) }
 {
     let kind_text = field_text(alloc, bytes, fields, b"content-type")?;
     let shown_text = field_text(alloc, bytes, fields, b"content-disposition")?;
@@ -107,9 +109,9 @@ fn read_labels(alloc: Global, bytes: &[u8], fields: &FieldSpans) -> Result<Label
     })
 }
 
-/// The head of the part that these places of a message hold: what its header says of it, with no parts within it and
-/// no number yet. `digest` says that it stands in a multipart/digest, where a part without a Content-Type is a message
-/// (RFC 2046, section 5.1.5). Total for all bytes.
+/// The head of the part that these places of a message hold: what its header says of it, with no
+/// parts within it and no number yet. `digest` says that it is in a multipart/digest, where a part
+/// without a Content-Type is a message (RFC 2046, section 5.1.5). Total for all bytes.
 pub fn part_head(
     alloc: Global,
     bytes: &[u8],
@@ -119,7 +121,8 @@ pub fn part_head(
 ) -> Result<Part, NoMemory>
     requires ordered { start ≤ end }
     requires within { end ≤ length bytes.now }
-    ensures node { IfOk result (λ p. node_of p ≡ head_at start (slice_range bytes.now start end) digest) }
+    ensures node { IfOk result (λ p. node_of p
+        ≡ head_at start (slice_range bytes.now start end) digest) }
     ensures parts { IfOk result (λ p. p.parts ≡ none) }
 {
     let piece = &bytes[start as usize..end as usize];

@@ -1,4 +1,5 @@
-// Content-Type and Content-Disposition as a name with parameters (RFC 2045, section 5.1; RFC 2183, section 2).
+// Content-Type and Content-Disposition as a name with parameters (RFC 2045, section 5.1; RFC 2183,
+// section 2).
 ghost use Rattle.std.specs.Prelude.{◌≡◌, ◌++◌, ◌∷◌, option_map, IfOk, IfSome, List, ℕ, Some};
 ghost use Rattle.mime_lines.specs.Named.{lowered};
 ghost use Rattle.mime_type.specs.Grammar;
@@ -34,7 +35,8 @@ fn join_type(alloc: Global, main: &[u8], sub: &[u8]) -> Result<Vec<u8>, NoMemory
 
 #[tactic(auto, unfolding(crate::specs::Grammar::type_at))]
 fn take_type(alloc: Global, text: &[u8]) -> Result<Option<Kind<'_>>, NoMemory>
-    ensures { IfOk result (λ r. option_map kind_of r ≡ Rattle.mime_type.specs.Grammar.type_at text.now) }
+    ensures { IfOk result (λ r. option_map kind_of r
+        ≡ Rattle.mime_type.specs.Grammar.type_at text.now) }
 {
     let Some(at) = skip_gap(text) else {
         return Ok(None);
@@ -59,7 +61,8 @@ fn take_type(alloc: Global, text: &[u8]) -> Result<Option<Kind<'_>>, NoMemory>
 
 #[tactic(auto, unfolding(crate::specs::Grammar::disposition_at))]
 fn take_disposition(alloc: Global, text: &[u8]) -> Result<Option<Kind<'_>>, NoMemory>
-    ensures { IfOk result (λ r. option_map kind_of r ≡ Rattle.mime_type.specs.Grammar.disposition_at text.now) }
+    ensures { IfOk result (λ r. option_map kind_of r
+        ≡ Rattle.mime_type.specs.Grammar.disposition_at text.now) }
 {
     let Some(at) = skip_gap(text) else {
         return Ok(None);
@@ -76,7 +79,8 @@ fn take_disposition(alloc: Global, text: &[u8]) -> Result<Option<Kind<'_>>, NoMe
 /// A type without parameters.
 #[tactic(auto, unfolding(crate::specs::Grammar::params_in))]
 fn plain_type(alloc: Global, kind: &str) -> Result<Kind<'static>, NoMemory>
-    ensures value { IfOk result (λ k. kind_of k ≡ Rattle.mime_type.specs.Content.plain_type kind.now) }
+    ensures value { IfOk result (λ k. kind_of k
+        ≡ Rattle.mime_type.specs.Content.plain_type kind.now) }
     ensures text { IfOk result (λ k. IsText (kind_of k)) }
 {
     Ok(Kind {
@@ -91,7 +95,8 @@ const MESSAGE: &str = "message/rfc822";
 
 /// The type of a part by its Content-Type field, if it has one.
 pub fn read_type(alloc: Global, field: &Option<Text>, digest: bool) -> Result<Kind<'_>, NoMemory>
-    ensures value { IfOk result (λ k. kind_of k ≡ Rattle.mime_type.specs.Content.type_of digest field.now) }
+    ensures value { IfOk result (λ k. kind_of k
+        ≡ Rattle.mime_type.specs.Content.type_of digest field.now) }
     ensures texts { IfOk result (λ k. IsText (kind_of k)) }
 {
     let Some(text) = field else {
@@ -105,7 +110,8 @@ pub fn read_type(alloc: Global, field: &Option<Text>, digest: bool) -> Result<Ki
 
 /// The disposition of a part by its Content-Disposition field, if it has one.
 pub fn read_disposition(alloc: Global, field: &Option<Text>) -> Result<Option<Kind<'_>>, NoMemory>
-    ensures value { IfOk result (λ r. option_map kind_of r ≡ Rattle.mime_type.specs.Content.disposition_of field.now) }
+    ensures value { IfOk result (λ r. option_map kind_of r
+        ≡ Rattle.mime_type.specs.Content.disposition_of field.now) }
     ensures texts { IfOk result (λ r. IfSome r (λ k. IsText (kind_of k))) }
 {
     match field {

@@ -1,5 +1,5 @@
-// The parameters of a field (RFC 2045, section 5.1). They are found in the text of the field where they are asked for, so
-// that no list of them takes memory.
+// The parameters of a field (RFC 2045, section 5.1). They are found in the text of the field where
+// they are asked for, so that no list of them takes memory.
 ghost use Rattle.std.specs.Prelude.{◌≡◌, ◌≤◌, length, option_map, IfSome, IfOk, ℕ, suc, bytes_eq};
 ghost use Rattle.mime_lines.specs.Named.{lowered};
 ghost use Rattle.mime_type.specs.Grammar.{param_at, turn_of, slot_at, turn_at, params_of, first_named};
@@ -26,8 +26,8 @@ struct Taken<'a> {
     rest: &'a [u8],
 }
 
-/// What stands where a semicolon or the end may stand: the end, what isn't of the form, nothing before the next
-/// semicolon, or a parameter.
+/// What stands where a semicolon or the end may be: the end, what isn't of the form, nothing before
+/// the next semicolon, or a parameter.
 #[derive(Clone, Copy)]
 enum Turn<'a> {
     Ends,
@@ -36,7 +36,7 @@ enum Turn<'a> {
     Gives(Param<'a>, &'a [u8]),
 }
 
-/// The parameter at the front: a name, an equals sign and a value.
+/// The parameter at the start: a name, an equals sign and a value.
 #[tactic(auto, unfolding(crate::specs::Grammar::param_at))]
 fn take_param(text: &[u8]) -> Option<Taken<'_>>
     ensures value { option_map taken result ≡ param_at text.now }
@@ -56,7 +56,8 @@ fn take_param(text: &[u8]) -> Option<Taken<'_>>
 
 fn turn_with(found: Option<Taken<'_>>) -> Turn<'_>
     ensures value { turn result ≡ turn_of (option_map taken found.entry) }
-    ensures within { (n : ℕ) → IfSome found.entry (λ r. length r.rest.now ≤ n) → turn_size result ≤ suc n }
+    ensures within { (n : ℕ) → IfSome found.entry (λ r. length r.rest.now ≤ n) → turn_size result
+        ≤ suc n }
 {
     match found {
         None => Turn::Breaks,
@@ -64,10 +65,11 @@ fn turn_with(found: Option<Taken<'_>>) -> Turn<'_>
     }
 }
 
-/// What stands behind a semicolon and the gap after it.
+/// What follows a semicolon and the gap after it.
 fn take_slot(text: Option<&[u8]>) -> Turn<'_>
     ensures value { turn result ≡ slot_at (option_map (λ r. r.now) text.entry) }
-    ensures within { (n : ℕ) → IfSome text.entry (λ r. length r.now ≤ n) → turn_size result ≤ suc n }
+    ensures within { (n : ℕ) → IfSome text.entry (λ r. length r.now ≤ n) → turn_size result
+        ≤ suc n }
 {
     match text {
         None => Turn::Breaks,
@@ -117,9 +119,11 @@ impl Param<'_> {
     }
 }
 
-/// The text that begins with the value of the first parameter of a name, before the first place that isn't of the form.
+/// The text that begins with the value of the first parameter of a name, before the first place
+/// that isn't of the form.
 fn find_value<'a>(text: &'a [u8], name: &[u8]) -> Option<&'a [u8]>
-    ensures { option_map (λ v. leading_value v.now) result ≡ first_named (lowered name.now) (params_of text.now).found }
+    ensures { option_map (λ v. leading_value v.now) result
+        ≡ first_named (lowered name.now) (params_of text.now).found }
 {
     let mut rest = text;
     loop {

@@ -11,7 +11,7 @@ use std::marker::Model;
 pub struct Part {
     /// Where the part begins.
     pub start: u64,
-    /// Where its body begins, behind the empty line that ends its header.
+    /// Where its body begins, after the empty line that ends its header.
     pub body: u64,
     /// Where it ends.
     pub end: u64,
@@ -47,21 +47,21 @@ pub struct Parts {
 }
 
 impl Model for Parts {
-    ghost use Rattle.mime_type.specs.Forest.{Forest};
+    ghost use Rattle.mime_type.specs.PartTrees.{PartTrees};
     ghost use Rattle.mime_type.specs.Code.{forest_code};
 
-    ghost Value = { Forest };
+    ghost Value = { PartTrees };
 
     ghost coded = { forest_code };
 
-    ghost use Rattle.mime_type.specs.Forest.{none};
+    ghost use Rattle.mime_type.specs.PartTrees.{none};
     ghost use Rattle.mime_type.specs.Joined.{joined};
 
     ghost view = { λ a. joined a.items.items none };
 
-    ghost use Rattle.mime_type.specs.Forest.{forest_size};
+    ghost use Rattle.mime_type.specs.PartTrees.{part_count};
 
-    ghost size = { forest_size };
+    ghost size = { part_count };
 
     ghost use Rattle.mime_type.specs.Falls.{parts_deep};
 
@@ -69,7 +69,7 @@ impl Model for Parts {
 }
 
 impl Parts {
-    ghost use Rattle.mime_type.specs.Forest.{none};
+    ghost use Rattle.mime_type.specs.PartTrees.{none};
     ghost use Rattle.mime_type.specs.Joined.{joined};
 
     /// The parts of a vector. It takes no memory.

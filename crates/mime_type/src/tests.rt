@@ -1,4 +1,5 @@
-// Heads of parts. Examples come from RFC 2045 and RFC 2183; the values of the well-formed rows are those of Python's `email`.
+// Heads of parts. Examples come from RFC 2045 and RFC 2183; the values of the well-formed rows are
+// those of Python's `email`.
 use crate::{Part, part_head};
 use jm_base::{Text, Texts};
 use mime_codec::Coding;

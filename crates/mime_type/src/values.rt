@@ -47,10 +47,11 @@ fn bare_len(text: &[u8]) -> usize
     text.len()
 }
 
-/// The front of this length, if it isn't empty.
+/// The prefix of this length, if it isn't empty.
 fn cut(text: &[u8], len: usize) -> Option<Run<'_>>
     requires { len ≤ length text.now }
-    ensures value { (class : ℕ → Bool) → len ≡ prefix_len class text.now → option_map run_of result ≡ run_at class text.now }
+    ensures value { (class : ℕ → Bool) → len ≡ prefix_len class text.now → option_map run_of result
+        ≡ run_at class text.now }
     ensures within { IfSome result (λ r. length r.rest.now ≤ length text.now) }
 {
     if len == 0 {
@@ -60,17 +61,19 @@ fn cut(text: &[u8], len: usize) -> Option<Run<'_>>
     Some(Run { text, rest })
 }
 
-/// The token at the front.
+/// The token at the start.
 pub fn token(text: &[u8]) -> Option<Run<'_>>
-    ensures value { option_map run_of result ≡ run_at Rattle.mime_type.specs.Characters.is_token text.now }
+    ensures value { option_map run_of result ≡ run_at Rattle.mime_type.specs.Characters.is_token
+        text.now }
     ensures within { IfSome result (λ r. length r.rest.now ≤ length text.now) }
 {
     cut(text, token_len(text))
 }
 
-/// The value without quote marks at the front.
+/// The value without quote marks at the start.
 fn bare(text: &[u8]) -> Option<Run<'_>>
-    ensures value { option_map run_of result ≡ run_at Rattle.mime_type.specs.Characters.is_bare text.now }
+    ensures value { option_map run_of result ≡ run_at Rattle.mime_type.specs.Characters.is_bare
+        text.now }
     ensures within { IfSome result (λ r. length r.rest.now ≤ length text.now) }
 {
     cut(text, bare_len(text))
@@ -79,7 +82,8 @@ fn bare(text: &[u8]) -> Option<Run<'_>>
 /// Takes in a byte of a quoted string that isn't its end, and says whether it quotes the next.
 fn push_quoted(out: &mut Vec<u8>, quoted: bool, byte: u8) -> Result<bool, NoMemory>
     requires { quoted ≡ false → byte ≢ 34 }
-    ensures { IfOk result (λ now. (rest : List ℕ) → with_front out.new.items (quoted_from now rest) ≡ with_front out.old.items (quoted_from quoted (byte ∷ rest))) }
+    ensures { IfOk result (λ now. (rest : List ℕ) → with_front out.new.items (quoted_from now rest)
+        ≡ with_front out.old.items (quoted_from quoted (byte ∷ rest))) }
 {
     if !quoted && byte == b'\\' {
         return Ok(true);
@@ -88,7 +92,7 @@ fn push_quoted(out: &mut Vec<u8>, quoted: bool, byte: u8) -> Result<bool, NoMemo
     Ok(false)
 }
 
-/// The rest of a quoted string, behind its first quote mark.
+/// The rest of a quoted string, after its first quote mark.
 fn quoted_rest(alloc: Global, text: &[u8]) -> Result<Option<Value<'_>>, NoMemory>
     ensures value { IfOk result (λ r. option_map value_of r ≡ quoted_from false text.now) }
     ensures within { IfOk result (λ o. IfSome o (λ r. length r.rest.now ≤ length text.now)) }
@@ -112,7 +116,8 @@ fn quoted_rest(alloc: Global, text: &[u8]) -> Result<Option<Value<'_>>, NoMemory
 /// A run as a value of its own.
 fn copied(alloc: Global, run: Option<Run<'_>>) -> Result<Option<Value<'_>>, NoMemory>
     ensures value { IfOk result (λ r. option_map value_of r ≡ option_map run_of run.entry) }
-    ensures within { (n : ℕ) → IfSome run.entry (λ r. length r.rest.now ≤ n) → IfOk result (λ o. IfSome o (λ r. length r.rest.now ≤ n)) }
+    ensures within { (n : ℕ) → IfSome run.entry (λ r. length r.rest.now ≤ n)
+        → IfOk result (λ o. IfSome o (λ r. length r.rest.now ≤ n)) }
 {
     match run {
         None => Ok(None),
@@ -123,7 +128,7 @@ fn copied(alloc: Global, run: Option<Run<'_>>) -> Result<Option<Value<'_>>, NoMe
     }
 }
 
-/// The value at the front: a quoted string, or a run of other characters.
+/// The value at the start: a quoted string, or a run of other characters.
 pub fn take_value(alloc: Global, text: &[u8]) -> Result<Option<Value<'_>>, NoMemory>
     ensures value { IfOk result (λ r. option_map value_of r ≡ value_at text.now) }
     ensures within { IfOk result (λ o. IfSome o (λ r. length r.rest.now ≤ length text.now)) }
@@ -148,12 +153,13 @@ pub fn copy_value(alloc: Global, text: &[u8]) -> Result<Vec<u8>, NoMemory>
 /// Whether a byte of a quoted string that isn't its end quotes the next.
 fn quotes_next(quoted: bool, byte: u8) -> bool
     requires { quoted ≡ false → byte ≢ 34 }
-    ensures { (rest : List ℕ) → rest_found (quoted_from result rest) ≡ rest_found (quoted_from quoted (byte ∷ rest)) }
+    ensures { (rest : List ℕ) → rest_found (quoted_from result rest)
+        ≡ rest_found (quoted_from quoted (byte ∷ rest)) }
 {
     !quoted && byte == b'\\'
 }
 
-/// What stands after the rest of a quoted string, behind its first quote mark.
+/// What stands after the rest of a quoted string, after its first quote mark.
 fn skip_quoted(text: &[u8]) -> Option<&[u8]>
     ensures value { option_map (λ r. r.now) result ≡ rest_found (quoted_from false text.now) }
     ensures within { IfSome result (λ r. length r.now ≤ length text.now) }
@@ -173,7 +179,8 @@ fn skip_quoted(text: &[u8]) -> Option<&[u8]>
 /// What stands after a run.
 fn after_run(run: Option<Run<'_>>) -> Option<&[u8]>
     ensures value { option_map (λ r. r.now) result ≡ rest_found (option_map run_of run.entry) }
-    ensures within { (n : ℕ) → IfSome run.entry (λ r. length r.rest.now ≤ n) → IfSome result (λ r. length r.now ≤ n) }
+    ensures within { (n : ℕ) → IfSome run.entry (λ r. length r.rest.now ≤ n)
+        → IfSome result (λ r. length r.now ≤ n) }
 {
     match run {
         Some(run) => Some(run.rest),

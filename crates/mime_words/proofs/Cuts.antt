@@ -9,7 +9,7 @@ use Rattle.mime_words.specs.Charsets.{same_charset}
 use Rattle.mime_words.specs.Words.{Word, shape_at, word_at, Cut, plain, word, onto, cut_at, cut_after, cut, is_white, are_one, both, join_first, joined, meaning, gap, said, text_said, decoded_words}
 use Rattle.mime_words.proofs.Shapes.{no_word, word_rest}
 
--- no equals sign stands in a text
+-- no equals sign is in a text
 abbrev pub HasNoSign : List ℕ → Type 0
 HasNoSign text = (k : ℕ) → k < length text → get_or text k 0 ≢ 61
 
@@ -184,7 +184,7 @@ abbrev pub meaning_maybe : Option Word → List ℕ
 meaning_maybe None = []
 meaning_maybe (Some w) = meaning w
 
--- so where a word may stand before it that isn't written yet
+-- so where a word may be before it that isn't written yet
 pub sign_all : (o : Option Word) (front inner : List ℕ) → HasNoSign front → word_at (61 ∷ inner) ≡ None
     → said_maybe o (cut (front ++ 61 ∷ inner)) ≡ (meaning_maybe o ++ front) ++ 61 ∷ said false (joined (cut inner))
 sign_all None front inner none is = sign_said front inner none is

@@ -1,4 +1,4 @@
--- Taking a character from the front of a text.
+-- Taking a character from the start of a text.
 use Rattle.std.proofs.Common.{◌≡◌, ◌≢◌, ℕ, cond, List, [], ◌∷◌, Option, Some, None, refl, sym, ap, ◌∙◌}
 use Rattle.std.specs.Prelude.{MatchOption, option_map}
 use Rattle.std.proofs.lemmas.Bool.{ne_eqb, eq-eqb}

@@ -1,4 +1,5 @@
--- The charsets that bytes may be read in, and the text that they make (RFC 3629; RFC 2046, section 4.1.2; ISO 8859-1).
+-- The charsets that bytes may be read in, and the text that they make (RFC 3629; RFC 2046, section
+-- 4.1.2; ISO 8859-1).
 use Rattle.std.specs.Prelude.{ℕ, Bool, true, false, not, nat_lt, List, map, Option, Some, None, codes, if◌then◌else◌}
 use Rattle.std.specs.List.{list_all}
 use Rattle.std.specs.Str.{is_utf8, encode_utf8_all}
@@ -29,12 +30,12 @@ same_charset Latin1 Latin1 = true
 abbrev pub is_ascii : ℕ → Bool
 is_ascii b = nat_lt b 128
 
--- the character that a byte of us-ascii is; a byte above 127 is none, and U+FFFD stands for it
+-- the character that a byte of us-ascii is; a byte above 127 is none, and U+FFFD replaces it
 abbrev pub ascii_character : ℕ → ℕ
 ascii_character b = if is_ascii b then b else 0xFFFD
 
--- the text that bytes make in a charset, as UTF-8. Each sequence that is no UTF-8 makes one U+FFFD; in iso-8859-1 each
--- byte is the code of its character.
+-- the text that bytes make in a charset, as UTF-8. Each sequence that is no UTF-8 makes one U+FFFD;
+-- in iso-8859-1 each byte is the code of its character.
 abbrev pub text_in : Charset → List ℕ → List ℕ
 text_in Utf8 bytes = utf8_lossy bytes
 text_in Ascii bytes = encode_utf8_all (map ascii_character bytes)
@@ -51,7 +52,8 @@ is_broken Utf8 bytes = not (is_utf8 bytes)
 is_broken Ascii bytes = not (list_all is_ascii bytes)
 is_broken Latin1 bytes = false
 
--- an encoding problem (RFC 8621, section 4.1.4): a byte that the charset doesn't allow, or an unknown charset
+-- an encoding problem (RFC 8621, section 4.1.4): a byte that the charset doesn't allow, or an
+-- unknown charset
 abbrev pub has_problem : Option Charset → List ℕ → Bool
 has_problem None bytes = true
 has_problem (Some charset) bytes = is_broken charset bytes

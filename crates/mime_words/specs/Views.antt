@@ -10,7 +10,12 @@ abbrev pub halves : Bor (List ℕ) × Bor (List ℕ) → List ℕ × List ℕ
 halves x = (x.0.now, x.1.now)
 
 abbrev pub shape_of : Shape' → Shape
-shape_of s = record { charset = s.charset.now; coding = s.coding.now; encoded = s.encoded.now; rest = s.rest.now }
+shape_of s = record {
+  charset = s.charset.now;
+  coding = s.coding.now;
+  encoded = s.encoded.now;
+  rest = s.rest.now;
+}
 
 abbrev pub word_of : Word' → Word
 word_of w = record { charset = w.charset; bytes = w.bytes }

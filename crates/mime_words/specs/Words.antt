@@ -1,5 +1,5 @@
--- Encoded-words in a text: an encoded-word is =?charset?encoding?encoded-text?= (RFC 2047, section 2).
--- Its encoding is called coding here.
+-- Encoded-words in a text: an encoded-word is =?charset?encoding?encoded-text?= (RFC 2047, section
+-- 2). Its encoding is called coding here.
 use Rattle.std.specs.Prelude.{ℕ, zero, suc, ◌-◌, Bool, true, false, ◌&&◌, ◌||◌, not, ◌==◌, nat_lt, nat_le, List, [], ◌∷◌, ◌++◌, length, map, filter, Option, Some, None, if◌then◌else◌}
 use Rattle.std.specs.List.{list_all, list_any, position_or_len, before_first, after_first}
 use Rattle.std.specs.Char.{is_ascii_whitespace, is_ascii_control}
@@ -9,13 +9,13 @@ use Rattle.mime_codec.specs.Quoted.{unescaped}
 use Rattle.mime_words.specs.declared.charset.Charset.{Charset}
 use Rattle.mime_words.specs.Charsets.{charset_named, same_charset, text_in}
 
--- go on with what was found, if anything was
+-- continue what was found, if anything was
 infixl 10 ◌>>=◌
 abbrev pub ◌>>=◌ : {A B : Type 0} → Option A → (A → Option B) → Option B
 None >>= f = None
 (Some x) >>= f = f x
 
--- what stands behind this byte, where the text begins with it
+-- what follows this byte, where the text begins with it
 abbrev pub after_sign : ℕ → List ℕ → Option (List ℕ)
 after_sign sign [] = None
 after_sign sign (b ∷ bs) = if b == sign then Some bs else None
@@ -23,19 +23,22 @@ after_sign sign (b ∷ bs) = if b == sign then Some bs else None
 abbrev pub is_question : ℕ → Bool
 is_question b = b == 63
 
--- the text before the first question mark, and the text behind it
+-- the text before the first question mark, and the text after it
 abbrev pub at_question : List ℕ → Option (List ℕ × List ℕ)
 at_question text =
-    if nat_lt (position_or_len is_question text) (length text) then Some (before_first is_question text, after_first is_question text) else None
+    if nat_lt (position_or_len is_question text) (length text)
+    then Some (before_first is_question text, after_first is_question text) else None
 
--- the pieces of an encoded-word (its charset, its encoding and its encoded-text), and the text behind it
+-- the pieces of an encoded-word (its charset, its encoding and its encoded-text), and the text
+-- after it
 pub record Shape : Type 0 where
   pub charset : List ℕ
   pub coding : List ℕ
   pub encoded : List ℕ
   pub rest : List ℕ
 
--- a text that begins with =? and three pieces that end with a question mark each, then an equals sign
+-- a text that begins with =? and three pieces that end with a question mark each, then an equals
+-- sign
 unfoldable pub shape_at : List ℕ → Option Shape
 shape_at text = do
   opened ← after_sign 61 text
@@ -50,7 +53,7 @@ shape_at text = do
 abbrev pub spaced : ℕ → ℕ
 spaced b = if b == 95 then 32 else b
 
--- the bytes that an encoded-text stands for in the coding of this letter
+-- the bytes that an encoded-text encodes in the coding of this letter
 abbrev pub bytes_by : ℕ → List ℕ → Option (List ℕ)
 bytes_by letter encoded =
     if letter == 66 || letter == 98 then Some (base64 encoded)
@@ -66,7 +69,7 @@ coded_bytes (letter ∷ b ∷ bs) encoded = None
 abbrev pub without_controls : List ℕ → List ℕ
 without_controls text = encode_utf8_all (filter (λ c. not (is_ascii_control c)) (chars text))
 
--- what an encoded-word holds: its charset, and the bytes that its encoded-text stands for
+-- what an encoded-word holds: its charset, and the bytes that its encoded-text encodes
 pub record Word : Type 0 where
   pub charset : Charset
   pub bytes : List ℕ
@@ -78,10 +81,11 @@ content s = do
   bytes ← coded_bytes s.coding s.encoded
   Some (record { charset = charset; bytes = bytes })
 
--- a word has at most 75 bytes from its first sign to its last, and no white space (RFC 2047, section 2, counts characters, which
--- are of ASCII there and so bytes)
+-- a word has at most 75 bytes from its first sign to its last, and no white space (RFC 2047,
+-- section 2, counts characters, which are of ASCII there and so bytes)
 abbrev pub is_good : List ℕ → Shape → Bool
-is_good text s = nat_le (length text - length s.rest) 75 && not (list_any is_ascii_whitespace s.encoded)
+is_good text s =
+    nat_le (length text - length s.rest) 75 && not (list_any is_ascii_whitespace s.encoded)
 
 abbrev pub if_good : List ℕ → Shape → Option Shape
 if_good text s = if is_good text s then Some s else None
@@ -104,7 +108,8 @@ abbrev pub onto : ℕ → Cut → Cut
 onto b (plain text) = plain (b ∷ text)
 onto b (word text held later) = word (b ∷ text) held later
 
--- a byte where a word may begin; `later n` is the cut of what follows the byte without its first n bytes
+-- a byte where a word may begin; `later n` is the cut of what follows the byte without its first n
+-- bytes
 abbrev pub cut_at : ℕ → List ℕ → Option (Word × List ℕ) → (ℕ → Cut) → Cut
 cut_at b bs None later = onto b (later zero)
 cut_at b bs (Some w) later = word [] w.0 (later (length bs - length w.1))
@@ -123,9 +128,9 @@ cut text = cut_after text zero
 abbrev pub is_white : List ℕ → Bool
 is_white text = list_all is_ascii_whitespace text
 
--- whether two words, between which this text stands, are read as one: they have one charset, and only
--- white space stands between them (RFC 2047, section 5, keeps each character within one word; many
--- writers split one over two)
+-- whether two words, between which this text stands, are read as one: they have one charset, and
+-- only white space stands between them (RFC 2047, section 5, keeps each character within one word;
+-- many writers split one over two)
 abbrev pub are_one : Word → List ℕ → Word → Bool
 are_one first between next = is_white between && same_charset first.charset next.charset
 
@@ -145,12 +150,12 @@ abbrev pub joined : Cut → Cut
 joined (plain text) = plain text
 joined (word before first later) = join_first before first (joined later)
 
--- the text that a word stands for: its bytes read in its charset, then without control characters
+-- the text that a word encodes: its bytes read in its charset, then without control characters
 abbrev pub meaning : Word → List ℕ
 meaning w = without_controls (text_in w.charset w.bytes)
 
--- the text before a word: white space alone goes where a word stands before it too (RFC 2047, section
--- 6.2)
+-- the text before a word: white space alone goes where a word stands before it too (RFC 2047,
+-- section 6.2)
 abbrev pub gap : Bool → List ℕ → List ℕ
 gap behind text = if behind && is_white text then [] else text
 

@@ -23,7 +23,8 @@ pub enum Charset {
 pub struct Decoded {
     /// The text, with U+FFFD where the bytes make none.
     pub text: Text,
-    /// Whether a byte isn't what the charset allows, or the charset isn't known (RFC 8621, section 4.1.4).
+    /// Whether a byte isn't what the charset allows, or the charset isn't known (RFC 8621, section
+    /// 4.1.4).
     pub problem: bool,
 }
 
@@ -104,12 +105,15 @@ fn is_broken(charset: Charset, bytes: &[u8]) -> bool
     }
 }
 
-/// The text that bytes make in the charset of this name, in either case: `utf-8`, `us-ascii` or `iso-8859-1`. Sequences that
-/// are no UTF-8, and in us-ascii each byte above 127, become U+FFFD and are a problem (RFC 8621, section 4.1.4). Any other
-/// charset is read as us-ascii and is a problem by itself. It fails where there is no memory, and else never.
+/// The text that bytes make in the charset of this name, in either case: `utf-8`, `us-ascii` or
+/// `iso-8859-1`. Sequences that are no UTF-8, and in us-ascii each byte above 127, become U+FFFD
+/// and are a problem (RFC 8621, section 4.1.4). Any other charset is read as us-ascii and is a
+/// problem by itself. It fails where there is no memory, and else never.
 pub fn decode_charset(alloc: Global, charset: &[u8], bytes: &[u8]) -> Result<Decoded, NoMemory>
-    ensures text { IfOk result (λ d. d.text ≡ text_of (Rattle.mime_words.specs.Charsets.charset_named charset.now) bytes.now) }
-    ensures problem { IfOk result (λ d. d.problem ≡ has_problem (Rattle.mime_words.specs.Charsets.charset_named charset.now) bytes.now) }
+    ensures text { IfOk result (λ d. d.text ≡ text_of
+        (Rattle.mime_words.specs.Charsets.charset_named charset.now) bytes.now) }
+    ensures problem { IfOk result (λ d. d.problem
+        ≡ has_problem (Rattle.mime_words.specs.Charsets.charset_named charset.now) bytes.now) }
 {
     match charset_named(charset) {
         Some(known) => Ok(Decoded {

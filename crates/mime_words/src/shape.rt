@@ -3,7 +3,7 @@ ghost use Rattle.std.specs.Prelude.{◌≡◌, ◌<◌, ◌≤◌, ◌∷◌, le
 ghost use Rattle.mime_words.specs.Words.{after_sign, at_question, shape_at};
 ghost use Rattle.mime_words.specs.Views.{halves, shape_of};
 
-/// The pieces of an encoded-word, and the text behind it.
+/// The pieces of an encoded-word, and the text after it.
 #[derive(Clone, Copy)]
 pub struct Shape<'a> {
     pub charset: &'a str,
@@ -14,7 +14,7 @@ pub struct Shape<'a> {
     pub rest: &'a str,
 }
 
-/// The text behind this ASCII character, where the text begins with it.
+/// The text after this ASCII character, where the text begins with it.
 fn strip_sign(text: &str, sign: char) -> Option<&str>
     requires { sign < 128 }
     ensures value { option_map (λ r. r.now) result ≡ after_sign sign text.now }
@@ -23,7 +23,7 @@ fn strip_sign(text: &str, sign: char) -> Option<&str>
     text.strip_prefix(sign)
 }
 
-/// The text before the first question mark, and the text behind it.
+/// The text before the first question mark, and the text after it.
 fn split_question(text: &str) -> Option<(&str, &str)>
     ensures value { option_map halves result ≡ at_question text.now }
     ensures within { IfSome result (λ x. length x.1.now < length text.now) }

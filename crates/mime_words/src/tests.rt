@@ -1,10 +1,11 @@
-// Tables. What texts mean is by RFC 2047, sections 2, 4, 6.2 and 8, and by docs/rules/messages-words.md.
+// Tables. What texts mean is by RFC 2047, sections 2, 4, 6.2 and 8, and by
+// docs/rules/messages-words.md.
 use crate::{decode_charset, decode_words};
 use jm_base::NoMemory;
 use std::alloc::Global;
 use std::test::Fail;
 
-/// Whether each text of a table means what stands beside it.
+/// Whether each text of a table means what is next to it.
 fn all_say(alloc: Global, table: &[(&[u8], &str)]) -> Result<bool, NoMemory> {
     for (bytes, meant) in table {
         if decode_words(alloc, bytes)?.as_str() != *meant {
@@ -14,8 +15,8 @@ fn all_say(alloc: Global, table: &[(&[u8], &str)]) -> Result<bool, NoMemory> {
     Ok(true)
 }
 
-/// RFC 2047, section 8: the table at its end, and the words of its headers. Those of iso-8859-2 and iso-8859-8 stay as they are
-/// written, since these charsets aren't read.
+/// RFC 2047, section 8: the table at its end, and the words of its headers. Those of iso-8859-2 and
+/// iso-8859-8 stay as they are written, since these charsets aren't read.
 #[test]
 fn examples_of_the_standard(rt: HostRuntime) -> Result<(), Fail> {
     let table: [(&[u8], &str); 14] = [
@@ -128,7 +129,8 @@ fn texts_of_words(rt: HostRuntime) -> Result<(), Fail> {
         (b"=?utf-8?b?w6k=?=", "\u{E9}"),
         // Control characters of ASCII are dropped.
         (b"=?utf-8?Q?a=0D=0A=00=7F=C2=80b?=", "a\u{80}b"),
-        // Bytes that their charset doesn't have; characters above ~ in a word are their UTF-8 bytes.
+        // Bytes that their charset doesn't have; characters above ~ in a word are their UTF-8
+        // bytes.
         (b"\xFF=?utf-8?Q?=FF?=\xE2\x82", "\u{FFFD}\u{FFFD}\u{FFFD}"),
         (b"=?us-ascii?Q?=E9?=", "\u{FFFD}"),
         (
@@ -140,9 +142,10 @@ fn texts_of_words(rt: HostRuntime) -> Result<(), Fail> {
     Ok(())
 }
 
-/// Words of one charset with nothing but white space between them are read as one, so that a character that was split over them
-/// is whole; Python's `email.header.make_header` gives the first four texts too. Words with other text between them, and words of
-/// two charsets, are read one by one.
+/// Words of one charset with nothing but white space between them are read as one, so that a
+/// character that was split over them is whole; Python's `email.header.make_header` gives the first
+/// four texts too. Words with other text between them, and words of two charsets, are read one by
+/// one.
 #[test]
 fn characters_split_over_words(rt: HostRuntime) -> Result<(), Fail> {
     let table: [(&[u8], &str); 8] = [

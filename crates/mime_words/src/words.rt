@@ -14,10 +14,11 @@ use jm_base::{Bytes, NoMemory, Text};
 use mime_codec::{Coding, decode, unescape};
 use std::alloc::Global;
 
-/// The greatest length of an encoded-word in bytes, from its first `=` to its last (RFC 2047, section 2).
-const LONGEST: usize = 75;
+/// The greatest length of an encoded-word in bytes, from its first `=` to its last (RFC 2047,
+/// section 2).
+const MAX_ENCODED_WORD_BYTES: usize = 75;
 
-/// What an encoded-word holds: its charset, and the bytes that its encoded-text stands for.
+/// What an encoded-word holds: its charset, and the bytes that its encoded-text encodes.
 #[derive(Drop)]
 pub struct Word {
     pub charset: Charset,
@@ -38,7 +39,7 @@ fn spaced(byte: u8) -> u8
     if byte == b'_' { b' ' } else { byte }
 }
 
-/// The bytes that an encoded-text in the Q coding stands for (RFC 2047, section 4.2).
+/// The bytes that an encoded-text in the Q coding encodes (RFC 2047, section 4.2).
 fn decode_q(alloc: Global, encoded: &[u8]) -> Result<Bytes, NoMemory>
     ensures { IfOk result (λ b. b ≡ unescaped (map Words.spaced encoded.now)) }
 {
@@ -49,7 +50,7 @@ fn decode_q(alloc: Global, encoded: &[u8]) -> Result<Bytes, NoMemory>
     unescape(alloc, text.as_slice())
 }
 
-/// The bytes that an encoded-text stands for in the coding of this letter.
+/// The bytes that an encoded-text encodes in the coding of this letter.
 fn decode_by(alloc: Global, letter: u8, encoded: &[u8]) -> Result<Option<Bytes>, NoMemory>
     ensures { IfOk result (λ b. b ≡ bytes_by letter encoded.now) }
 {
@@ -60,7 +61,7 @@ fn decode_by(alloc: Global, letter: u8, encoded: &[u8]) -> Result<Option<Bytes>,
     }
 }
 
-/// The bytes that an encoded-text stands for in a coding, which is one letter.
+/// The bytes that an encoded-text encodes in a coding, which is one letter.
 fn decode_coded(alloc: Global, coding: &[u8], encoded: &[u8]) -> Result<Option<Bytes>, NoMemory>
     ensures { IfOk result (λ b. b ≡ coded_bytes coding.now encoded.now) }
 {
@@ -107,7 +108,7 @@ fn read_word(alloc: Global, text: &str) -> Result<Option<Found<'_>>, NoMemory>
     let Some(shape) = split_shape(text) else {
         return Ok(None);
     };
-    if LONGEST <= text.len() - shape.rest.len() || has_white_space(shape.encoded) {
+    if MAX_ENCODED_WORD_BYTES <= text.len() - shape.rest.len() || has_white_space(shape.encoded) {
         return Ok(None);
     }
     match read_content(alloc, shape)? {
@@ -136,9 +137,10 @@ fn push_between(out: &mut String, text: &str) -> Result<(), NoMemory>
     Ok(())
 }
 
-/// Adds the text that a word stands for.
+/// Adds the text that a word encodes.
 fn push_meaning(alloc: Global, out: &mut String, word: &Word) -> Result<(), NoMemory>
-    ensures { OnOk result (string_bytes out.new ≡ string_bytes out.old ++ meaning (word_of word.now)) }
+    ensures { OnOk result (string_bytes out.new ≡ string_bytes out.old
+        ++ meaning (word_of word.now)) }
 {
     let mut text = charset_text(alloc, word.charset, word.bytes.as_slice())?;
     drop_controls(&mut text);
@@ -153,8 +155,8 @@ fn are_one(first: &Word, between: &str, next: &Word) -> bool
     is_white(between) && is_same_charset(first.charset, next.charset)
 }
 
-/// Takes a word that follows another one and the text between them: joins both where they are read as
-/// one, else adds the first and the text. Returns the word that isn't added yet.
+/// Takes a word that follows another one and the text between them: joins both where they are read
+/// as one, else adds the first and the text. Returns the word that isn't added yet.
 fn push_next(
     alloc: Global,
     out: &mut String,
@@ -162,7 +164,8 @@ fn push_next(
     between: &str,
     next: Word,
 ) -> Result<Word, NoMemory>
-    ensures { IfOk result (λ w. (later : Cut) → string_bytes out.new ++ said_after w later ≡ string_bytes out.old ++ said_after first (word between.now (word_of next) later)) }
+    ensures { IfOk result (λ w. (later : Cut) → string_bytes out.new ++ said_after w later
+        ≡ string_bytes out.old ++ said_after first (word between.now (word_of next) later)) }
 {
     let mut first = first;
     if are_one(&first, between, &next) {
@@ -174,8 +177,8 @@ fn push_next(
     Ok(next)
 }
 
-/// Takes a word and the text before it; `last` is the word before that text, if there is one that isn't
-/// added yet. Returns the word that isn't added yet.
+/// Takes a word and the text before it; `last` is the word before that text, if there is one that
+/// isn't added yet. Returns the word that isn't added yet.
 fn push_word(
     alloc: Global,
     out: &mut String,
@@ -183,7 +186,8 @@ fn push_word(
     front: &str,
     next: Word,
 ) -> Result<Word, NoMemory>
-    ensures { IfOk result (λ w. (later : Cut) → string_bytes out.new ++ said_after w later ≡ string_bytes out.old ++ said_with last (word front.now (word_of next) later)) }
+    ensures { IfOk result (λ w. (later : Cut) → string_bytes out.new ++ said_after w later
+        ≡ string_bytes out.old ++ said_with last (word front.now (word_of next) later)) }
 {
     match last {
         Some(first) => push_next(alloc, out, first, front, next),
@@ -194,14 +198,16 @@ fn push_word(
     }
 }
 
-/// Adds the word that isn't added yet, if there is one, and the text after it, which no word follows.
+/// Adds the word that isn't added yet, if there is one, and the text after it, which no word
+/// follows.
 fn push_text(
     alloc: Global,
     out: &mut String,
     last: &Option<Word>,
     text: &str,
 ) -> Result<(), NoMemory>
-    ensures { OnOk result (string_bytes out.new ≡ string_bytes out.old ++ (meaning_of last.now ++ text.now)) }
+    ensures { OnOk result (string_bytes out.new ≡ string_bytes out.old
+        ++ (meaning_of last.now ++ text.now)) }
 {
     if let Some(word) = last {
         push_meaning(alloc, out, word)?;
@@ -226,7 +232,9 @@ fn push_piece<'a>(
     inner: &'a str,
 ) -> Result<Left<'a>, NoMemory>
     requires { (k : ℕ) → k < length front.now → slice_index front.now k ≢ 61 }
-    ensures value { IfOk result (λ left. string_bytes out.new ++ said_with left.last (cut left.text.now) ≡ string_bytes out.old ++ said_with last (cut (front.now ++ 61 ∷ inner.now))) }
+    ensures value { IfOk result (λ left. string_bytes out.new
+        ++ said_with left.last (cut left.text.now) ≡ string_bytes out.old
+        ++ said_with last (cut (front.now ++ 61 ∷ inner.now))) }
     ensures within { IfOk result (λ left. length left.text.now ≤ length inner.now) }
 {
     match read_word(alloc, inner)? {
@@ -264,15 +272,16 @@ fn text_words(alloc: Global, text: &str) -> Result<Text, NoMemory>
     Ok(Text::from_string(out))
 }
 
-/// The text of some bytes with their encoded-words decoded (RFC 2047), wherever they stand. Bytes that are no UTF-8
-/// become U+FFFD first.
+/// The text of some bytes with their encoded-words decoded (RFC 2047), wherever they stand. Bytes
+/// that are no UTF-8 become U+FFFD first.
 ///
-/// A word stays as it is written where its charset isn't `utf-8`, `us-ascii` or `iso-8859-1`, its encoding isn't `B` or `Q`,
-/// it is longer than 75 bytes, or white space stands in its encoded-text. Words of one charset between which only white space
-/// stands are read as one: their bytes are joined before the charset is read, so a character that was split over two words is
-/// whole. In what a decoded word says, U+FFFD stands for bytes that its charset doesn't have, and the control characters of
-/// ASCII are left out. White space that alone stands between two decoded words is dropped (section 6.2). It fails if memory
-/// runs out, and else never.
+/// A word stays as it is written where its charset isn't `utf-8`, `us-ascii` or `iso-8859-1`, its
+/// encoding isn't `B` or `Q`, it is longer than 75 bytes, or white space is in its encoded-text.
+/// Words of one charset between which only white space stands are read as one: their bytes are
+/// joined before the charset is read, so a character that was split over two words is whole. In
+/// what a decoded word says, U+FFFD replaces bytes that its charset doesn't have, and the control
+/// characters of ASCII are left out. White space that alone stands between two decoded words is
+/// dropped (section 6.2). It fails if memory runs out, and else never.
 pub fn decode_words(alloc: Global, bytes: &[u8]) -> Result<Text, NoMemory>
     ensures { IfOk result (λ t. t ≡ decoded_words (utf8_lossy bytes.now)) }
 {

@@ -23,7 +23,7 @@ pub record Live (s : TextRest) (bound : List ℕ) : Type 0 where
   pub turn_is : s.tight ≡ true → s.turn ≡ turns (Some s.follow) s.room bound
   pub turn_there : s.tight ≡ true → 0 < s.turn
 
--- one that leaves room for greater ones: whole characters, and zeros behind them
+-- one that leaves room for greater ones: whole characters, and zeros after them
 pub record Roomy (s : TextRest) (bound : List ℕ) (limit : ℕ) (w : List ℕ) : Type 0 where
   pub front : List ℕ
   pub count : ℕ
@@ -103,7 +103,7 @@ one_some a b e = cc
 none_not : {A : Type 0} (a : A) → None ≡ Some a → ⊥
 none_not a e = cc
 
--- a text that is rest_of_text goes on with a byte that is taken
+-- a text that is rest_of_text continues with a byte that is taken
 awaits_on : (s : TextRest) (bound : List ℕ) (b : ℕ) (w : List ℕ) (o : Option TextRest) → Steps s bound b o → Live s bound → Awaits s bound (b ∷ w) → (t : TextRest) × (o ≡ Some t) × Awaits t (drop 1 bound) w
 awaits_on s bound b w o (no_byte e n) l a = absurd (subst (λ (q : Option CharacterRest). Accepts q w) e a.text)
 awaits_on s bound b w o (no_room f e r n) l a =
@@ -207,7 +207,7 @@ roomy_back s t bound b limit w o k eo r = record {
   awaits = awaits_back s t bound b w o k eo r.awaits;
 }
 
--- ---- where no text goes on
+-- ---- where no text continues
 abbrev pub TextStops : TextRest → List ℕ → ℕ → List ℕ → ℕ → Type 0
 TextStops s bound limit xs left = Stops (Roomy s bound limit) (Awaits s bound) xs left
 

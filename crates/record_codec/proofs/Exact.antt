@@ -1,4 +1,4 @@
--- Readers that are exact: what they read is encoded so, and where they stop no encoding goes on.
+-- Readers that are exact: what they read is encoded so, and where they stop no encoding continues.
 use Rattle.std.proofs.Common.{◌≡◌, ℕ, suc, ◌^◌, ◌<◌, List, [], ◌∷◌, ◌++◌, length, Result, Ok, Err, refl, sym, ap, ap₂, subst, ◌∙◌, ◌⊎◌, inl, inr, append_assoc, length-append, arith}
 use Rattle.std.proofs.lemmas.List.{append-nil}
 use Rattle.record_codec.specs.Offsets.{AreBytes}
@@ -31,7 +31,7 @@ rest_input xs front rest h e = record {
 pub front_short : (xs front rest : List ℕ) → IsInput xs → xs ≡ front ++ rest → length front < 2 ^ 63
 front_short xs front rest h e = omega (arith, h.short, ap length e, length-append front rest)
 
--- Where reading stops: the bytes so far are begun by a word of the one kind, and no word of the other goes on with the
+-- Where reading stops: the bytes up to here are begun by a word of the one kind, and no word of the other continues the
 -- byte that is there.
 pub record Stops (B L : List ℕ → Type 0) (xs : List ℕ) (left : ℕ) : Type 0 where
   pub front : List ℕ
@@ -67,7 +67,7 @@ stops_later B L B' L' c xs left to from s = record {
   ends = λ b more ys e l. s.ends b more ys e (from (s.front ++ b ∷ ys) l);
 }
 
--- the first byte is the one at which nothing goes on
+-- the first byte is the one at which nothing continues
 pub stops_here : (B L : List ℕ → Type 0) (c : ℕ) (xs : List ℕ) (b : ℕ) (rest : List ℕ) → B (b ∷ rest) → ((ys : List ℕ) → ¬ L (c ∷ ys)) → Stops B L (c ∷ xs) (suc (length xs))
 stops_here B L c xs b rest begun none = record {
   front = [];

@@ -10,7 +10,7 @@ use Rattle.record_codec.specs.NextBytes.{start, after_byte, less_of, rise_cost, 
 use Rattle.record_codec.specs.Readers.{rising_text, next_text}
 use Rattle.record_codec.specs.Reading.{Read, ◌>>=◌, Fails, items_at}
 
--- the byte at a place, and those behind it
+-- the byte at a place, and those after it
 pub byte_there : (bytes : List ℕ) (at b : ℕ) → at < length bytes → get_or bytes at 0 ≡ b → drop at bytes ≡ b ∷ drop (at + 1) bytes
 byte_there bytes at b lt is = rw (add-one at, ← is) (drop-cons bytes at 0 lt)
 
@@ -39,7 +39,7 @@ least_begins t = omega (arith, (least_bound (Some start) t).1)
 pub least_stops : (s : Option CharacterRest) (t : List ℕ) (at least total : ℕ) → least ≤ at + 1 → min (at + least_length s t) least ≡ total → least ≡ total
 least_stops s t at least total le e = omega (arith, e, (least_bound s t).0)
 
--- what one more byte does to the least length so far
+-- what one more byte does to the least length up to here
 step_of : (cost later at least total : ℕ) → at < least → min (at + less_of cost (later + 1)) least ≡ total → min (at + 1 + later) (at + less_of cost (least - at)) ≡ total
 step_of zero later at least total lt e = omega (arith, e)
 step_of (suc cost) later at least total lt e = omega (arith, e, less_suc cost (later + 1), less_suc cost (least - at))

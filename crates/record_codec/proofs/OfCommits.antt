@@ -93,7 +93,7 @@ thread_one a b x y p q e =
     let f2 = numbers_one a.emails b.emails x y p.1 q.1 f1.1 in
     (λ i. record { number = f1.0 i; emails = f2.0 i }, f2.1)
 
--- what stands behind equal first bytes
+-- what follows equal first bytes
 behind : (a b : ℕ) (x y : List ℕ) → a ∷ x ≡ b ∷ y → x ≡ y
 behind a b x y e = cc
 

@@ -9,7 +9,7 @@ use Rattle.std.proofs.lemmas.Nat.{from_be_bytes-to_be_bytes_8}
 use Rattle.record_codec.specs.Encoding.{number, blob, listed, truth, optional}
 use Rattle.record_codec.specs.Widths.{FitsIn64Bits, LengthFitsIn64Bits, AreAll}
 
--- what two encodings with something behind each of them are equal in
+-- what two encodings with something after each of them are equal in
 abbrev pub OneForm : {A : Type 0} → (A → Type 0) → (A → List ℕ) → Type 0
 OneForm {A} P encode = (a b : A) (x y : List ℕ) → P a → P b → encode a ++ x ≡ encode b ++ y → (a ≡ b) × (x ≡ y)
 

@@ -46,7 +46,7 @@ tail_ascii d i h = IsUtf8-from_ascii (tail d i) ascii
     ascii zero = h
     ascii (suc k) = zeros_small i k
 
--- texts that go on from c: at first d and zeros, then d + 1 and zeros, as many zeros as 2^62
+-- texts that continue from c: at first d and zeros, then d + 1 and zeros, as many zeros as 2^62
 grow : (n : ℕ) (c : List ℕ) (d i : ℕ) → IsUtf8 c → length c ≤ 2 ^ 63 + 4 → i ≤ 2 ^ 62 → d ≤ 6 → n + i + d * (2 ^ 62 + 1) ≤ 6 * (2 ^ 62 + 1) → Some_texts (true, c ++ tail d i) n
 grow zero c d i u l k b e = ([], tt)
 grow (suc n) c d i u l k b e = elim (cases_lt i (2 ^ 62)) [

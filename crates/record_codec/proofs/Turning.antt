@@ -115,7 +115,7 @@ lead_top b w (four_high h e) a =
     omega (arith, h, top_four (suc (length w)) (omega (arith, r)))
 lead_top b w (never h k e) a = absurd (subst (λ (o : Option CharacterRest). Accepts o w) e a)
 
--- a byte that stands there in another text is no greater than what can
+-- a byte that is there in another text is no greater than what can
 rises : (f : CharacterRest) (x b : ℕ) (w : List ℕ) → x < b → Accepts (after_byte f b) w → can_rise f (suc (length w)) x ≡ true
 rises f x b w lt a = elim (cases_eq f.more 0) [
   | inl z ↦
@@ -144,7 +144,7 @@ must_turn (Some f) (x ∷ p) (b ∷ w) a c l = elim (less_head x b p w l) [
   | inr t ↦ turn_later (can_rise f (suc (length w)) x) (turns (after_byte f x) (length w) p) (must_turn (after_byte f x) p w a (subst (λ (y : ℕ). Accepts (after_byte f y) w) (sym t.0) c) t.1)
 ]
 
--- ---- texts that go on from a state
+-- ---- texts that continue from a state
 full : (n : ℕ) (f : CharacterRest) → f.more ≡ n → IsState f → (c : List ℕ) × ((length c ≡ n) × Accepts (Some f) c)
 full zero f e s = ([], (refl, e))
 full (suc n) f e s =
@@ -161,7 +161,7 @@ padded None c n a = absurd a
 padded (Some f) [] n a = zero_takes f n a
 padded (Some f) (b ∷ c) n a = padded (after_byte f b) c n a
 
--- a text of so many bytes from a state: whole characters, and zeros behind them
+-- a text of so many bytes from a state: whole characters, and zeros after them
 pub record Filled (o : Option CharacterRest) (room limit : ℕ) : Type 0 where
   pub front : List ℕ
   pub count : ℕ

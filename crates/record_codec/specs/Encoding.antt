@@ -43,21 +43,25 @@ abbrev pub date : UtcDate → List ℕ
 date d = number (since_year_one d.seconds)
 
 abbrev pub summary : Summary → List ℕ
-summary s = listed blob s.links ++ (blob s.subject ++ (blob s.from ++ (blob s.to ++ (optional date s.sent ++ truth s.attachment))))
+summary s = listed blob s.links ++ (blob s.subject
+    ++ (blob s.from ++ (blob s.to ++ (optional date s.sent ++ truth s.attachment))))
 
 -- whether a mailbox is subscribed, and its counts
 abbrev pub subscribed_and_counts : Mailbox → List ℕ
-subscribed_and_counts m = truth m.subscribed ++ (number m.total_emails ++ (number m.unread_emails ++ (number m.total_threads ++ number m.unread_threads)))
+subscribed_and_counts m = truth m.subscribed ++ (number m.total_emails
+    ++ (number m.unread_emails ++ (number m.total_threads ++ number m.unread_threads)))
 
 abbrev pub mailbox : Mailbox → List ℕ
-mailbox m = number m.number ++ (blob m.name ++ (optional number m.parent ++ (optional blob m.role ++ (number m.sort_order ++ subscribed_and_counts m))))
+mailbox m = number m.number ++ (blob m.name ++ (optional number m.parent
+    ++ (optional blob m.role ++ (number m.sort_order ++ subscribed_and_counts m))))
 
 -- the fields of an email that its message decides
 abbrev pub message : Email → List ℕ
 message e = number e.size ++ (date e.received ++ summary e.summary)
 
 abbrev pub email : Email → List ℕ
-email e = number e.number ++ (number e.thread ++ (number e.blob ++ (listed number e.mailboxes ++ (listed blob e.keywords ++ message e))))
+email e = number e.number ++ (number e.thread
+    ++ (number e.blob ++ (listed number e.mailboxes ++ (listed blob e.keywords ++ message e))))
 
 abbrev pub thread : Thread → List ℕ
 thread t = number t.number ++ listed number t.emails
@@ -73,4 +77,5 @@ edit (DropThread n) = 6 ∷ number n
 
 -- a commit: the byte 1, its stamp, its blobs and its edits
 abbrev pub encoding : Commit → List ℕ
-encoding c = 1 ∷ (number c.stamp.pass ++ (number c.stamp.serial ++ (listed blob c.blobs ++ listed edit c.edits)))
+encoding c = 1 ∷ (number c.stamp.pass ++ (number c.stamp.serial
+    ++ (listed blob c.blobs ++ listed edit c.edits)))

@@ -34,8 +34,9 @@ HasTextsInEdit (PutMailbox item was counts) = HasTextsInMailbox item
 HasTextsInEdit (PutEmail item was) = HasTextsInEmail item
 HasTextsInEdit _ = ⊤
 
--- A commit that has an encoding: its numbers and lengths are of 64 bits; the mailboxes, keywords and links of each email
--- that it puts rise strictly, and its dates are of the years 1 to 9999; its texts are UTF-8 and its blobs bytes.
+-- A commit that has an encoding: its numbers and lengths are of 64 bits; the mailboxes, keywords
+-- and links of each email that it puts rise strictly, and its dates are of the years 1 to 9999; its
+-- texts are UTF-8 and its blobs bytes.
 pub record HasEncoding (c : Commit) : Type 0 where
   pub wide : IsWide c
   pub formed : IsFormed c
@@ -51,16 +52,17 @@ pub record IsEncodingOf (bytes : List ℕ) (c : Commit) : Type 0 where
 abbrev pub Begins : List ℕ → Type 0
 Begins front = (c : Commit) × (rest : List ℕ) × IsEncodingOf (front ++ rest) c
 
--- The bytes are no commit's encoding, and this is the byte offset of the first byte at which no commit's encoding goes on as
--- they do: some commit's encoding begins with the bytes before it, and none with these and the byte there. Where the bytes end
--- early it is their length.
+-- The bytes are no commit's encoding, and this is the byte offset of the first byte at which no
+-- commit's encoding continues as they do: some commit's encoding begins with the bytes before it,
+-- and none with these and the byte there. Where the bytes end early it is their length.
 pub record IsFaultOffset (bytes : List ℕ) (place : ℕ) : Type 0 where
   pub within : place ≤ length bytes
   pub begins : Begins (take place bytes)
   pub goes_no_further : place < length bytes → ¬ Begins (take (suc place) bytes)
   pub is_none : (c : Commit) → ¬ IsEncodingOf bytes c
 
--- why bytes are not decoded: the byte offset at which they are no commit's encoding, or out of memory
+-- why bytes are not decoded: the byte offset at which they are no commit's encoding, or out of
+-- memory
 abbrev pub IsRefused : List ℕ → CodecFault → Type 0
 IsRefused bytes (NotACommit place) = IsFaultOffset bytes place
 IsRefused bytes NoMemory = ⊤

@@ -20,14 +20,17 @@ greatest = 18446744073709551615
 
 -- a number
 abbrev pub number_at : List ℕ → Read ℕ
-number_at bytes = if nat_lt (length bytes) 8 then Err 0 else Ok (from_be_bytes w64 (take 8 bytes), drop 8 bytes)
+number_at bytes =
+    if nat_lt (length bytes) 8 then Err 0 else Ok (from_be_bytes w64 (take 8 bytes), drop 8 bytes)
 
 -- a number between two others
 abbrev pub is_between : ℕ → ℕ → List ℕ → Bool
-is_between low high bytes = nat_le 8 (length bytes) && nat_le low (from_be_bytes w64 (take 8 bytes)) && nat_le (from_be_bytes w64 (take 8 bytes)) high
+is_between low high bytes = nat_le 8 (length bytes) && nat_le low (from_be_bytes w64 (take 8 bytes))
+    && nat_le (from_be_bytes w64 (take 8 bytes)) high
 
 abbrev pub number_between : ℕ → ℕ → List ℕ → Read ℕ
-number_between low high bytes = if is_between low high bytes then Ok (from_be_bytes w64 (take 8 bytes), drop 8 bytes)
+number_between low high bytes =
+    if is_between low high bytes then Ok (from_be_bytes w64 (take 8 bytes), drop 8 bytes)
     else Err (left_in_word false false (to_be_bytes w64 low) (to_be_bytes w64 high) bytes)
 
 abbrev pub truth_at : List ℕ → Read Bool
@@ -72,20 +75,23 @@ abbrev pub is_content : ℕ → Bool → List ℕ → List ℕ → Bool
 is_content n tight bound bytes = nat_le n (length bytes) && is_text_above tight bound (take n bytes)
 
 abbrev pub content_at : ℕ → Bool → List ℕ → List ℕ → Read (List ℕ)
-content_at n tight bound bytes = if is_content n tight bound bytes then Ok (take n bytes, drop n bytes)
+content_at n tight bound bytes =
+    if is_content n tight bound bytes then Ok (take n bytes, drop n bytes)
     else Err (left_in_text (at_first n tight bound) bound bytes)
 
 abbrev pub least_room : Bool → List ℕ → ℕ
 least_room tight bound = if tight then least_length (Some start) bound else 0
 
 abbrev pub text_above : Bool → List ℕ → List ℕ → Read (List ℕ)
-text_above tight bound bytes = number_between (least_room tight bound) greatest bytes >>= λ n. content_at n.0 tight bound n.1
+text_above tight bound bytes =
+    number_between (least_room tight bound) greatest bytes >>= λ n. content_at n.0 tight bound n.1
 
 abbrev pub text_at : List ℕ → Read (List ℕ)
 text_at = text_above false []
 
 -- lists
-abbrev pub listed_at : {S A : Type 0} → (S → ℕ → List ℕ → Read A) → (S → A → S) → S → List ℕ → Read (List A)
+abbrev pub listed_at : {S A : Type 0} → (S → ℕ → List ℕ → Read A) → (S → A → S) → S → List ℕ
+    → Read (List A)
 listed_at item next s bytes = number_at bytes >>= λ n. items_at item next s n.0 n.1
 
 abbrev pub any_at : {A : Type 0} → (List ℕ → Read A) → Unit {0} → ℕ → List ℕ → Read A
@@ -94,7 +100,7 @@ any_at read _ left = read
 abbrev pub same : {A : Type 0} → Unit {0} → A → Unit {0}
 same s _ = s
 
--- a number that leaves room for those behind it
+-- a number that leaves room for those after it
 abbrev pub rising_number : ℕ → ℕ → List ℕ → Read ℕ
 rising_number low left = number_between low (greatest - left)
 
@@ -123,13 +129,23 @@ abbrev pub blobs_at : List ℕ → Read (List (List ℕ))
 blobs_at = listed_at (any_at blob_at) same tt
 
 -- records: their fields one after the other
-abbrev pub summary_from : List (List ℕ) × (List ℕ × (List ℕ × (List ℕ × (Option UtcDate × Bool)))) → Summary
-summary_from p = record { links = p.0; subject = p.1.0; from = p.1.1.0; to = p.1.1.1.0; sent = p.1.1.1.1.0; attachment = p.1.1.1.1.1 }
+abbrev pub summary_from : List (List ℕ) × (List ℕ × (List ℕ × (List ℕ × (Option UtcDate × Bool))))
+    → Summary
+summary_from p = record {
+  links = p.0;
+  subject = p.1.0;
+  from = p.1.1.0;
+  to = p.1.1.1.0;
+  sent = p.1.1.1.1.0;
+  attachment = p.1.1.1.1.1;
+}
 
 abbrev pub summary_at : List ℕ → Read Summary
-summary_at = made summary_from (both rising_texts_at (both text_at (both text_at (both text_at (both (optional_at date_at) truth_at)))))
+summary_at = made summary_from (both rising_texts_at
+    (both text_at (both text_at (both text_at (both (optional_at date_at) truth_at)))))
 
-abbrev pub mailbox_from : ℕ × (List ℕ × (Option ℕ × (Option (List ℕ) × (ℕ × (Bool × (ℕ × (ℕ × (ℕ × ℕ)))))))) → Mailbox
+abbrev pub mailbox_from : ℕ × (List ℕ × (Option ℕ
+    × (Option (List ℕ) × (ℕ × (Bool × (ℕ × (ℕ × (ℕ × ℕ)))))))) → Mailbox
 mailbox_from p = record {
   number = p.0;
   name = p.1.0;
@@ -147,9 +163,12 @@ abbrev pub counts_at : List ℕ → Read (ℕ × (ℕ × (ℕ × ℕ)))
 counts_at = both number_at (both number_at (both number_at number_at))
 
 abbrev pub mailbox_at : List ℕ → Read Mailbox
-mailbox_at = made mailbox_from (both number_at (both text_at (both (optional_at number_at) (both (optional_at text_at) (both number_at (both truth_at counts_at))))))
+mailbox_at = made mailbox_from (both number_at
+    (both text_at (both (optional_at number_at)
+    (both (optional_at text_at) (both number_at (both truth_at counts_at))))))
 
-abbrev pub email_from : ℕ × (ℕ × (ℕ × (List ℕ × (List (List ℕ) × (ℕ × (UtcDate × Summary)))))) → Email
+abbrev pub email_from : ℕ × (ℕ × (ℕ × (List ℕ × (List (List ℕ) × (ℕ × (UtcDate × Summary))))))
+    → Email
 email_from p = record {
   number = p.0;
   thread = p.1.0;
@@ -162,7 +181,9 @@ email_from p = record {
 }
 
 abbrev pub email_at : List ℕ → Read Email
-email_at = made email_from (both number_at (both number_at (both number_at (both rising_numbers_at (both rising_texts_at (both number_at (both date_at summary_at)))))))
+email_at = made email_from (both number_at (both number_at
+    (both number_at (both rising_numbers_at (both rising_texts_at
+    (both number_at (both date_at summary_at)))))))
 
 abbrev pub thread_from : ℕ × List ℕ → Thread
 thread_from p = record { number = p.0; emails = p.1 }
@@ -170,7 +191,7 @@ thread_from p = record { number = p.0; emails = p.1 }
 abbrev pub thread_at : List ℕ → Read Thread
 thread_at = made thread_from (both number_at numbers_at)
 
--- what stands behind an edit's tag
+-- what follows an edit's tag
 abbrev pub put_mailbox_at : List ℕ → Read Edit
 put_mailbox_at = made (λ p. PutMailbox p.0 p.1.0 p.1.1) (both mailbox_at (both truth_at truth_at))
 
@@ -203,7 +224,12 @@ abbrev pub edits_at : List ℕ → Read (List Edit)
 edits_at = listed_at (any_at edit_at) same tt
 
 abbrev pub commit_from : ℕ × (ℕ × (ℕ × (List (List ℕ) × List Edit))) → Commit
-commit_from p = record { blobs = p.1.1.1.0; edits = p.1.1.1.1; stamp = record { pass = p.1.0; serial = p.1.1.0 } }
+commit_from p = record {
+  blobs = p.1.1.1.0;
+  edits = p.1.1.1.1;
+  stamp = record { pass = p.1.0; serial = p.1.1.0 };
+}
 
 abbrev pub commit_at : List ℕ → Read Commit
-commit_at = made commit_from (both (tag_at 1) (both number_at (both number_at (both blobs_at edits_at))))
+commit_at =
+    made commit_from (both (tag_at 1) (both number_at (both number_at (both blobs_at edits_at))))

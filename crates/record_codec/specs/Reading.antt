@@ -1,10 +1,10 @@
--- Reading of fields, by which the readers are told. What is read so is a value's one encoding, and where it stops no
--- encoding goes on (proofs/Whole.antt).
+-- Reading of fields, by which the readers are known. What is read so is a value's one encoding, and
+-- where it stops no encoding continues (proofs/Whole.antt).
 use Rattle.std.specs.Prelude.{◌≡◌, ℕ, zero, suc, List, [], ◌∷◌, Result, Ok, Err, ⊤}
 use Rattle.record_codec.specs.declared.faults.Misread.{Misread}
 use Rattle.record_codec.specs.declared.faults.Misread.TheVariants as faults
 
--- a value and the bytes after it, or how many bytes are left where nothing goes on
+-- a value and the bytes after it, or how many bytes are left where nothing continues
 abbrev pub Read : Type 0 → Type 0
 Read A = Result (A × List ℕ) ℕ
 
@@ -33,7 +33,9 @@ both first second = then first (λ _. second)
 abbrev pub made : {A B : Type 0} → (A → B) → (List ℕ → Read A) → List ℕ → Read B
 made make read bytes = read bytes >>= λ a. Ok (make a.0, a.1)
 
--- as many items as are counted; the state says what the items so far ask of the next
-abbrev pub items_at : {S A : Type 0} → (S → ℕ → List ℕ → Read A) → (S → A → S) → S → ℕ → List ℕ → Read (List A)
+-- as many items as are counted; the state says what the items up to here ask of the next
+abbrev pub items_at : {S A : Type 0} → (S → ℕ → List ℕ → Read A) → (S → A → S) → S → ℕ → List ℕ
+    → Read (List A)
 items_at item next s zero bytes = Ok ([], bytes)
-items_at item next s (suc n) bytes = item s n bytes >>= λ a. items_at item next (next s a.0) n a.1 >>= λ more. Ok (a.0 ∷ more.0, more.1)
+items_at item next s (suc n) bytes = item s n bytes >>=
+    λ a. items_at item next (next s a.0) n a.1 >>= λ more. Ok (a.0 ∷ more.0, more.1)

@@ -4,8 +4,8 @@ use Rattle.std.specs.List.{flat_map}
 use Rattle.mail_records.specs.declared.edits.Edit.{Edit}
 use Rattle.record_codec.specs.Encoding.{edit}
 
--- The bytes of the encodings of edits, one after the other: their count and the rest of their commit
--- don't count.
+-- The bytes of the encodings of edits, one after the other: their count and the rest of their
+-- commit don't count.
 abbrev pub edit_bytes : List Edit → ℕ
 edit_bytes es = length (flat_map edit es)
 

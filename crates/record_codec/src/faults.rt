@@ -8,8 +8,8 @@ use std::alloc::{AllocError, AllocFailed};
 /// Why bytes were not decoded as a commit.
 #[derive(Clone, Copy, Debug, PartialEq, Eq)]
 pub enum CodecFault {
-    /// The bytes are no commit's encoding. The number is the byte offset of the first byte at which no
-    /// commit's encoding goes on as the bytes do: their length where they end early.
+    /// The bytes are no commit's encoding. The number is the byte offset of the first byte at which
+    /// no commit's encoding continues as the bytes do: their length where they end early.
     NotACommit(u64),
     /// An allocation failed; nothing is said of the bytes.
     NoMemory,
@@ -18,7 +18,7 @@ pub enum CodecFault {
 /// Why a field was not decoded.
 #[derive(Clone, Copy, Debug, PartialEq, Eq)]
 pub enum Misread {
-    /// No encoding of the field goes on as the bytes do where so many bytes are left.
+    /// No encoding of the field continues as the bytes do where so many bytes are left.
     Stuck(usize),
     NoMemory,
 }

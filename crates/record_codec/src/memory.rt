@@ -1,4 +1,5 @@
-// What a commit in memory always is: its numbers and lengths are of 64 bits, its texts UTF-8 and its blobs bytes.
+// What a commit in memory always is: its numbers and lengths are of 64 bits, its texts UTF-8 and
+// its blobs bytes.
 ghost use Rattle.std.specs.List.{AllByRecursion};
 ghost use Rattle.std.specs.Option.{ForSome};
 ghost use Rattle.std.specs.Str.{IsUtf8};
@@ -148,8 +149,8 @@ fn edits_fit(edits: &[Edit]) -> usize
     edits.len()
 }
 
-/// A commit in memory that is formed has an encoding: its numbers and lengths are of 64 bits, its strings UTF-8 and its
-/// blobs bytes, since no other can be made.
+/// A commit in memory that is formed has an encoding: its numbers and lengths are of 64 bits, its
+/// strings UTF-8 and its blobs bytes, since no other can be made.
 pub fn has_encoding(commit: &Commit)
     requires { IsFormed commit.now }
     ensures { HasEncoding commit.now }

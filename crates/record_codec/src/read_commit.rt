@@ -49,8 +49,9 @@ fn alone(bytes: &[u8], commit: Commit, rest: &[u8]) -> Result<Commit, CodecFault
     Err(CodecFault::NotACommit((bytes.len() - rest.len()) as u64))
 }
 
-/// Returns the commit whose encoding the bytes are. Fails with `NotACommit` if and only if they are no commit's encoding, with
-/// the byte offset at which that shows; with `NoMemory` if an allocation fails.
+/// Returns the commit whose encoding the bytes are. Fails with `NotACommit` if and only if they are
+/// no commit's encoding, with the byte offset at which that shows; with `NoMemory` if an allocation
+/// fails.
 pub fn decode(alloc: Global, bytes: &[u8]) -> Result<Commit, CodecFault>
     ensures { IsRead bytes.now result }
 {

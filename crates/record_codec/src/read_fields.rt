@@ -1,4 +1,4 @@
-// Reads numbers, truth values and other fields of a known width from the front of bytes.
+// Reads numbers, truth values and other fields of a known width from the start of bytes.
 ghost use Rattle.std.specs.Prelude.{◌≡◌, false, ◌≤◌};
 ghost use Rattle.std.specs.Int.{w64, to_be_bytes};
 ghost use Rattle.jm_base.specs.UtcDates.{IsUtcDate};
@@ -10,7 +10,7 @@ use crate::faults::Misread;
 use crate::write_fields::{LAST_SECOND, SECONDS_BEFORE_1970};
 use jm_base::UtcDate;
 
-/// Reads a number from the front of the bytes; returns it and the bytes after it.
+/// Reads a number from the start of the bytes; returns it and the bytes after it.
 pub fn read_number(bytes: &[u8]) -> Result<(u64, &[u8]), Misread>
     ensures { Gives (λ x. (x.0, x.1.now)) result (number_at bytes.now) }
 {
@@ -48,7 +48,8 @@ fn left_of(above: bool, below: bool, lows: &[u8], highs: &[u8], bytes: &[u8]) ->
     )
 }
 
-/// Reads a number from `low` to `high` from the front of the bytes; returns it and the bytes after it.
+/// Reads a number from `low` to `high` from the start of the bytes; returns it and the bytes after
+/// it.
 pub fn read_number_between(low: u64, high: u64, bytes: &[u8]) -> Result<(u64, &[u8]), Misread>
     ensures { Gives (λ x. (x.0, x.1.now)) result (number_between low high bytes.now) }
 {
@@ -66,7 +67,7 @@ pub fn read_number_between(low: u64, high: u64, bytes: &[u8]) -> Result<(u64, &[
     Err(Misread::Stuck(left_of(false, false, &lows, &highs, bytes)))
 }
 
-/// Reads a truth value from the front of the bytes; returns it and the bytes after it.
+/// Reads a truth value from the start of the bytes; returns it and the bytes after it.
 pub fn read_truth(bytes: &[u8]) -> Result<(bool, &[u8]), Misread>
     ensures { Gives (λ x. (x.0, x.1.now)) result (truth_at bytes.now) }
 {
@@ -78,7 +79,7 @@ pub fn read_truth(bytes: &[u8]) -> Result<(bool, &[u8]), Misread>
     }
 }
 
-/// Reads a date from the front of the bytes; returns it and the bytes after it.
+/// Reads a date from the start of the bytes; returns it and the bytes after it.
 pub fn read_date(bytes: &[u8]) -> Result<(UtcDate, &[u8]), Misread>
     ensures { Gives (λ x. (x.0, x.1.now)) result (date_at bytes.now) }
 {
@@ -87,7 +88,7 @@ pub fn read_date(bytes: &[u8]) -> Result<(UtcDate, &[u8]), Misread>
     Ok((UtcDate { seconds }, rest))
 }
 
-/// Reads a number or none from the front of the bytes; returns it and the bytes after it.
+/// Reads a number or none from the start of the bytes; returns it and the bytes after it.
 pub fn read_optional_number(bytes: &[u8]) -> Result<(Option<u64>, &[u8]), Misread>
     ensures { Gives (λ x. (x.0, x.1.now)) result (optional_at number_at bytes.now) }
 {
@@ -102,7 +103,7 @@ pub fn read_optional_number(bytes: &[u8]) -> Result<(Option<u64>, &[u8]), Misrea
     }
 }
 
-/// Reads a date or none from the front of the bytes; returns it and the bytes after it.
+/// Reads a date or none from the start of the bytes; returns it and the bytes after it.
 pub fn read_optional_date(bytes: &[u8]) -> Result<(Option<UtcDate>, &[u8]), Misread>
     ensures { Gives (λ x. (x.0, x.1.now)) result (optional_at date_at bytes.now) }
 {
@@ -117,7 +118,7 @@ pub fn read_optional_date(bytes: &[u8]) -> Result<(Option<UtcDate>, &[u8]), Misr
     }
 }
 
-/// Reads a byte from 1 to `last` from the front of the bytes; returns it and the bytes after it.
+/// Reads a byte from 1 to `last` from the start of the bytes; returns it and the bytes after it.
 pub fn read_tag(last: u8, bytes: &[u8]) -> Result<(u8, &[u8]), Misread>
     ensures { Gives (λ x. (x.0, x.1.now)) result (tag_at last bytes.now) }
 {

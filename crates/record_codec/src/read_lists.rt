@@ -1,4 +1,4 @@
-// Reads lists from the front of bytes.
+// Reads lists from the start of bytes.
 ghost use Rattle.std.specs.Prelude.{◌≡◌, false, []};
 ghost use Rattle.record_codec.specs.Reading.{Gives, items_at};
 ghost use Rattle.record_codec.specs.Readers.{number_at, blob_at, any_at, same, rising_number, number_after, next_number, rising_text, next_text, numbers_at, rising_numbers_at, rising_texts_at, blobs_at};
@@ -14,7 +14,8 @@ fn read_counted_numbers(
     count: u64,
     bytes: &[u8],
 ) -> Result<(Vec<u64>, &[u8]), Misread>
-    ensures { Gives (λ x. (x.0.items, x.1.now)) result (items_at (any_at number_at) same tt count bytes.now) }
+    ensures { Gives (λ x. (x.0.items, x.1.now)) result
+        (items_at (any_at number_at) same tt count bytes.now) }
 {
     let mut numbers = Vec::new(alloc);
     let mut rest = bytes;
@@ -41,7 +42,8 @@ fn read_counted_rising_numbers(
     count: u64,
     bytes: &[u8],
 ) -> Result<(Vec<u64>, &[u8]), Misread>
-    ensures { Gives (λ x. (x.0.items, x.1.now)) result (items_at rising_number next_number 0 count bytes.now) }
+    ensures { Gives (λ x. (x.0.items, x.1.now)) result
+        (items_at rising_number next_number 0 count bytes.now) }
 {
     let mut numbers = Vec::new(alloc);
     let mut rest = bytes;
@@ -60,7 +62,8 @@ fn read_counted_rising_texts(
     count: u64,
     bytes: &[u8],
 ) -> Result<(Vec<Text>, &[u8]), Misread>
-    ensures { Gives (λ x. (x.0.items, x.1.now)) result (items_at rising_text next_text (false, []) count bytes.now) }
+    ensures { Gives (λ x. (x.0.items, x.1.now)) result
+        (items_at rising_text next_text (false, []) count bytes.now) }
 {
     let mut texts = Vec::new(alloc);
     let mut rest = bytes;
@@ -81,7 +84,8 @@ fn read_counted_blobs(
     count: u64,
     bytes: &[u8],
 ) -> Result<(Vec<Bytes>, &[u8]), Misread>
-    ensures { Gives (λ x. (x.0.items, x.1.now)) result (items_at (any_at blob_at) same tt count bytes.now) }
+    ensures { Gives (λ x. (x.0.items, x.1.now)) result
+        (items_at (any_at blob_at) same tt count bytes.now) }
 {
     let mut blobs = Vec::new(alloc);
     let mut rest = bytes;
@@ -93,7 +97,8 @@ fn read_counted_blobs(
     Ok((blobs, rest))
 }
 
-/// Reads a list of numbers in any order from the front of the bytes; returns it and the bytes after it.
+/// Reads a list of numbers in any order from the start of the bytes; returns it and the bytes after
+/// it.
 pub fn read_numbers(alloc: Global, bytes: &[u8]) -> Result<(Numbers, &[u8]), Misread>
     ensures { Gives (λ x. (x.0, x.1.now)) result (numbers_at bytes.now) }
 {
@@ -102,7 +107,8 @@ pub fn read_numbers(alloc: Global, bytes: &[u8]) -> Result<(Numbers, &[u8]), Mis
     Ok((Numbers::from_vec(numbers), rest))
 }
 
-/// Reads a list of numbers that rise strictly from the front of the bytes; returns it and the bytes after it.
+/// Reads a list of numbers that rise strictly from the start of the bytes; returns it and the bytes
+/// after it.
 pub fn read_rising_numbers(alloc: Global, bytes: &[u8]) -> Result<(Numbers, &[u8]), Misread>
     ensures { Gives (λ x. (x.0, x.1.now)) result (rising_numbers_at bytes.now) }
 {
@@ -111,7 +117,8 @@ pub fn read_rising_numbers(alloc: Global, bytes: &[u8]) -> Result<(Numbers, &[u8
     Ok((Numbers::from_vec(numbers), rest))
 }
 
-/// Reads a list of texts that rise strictly from the front of the bytes; returns it and the bytes after it.
+/// Reads a list of texts that rise strictly from the start of the bytes; returns it and the bytes
+/// after it.
 pub fn read_rising_texts(alloc: Global, bytes: &[u8]) -> Result<(Texts, &[u8]), Misread>
     ensures { Gives (λ x. (x.0, x.1.now)) result (rising_texts_at bytes.now) }
 {
@@ -120,7 +127,7 @@ pub fn read_rising_texts(alloc: Global, bytes: &[u8]) -> Result<(Texts, &[u8]), 
     Ok((Texts::from_vec(texts), rest))
 }
 
-/// Reads a list of blobs from the front of the bytes; returns it and the bytes after it.
+/// Reads a list of blobs from the start of the bytes; returns it and the bytes after it.
 pub fn read_blobs(alloc: Global, bytes: &[u8]) -> Result<(Blobs, &[u8]), Misread>
     ensures { Gives (λ x. (x.0, x.1.now)) result (blobs_at bytes.now) }
 {

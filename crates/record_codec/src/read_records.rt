@@ -1,4 +1,4 @@
-// Reads records and edits from the front of bytes.
+// Reads records and edits from the start of bytes.
 ghost use Rattle.record_codec.specs.Reading.{Gives, items_at};
 ghost use Rattle.record_codec.specs.Readers.{any_at, same, summary_at, mailbox_at, email_at, thread_at, put_mailbox_at, drop_mailbox_at, put_email_at, drop_email_at, put_thread_at, drop_thread_at, edit_at, edits_at};
 
@@ -157,7 +157,8 @@ fn read_counted_edits(
     count: u64,
     bytes: &[u8],
 ) -> Result<(Vec<Edit>, &[u8]), Misread>
-    ensures { Gives (λ x. (x.0.items, x.1.now)) result (items_at (any_at edit_at) same tt count bytes.now) }
+    ensures { Gives (λ x. (x.0.items, x.1.now)) result
+        (items_at (any_at edit_at) same tt count bytes.now) }
 {
     let mut edits = Vec::new(alloc);
     let mut rest = bytes;
@@ -169,7 +170,7 @@ fn read_counted_edits(
     Ok((edits, rest))
 }
 
-/// Reads a list of edits from the front of the bytes; returns it and the bytes after it.
+/// Reads a list of edits from the start of the bytes; returns it and the bytes after it.
 pub fn read_edits(alloc: Global, bytes: &[u8]) -> Result<(Edits, &[u8]), Misread>
     ensures { Gives (λ x. (x.0, x.1.now)) result (edits_at bytes.now) }
 {

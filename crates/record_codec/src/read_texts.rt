@@ -1,4 +1,4 @@
-// Reads strings and blobs from the front of bytes.
+// Reads strings and blobs from the start of bytes.
 ghost use Rattle.std.specs.Prelude.{◌≡◌, ◌≤◌, ◌-◌, true, false, Some, slice_get, MatchOption};
 ghost use Rattle.record_codec.specs.NextBytes.{rest_above, text_rest_after, left_in_text, at_first};
 ghost use Rattle.record_codec.specs.Reading.{Gives};
@@ -10,8 +10,9 @@ use crate::utf8::{CharacterRest, START, least_above, turns_of};
 use jm_base::Text;
 use std::alloc::Global;
 
-/// What is still to come of a string: `room` more bytes, and the rest of its character. If it is `tight`, its bytes up to here
-/// are those of its bound, which it still has to pass; it can do so up to the byte `turn`, counted from 1 from here.
+/// What is still to come of a string: `room` more bytes, and the rest of its character. If it is
+/// `tight`, its bytes up to here are those of its bound, which it still has to pass; it can do so
+/// up to the byte `turn`, counted from 1 from here.
 #[derive(Clone, Copy, Debug, PartialEq, Eq)]
 pub struct TextRest {
     pub follow: CharacterRest,
@@ -23,7 +24,12 @@ pub struct TextRest {
 impl TextRest {
     fn free(self, follow: CharacterRest) -> Option<TextRest>
         requires { 1 ≤ self.room }
-        ensures { result ≡ Some (record { follow = follow; room = self.room - 1; tight = false; turn = 0 }) }
+        ensures { result ≡ Some (record {
+          follow = follow;
+          room = self.room - 1;
+          tight = false;
+          turn = 0;
+        }) }
     {
         Some(TextRest {
             follow,
@@ -54,7 +60,8 @@ impl TextRest {
         })
     }
 
-    /// Returns what is still to come after the byte, given the bound's byte at the same index, or None if no string goes on so.
+    /// Returns what is still to come after the byte, given the bound's byte at the same index, or
+    /// None if no string continues so.
     pub fn after(self, bound: Option<u8>, byte: u8) -> Option<TextRest>
         ensures { result ≡ text_rest_after self bound byte }
     {
@@ -79,7 +86,8 @@ fn byte_at(bytes: &[u8], at: usize) -> Option<u8>
     None
 }
 
-/// Returns how many bytes are left where no string of so many bytes goes on that is above the bound.
+/// Returns how many bytes are left where no string of so many bytes continues that is above the
+/// bound.
 fn left_of_text(room: u64, tight: bool, bound: &[u8], bytes: &[u8]) -> usize
     ensures { result ≡ left_in_text (at_first room tight bound.now) bound.now bytes.now }
 {
@@ -105,7 +113,8 @@ fn is_above(tight: bool, bound: &[u8], text: &[u8]) -> bool
 }
 
 fn text_in<'a>(tight: bool, bound: &[u8], bytes: &'a [u8]) -> Option<&'a str>
-    ensures { MatchOption result (is_text_above tight bound.now bytes.now ≡ false) (λ t. (t.now ≡ bytes.now) × (is_text_above tight bound.now bytes.now ≡ true)) }
+    ensures { MatchOption result (is_text_above tight bound.now bytes.now ≡ false)
+        (λ t. (t.now ≡ bytes.now) × (is_text_above tight bound.now bytes.now ≡ true)) }
 {
     match str::from_utf8(bytes) {
         Ok(text) => {
@@ -146,7 +155,8 @@ fn least_of(tight: bool, bound: &[u8]) -> u64
     0
 }
 
-/// Reads a text, above the bound where it is `tight` from the front of the bytes; returns it and the bytes after it.
+/// Reads a text, above the bound where it is `tight` from the start of the bytes; returns it and
+/// the bytes after it.
 pub fn read_str_above<'a>(
     tight: bool,
     bound: &[u8],
@@ -158,7 +168,7 @@ pub fn read_str_above<'a>(
     read_content(room, tight, bound, rest)
 }
 
-/// Reads a text from the front of the bytes; returns it and the bytes after it.
+/// Reads a text from the start of the bytes; returns it and the bytes after it.
 pub fn read_text(alloc: Global, bytes: &[u8]) -> Result<(Text, &[u8]), Misread>
     ensures { Gives (λ x. (x.0, x.1.now)) result (text_at bytes.now) }
 {
@@ -166,7 +176,7 @@ pub fn read_text(alloc: Global, bytes: &[u8]) -> Result<(Text, &[u8]), Misread>
     Ok((Text::from_str(alloc, text)?, rest))
 }
 
-/// Reads a text or none from the front of the bytes; returns it and the bytes after it.
+/// Reads a text or none from the start of the bytes; returns it and the bytes after it.
 pub fn read_optional_text(alloc: Global, bytes: &[u8]) -> Result<(Option<Text>, &[u8]), Misread>
     ensures { Gives (λ x. (x.0, x.1.now)) result (optional_at text_at bytes.now) }
 {
@@ -181,7 +191,7 @@ pub fn read_optional_text(alloc: Global, bytes: &[u8]) -> Result<(Option<Text>, 
     }
 }
 
-/// Reads the bytes of a blob from the front of the bytes; returns it and the bytes after it.
+/// Reads the bytes of a blob from the start of the bytes; returns it and the bytes after it.
 pub fn read_blob(bytes: &[u8]) -> Result<(&[u8], &[u8]), Misread>
     ensures { Gives (λ x. (x.0.now, x.1.now)) result (blob_at bytes.now) }
 {

@@ -67,7 +67,8 @@ fn add_optional_date(sum: u64, value: &Option<UtcDate>) -> u64
     }
 }
 
-// The sum with the bytes of a mailbox: besides the name, the parent and the role, its six numbers and one truth value.
+// The sum with the bytes of a mailbox: besides the name, the parent and the role, its six numbers
+// and one truth value.
 #[tactic(auto, using(crate::proofs::Lengths::mailbox_size))]
 fn add_mailbox(sum: u64, m: &Mailbox) -> u64
     ensures { result ≡ capped (sum + length (mailbox m.now)) }
@@ -88,7 +89,8 @@ fn add_summary(sum: u64, s: &Summary) -> u64
     add_optional_date(to, &s.sent).saturating_add(1)
 }
 
-// The sum with the bytes of an email: besides its mailboxes, keywords and summary, its four numbers and its date.
+// The sum with the bytes of an email: besides its mailboxes, keywords and summary, its four numbers
+// and its date.
 #[tactic(auto, using(crate::proofs::Lengths::email_size))]
 fn add_email(sum: u64, e: &Email) -> u64
     ensures { result ≡ capped (sum + length (email e.now)) }
@@ -120,8 +122,9 @@ fn add_edit(sum: u64, change: &Edit) -> u64
     }
 }
 
-/// Returns how many bytes the encodings of the edits take together, as [`encode`](crate::encode) writes them: not their
-/// count. Where the sum doesn't fit in 64 bits it is 2^64 - 1. It takes no memory.
+/// Returns how many bytes the encodings of the edits take together, as [`encode`](crate::encode)
+/// writes them: not their count. Where the sum doesn't fit in 64 bits it is 2^64 - 1. It takes no
+/// memory.
 pub fn edit_bytes(edits: &[Edit]) -> u64
     ensures { result ≡ capped (edit_bytes edits.now) }
 {

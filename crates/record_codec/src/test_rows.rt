@@ -1,5 +1,6 @@
-// Bytes that are read, and bytes that are refused, with the place of the first byte at which no commit goes on.
-// `bench/codec_places` finds the same places without a decoder of ours, and says whether a row here differs.
+// Bytes that are read, and bytes that are refused, with the place of the first byte at which no
+// commit continues. `bench/codec_places` finds the same places without a decoder of ours, and says
+// whether a row here differs.
 
 /// Spellings of commits. `#5` is the number 5, and other words are hexadecimal digits.
 pub const READ: [&str; 6] = [
@@ -98,7 +99,7 @@ pub const REFUSED: [(&str, u64); 95] = [
         "01 #1 #1 #0 #1 03 #1 #2 #3 #1 #1 #2 #3 616263 #2 6162 #9 #63713520000 #0 #1 73 #0 #0 00 00 00",
         102,
     ),
-    // an empty text behind another
+    // an empty text after another
     (
         "01 #1 #1 #0 #1 03 #1 #2 #3 #1 #1 #2 #0 #0 #9 #63713520000 #0 #1 73 #0 #0 00 00 00",
         97,
@@ -254,7 +255,7 @@ pub const REFUSED: [(&str, u64); 95] = [
         "01 #1 #1 #0 #1 03 #1 #2 #3 #1 #1 #2 #1 61 #1 c3 #9 #63713520000 #0 #1 73 #0 #0 00 00 00",
         99,
     ),
-    // a greater lead byte that the length cuts off, behind equal bytes
+    // a greater lead byte that the length cuts off, after equal bytes
     (
         "01 #1 #1 #0 #1 03 #1 #2 #3 #1 #1 #2 #3 61dfbe #3 61e0a0 #9 #63713520000 #0 #1 73 #0 #0 00 00 00",
         102,

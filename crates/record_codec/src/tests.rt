@@ -182,7 +182,7 @@ fn told_edit(alloc: Global, edit: &Edit) -> Result<String, NoMemory> {
     }
 }
 
-// Each field has a value of its own, so that none stands in the place of another.
+// Each field has a value of its own, so that none is in the place of another.
 #[test]
 fn fields_stand_in_their_order(rt: HostRuntime) -> Result<(), Fail> {
     let alloc = rt.alloc();

@@ -1,8 +1,10 @@
-// The bytes of characters in UTF-8 (RFC 3629, section 4): what may follow, and what could replace them.
+// The bytes of characters in UTF-8 (RFC 3629, section 4): what may follow, and what could replace
+// them.
 ghost use Rattle.std.specs.Prelude.{◌≡◌, ◌+◌, ◌-◌, ◌<◌, ◌^◌, Some, length, if◌then◌else◌};
 ghost use Rattle.record_codec.specs.NextBytes.{after_lead, after_byte, start, top_lead, can_rise, rise_cost, turns, less_of, least_length};
 
-/// The rest of a character: `more` bytes, the next of them from `low` to `high`. If none is left, a character may begin.
+/// The rest of a character: `more` bytes, the next of them from `low` to `high`. If none is left, a
+/// character may begin.
 #[derive(Clone, Copy, Debug, PartialEq, Eq)]
 pub struct CharacterRest {
     pub more: u8,
@@ -53,7 +55,8 @@ impl CharacterRest {
         None
     }
 
-    /// Returns whether a greater byte can replace this one, in a string that ends after so many bytes from here.
+    /// Returns whether a greater byte can replace this one, in a string that ends after so many
+    /// bytes from here.
     pub fn can_rise(self, room: u64, byte: u8) -> bool
         ensures { result ≡ can_rise self room byte }
     {
@@ -63,7 +66,8 @@ impl CharacterRest {
         self.more as u64 <= room && byte < self.high
     }
 
-    /// Returns how many bytes at least a string has from here on that has a greater byte in place of this one; 0 if none has.
+    /// Returns how many bytes at least a string has from here on that has a greater byte in place
+    /// of this one; 0 if none has.
     pub fn rise_cost(self, byte: u8) -> usize
         ensures { result ≡ rise_cost self byte }
     {
@@ -112,8 +116,8 @@ fn turned(turn: usize, at: usize, rises: bool) -> usize
     if rises { at + 1 } else { turn }
 }
 
-/// Returns up to which byte of the string, counted from 1, a string of so many bytes can be the same and yet be greater: 0 if
-/// no string of so many bytes is greater.
+/// Returns up to which byte of the string, counted from 1, a string of so many bytes can be the
+/// same and yet be greater: 0 if no string of so many bytes is greater.
 pub fn turns_of(room: u64, text: &[u8]) -> usize
     ensures { result ≡ turns (Some start) room text.now }
 {

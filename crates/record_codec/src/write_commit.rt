@@ -11,8 +11,8 @@ use jm_base::{Bytes, NoMemory};
 use mail_records::Commit;
 use std::alloc::Global;
 
-/// Returns the one encoding of a commit that is formed. [`decode`](crate::decode) gives the commit back
-/// ([`read_back`](crate::read_back)).
+/// Returns the one encoding of a commit that is formed. [`decode`](crate::decode) gives the commit
+/// back ([`read_back`](crate::read_back)).
 pub fn encode(alloc: Global, commit: &Commit) -> Result<Bytes, NoMemory>
     requires { IsFormed commit.now }
     ensures bytes { IfOk result (λ bytes. bytes ≡ encoding commit.now) }

@@ -15,7 +15,8 @@ fn write_mailbox_edit(
     was: bool,
     counts: bool,
 ) -> Result<(), NoMemory>
-    ensures { OnOk result (out.new.items ≡ out.old.items ++ (mailbox item.now ++ (truth was ++ truth counts))) }
+    ensures { OnOk result (out.new.items ≡ out.old.items
+        ++ (mailbox item.now ++ (truth was ++ truth counts))) }
 {
     write_mailbox(out, item)?;
     write_truth(out, was)?;

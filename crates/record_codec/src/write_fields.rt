@@ -42,7 +42,8 @@ pub fn write_truth(out: &mut Vec<u8>, value: bool) -> Result<(), NoMemory>
     Ok(())
 }
 
-/// Writes a date at the end of the bytes: its seconds from the beginning of the year 1, as a number.
+/// Writes a date at the end of the bytes: its seconds from the beginning of the year 1, as a
+/// number.
 pub fn write_date(out: &mut Vec<u8>, value: &UtcDate) -> Result<(), NoMemory>
     requires { IsUtcDate value.now }
     ensures { OnOk result (out.new.items ≡ out.old.items ++ date value.now) }

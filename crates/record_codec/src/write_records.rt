@@ -68,7 +68,8 @@ pub fn write_email(out: &mut Vec<u8>, e: &Email) -> Result<(), NoMemory>
     write_message(out, e)
 }
 
-/// Writes a thread at the end of the bytes: its number, and the list of its emails (RFC 8621, section 3).
+/// Writes a thread at the end of the bytes: its number, and the list of its emails (RFC 8621,
+/// section 3).
 pub fn write_thread(out: &mut Vec<u8>, t: &Thread) -> Result<(), NoMemory>
     ensures { OnOk result (out.new.items ≡ out.old.items ++ thread t.now) }
 {

@@ -1,4 +1,4 @@
--- What a log keeps of each edit, and what it tells of states.
+-- What a log keeps of each edit, and what it shows of states.
 use Rattle.std.specs.Prelude.{◌≡◌, ℕ, ◌+◌, ◌<◌, ◌^◌, Bool, false, true, List, [], ◌∷◌, length, map, if◌then◌else◌}
 use Rattle.jm_base.specs.declared.identifiers.Id.{Id}
 use Rattle.jm_base.specs.declared.identifiers.Kind.{Kind}
@@ -65,8 +65,8 @@ pub record IsLogOf (h : History) (l : Notes) : Type 0 where
   pub floors : l.floors ≡ h.floors
   pub notes : l.notes ≡ map note_of (edits_of h)
 
--- what the fields of a log keep: its last position is of 64 bits, each kind's floor position is at most the floor, and the
--- state of each kind is known
+-- what the fields of a log keep: its last position is of 64 bits, each kind's floor position is at
+-- most the floor, and the state of each kind is known
 pub record Keeps (floor : ℕ) (floors states : Floors) (notes : List Note) : Type 0 where
   pub short : floor + length notes < 2 ^ 64
   pub low : FloorsAtMost floors floor
@@ -77,4 +77,5 @@ pub record Keeps (floor : ℕ) (floors states : Floors) (notes : List Note) : Ty
 -- the numbers of a kind among ids, in order
 abbrev pub numbers_named : Kind → List Id → List ℕ
 numbers_named kind [] = []
-numbers_named kind (i ∷ is) = if is_kind kind i.kind then i.number ∷ numbers_named kind is else numbers_named kind is
+numbers_named kind (i ∷ is) =
+    if is_kind kind i.kind then i.number ∷ numbers_named kind is else numbers_named kind is

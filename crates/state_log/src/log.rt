@@ -21,8 +21,8 @@ struct Positions {
     thread: u64,
 }
 
-/// The log of an account. Contracts see its floor, each kind's position there, the notes of the edits since, and
-/// `spare`: for how many more notes room stands ready.
+/// The log of an account. Contracts see its floor, each kind's position there, the notes of the
+/// edits since, and `spare`: for how many more notes room is reserved.
 #[derive(Drop)]
 pub struct Log {
     floor: u64,
@@ -52,7 +52,11 @@ impl Model for Log {
 
 // The position of a kind.
 fn position_of(positions: &Positions, kind: Kind) -> u64
-    ensures { result ≡ floor_of (record { mailbox = positions.now.mailbox; email = positions.now.email; thread = positions.now.thread }) kind }
+    ensures { result ≡ floor_of (record {
+      mailbox = positions.now.mailbox;
+      email = positions.now.email;
+      thread = positions.now.thread;
+    }) kind }
 {
     match kind {
         Kind::Mailbox => positions.mailbox,
@@ -63,9 +67,11 @@ fn position_of(positions: &Positions, kind: Kind) -> u64
 
 // The positions with that of one kind moved.
 fn moved(positions: Positions, kind: Kind, position: u64) -> Positions
-    ensures mailbox { result.mailbox ≡ (if is_kind Kind.Mailbox kind then position else positions.mailbox) }
+    ensures mailbox { result.mailbox ≡ (if is_kind Kind.Mailbox kind then position
+        else positions.mailbox) }
     ensures email { result.email ≡ (if is_kind Kind.Email kind then position else positions.email) }
-    ensures thread { result.thread ≡ (if is_kind Kind.Thread kind then position else positions.thread) }
+    ensures thread { result.thread ≡ (if is_kind Kind.Thread kind then position
+        else positions.thread) }
 {
     match kind {
         Kind::Mailbox => Positions {
@@ -84,11 +90,13 @@ fn moved(positions: Positions, kind: Kind, position: u64) -> Positions
 }
 
 impl Log {
-    /// A log without notes that begins at this floor, with the positions of the kinds there. It takes no memory.
+    /// A log without notes that begins at this floor, with the positions of the kinds there. It
+    /// takes no memory.
     pub fn new(alloc: Global, floor: u64, mailbox: u64, email: u64, thread: u64) -> Log
         requires { (mailbox ≤ floor) × (email ≤ floor) × (thread ≤ floor) }
         ensures floor { result.floor ≡ floor }
-        ensures floors { result.floors ≡ record { mailbox = mailbox; email = email; thread = thread } }
+        ensures floors { result.floors ≡ record
+            { mailbox = mailbox; email = email; thread = thread } }
         ensures notes { result.notes ≡ [] }
     {
         let floors = Positions {
@@ -113,15 +121,18 @@ impl Log {
 
     /// The state of a kind: the position of its last edit, else its position at the floor.
     pub fn state_of(&self, kind: Kind) -> u64
-        ensures state { result ≡ last_position kind self.now.floor self.now.floors (ids_in self.now.notes) }
+        ensures state { result ≡ last_position kind self.now.floor self.now.floors
+            (ids_in self.now.notes) }
         ensures reached { (floor_of self.now.floors kind ≤ result) × (result ≤ log_end self.now) }
     {
         position_of(&self.states, kind)
     }
 
-    /// The state of a kind at a position: the position of its last edit up to there, else its position at the floor.
+    /// The state of a kind at a position: the position of its last edit up to there, else its
+    /// position at the floor.
     pub fn state_at(&self, kind: Kind, position: u64) -> u64
-        ensures state { result ≡ last_position kind self.now.floor self.now.floors (take (position - self.now.floor) (ids_in self.now.notes)) }
+        ensures state { result ≡ last_position kind self.now.floor self.now.floors
+            (take (position - self.now.floor) (ids_in self.now.notes)) }
         ensures reached { (floor_of self.now.floors kind ≤ result) × (result ≤ log_end self.now) }
     {
         match last_place(self.notes_upto(position), kind) {
@@ -141,14 +152,17 @@ impl Log {
         &self.notes[..count as usize]
     }
 
-    /// Whether all edits of a kind after a position are known: it is from the kind's position at the floor to the end.
+    /// Whether all edits of a kind after a position are known: it is from the kind's position at
+    /// the floor to the end.
     pub fn reaches(&self, kind: Kind, position: u64) -> bool
-        ensures { IsTrue result ↔ ((floor_of self.now.floors kind ≤ position) × (position ≤ log_end self.now)) }
+        ensures { IsTrue result ↔ ((floor_of self.now.floors kind ≤ position)
+            × (position ≤ log_end self.now)) }
     {
         position_of(&self.floors, kind) <= position && position <= self.end()
     }
 
-    /// The numbers that the edits of a kind after one position, and up to another, name, in number order.
+    /// The numbers that the edits of a kind after one position, and up to another, name, in number
+    /// order.
     pub fn touched(
         &self,
         alloc: Global,
@@ -158,7 +172,8 @@ impl Log {
     ) -> Result<Numbers, NoMemory>
         requires order { from ≤ upto }
         requires within { upto ≤ log_end self.now }
-        ensures { IfOk result (AreNamed kind (ids_between self.now.floor from upto (ids_in self.now.notes))) }
+        ensures { IfOk result (AreNamed kind (ids_between self.now.floor from upto
+            (ids_in self.now.notes))) }
     {
         touched_in(alloc, self.notes_between(from, upto), kind)
     }
@@ -167,7 +182,8 @@ impl Log {
     pub fn notes_between(&self, from: u64, upto: u64) -> &[Note]
         requires order { from ≤ upto }
         requires within { upto ≤ log_end self.now }
-        ensures { result.now ≡ drop (from - self.now.floor) (take (upto - self.now.floor) self.now.notes) }
+        ensures { result.now ≡ drop (from - self.now.floor)
+            (take (upto - self.now.floor) self.now.notes) }
     {
         let first = from.saturating_sub(self.floor) as usize;
         let notes = self.notes_upto(upto);
@@ -178,7 +194,8 @@ impl Log {
     pub fn note(&self, position: u64) -> Note
         requires above { self.now.floor < position }
         requires within { position ≤ log_end self.now }
-        ensures { (d : TheNote) → result ≡ slice_index_or self.now.notes (position - self.now.floor - 1) d }
+        ensures { (d : TheNote) → result ≡ slice_index_or self.now.notes
+            (position - self.now.floor - 1) d }
     {
         self.notes[(position - self.floor - 1) as usize]
     }
@@ -196,7 +213,8 @@ impl Log {
     /// Adds a note of an edit. Where there is no memory for it, all but the room is as before.
     pub fn push(&mut self, edit: &Edit) -> Result<(), NoMemory>
         requires { log_end self.old + 1 < 2 ^ 64 }
-        ensures ok { OnOk result (self.new ≡ record self.old { notes = self.old.notes ++ note_of edit.now ∷ []; spare = self.new.spare }) }
+        ensures ok { OnOk result (self.new ≡ record self.old
+            { notes = self.old.notes ++ note_of edit.now ∷ []; spare = self.new.spare }) }
         ensures err { OnErr result (self.new ≡ record self.old { spare = self.new.spare }) }
     {
         self.notes.reserve(1)?;
@@ -204,11 +222,12 @@ impl Log {
         Ok(())
     }
 
-    /// Adds a note of an edit, for which room stands ready. It takes no memory.
+    /// Adds a note of an edit, for which room is reserved. It takes no memory.
     pub fn push_ready(&mut self, edit: Edit)
         requires room { 1 ≤ self.old.spare }
         requires short { log_end self.old + 1 < 2 ^ 64 }
-        ensures pushed { self.new ≡ record self.old { notes = self.old.notes ++ note_of edit ∷ []; spare = self.new.spare } }
+        ensures pushed { self.new ≡ record self.old
+            { notes = self.old.notes ++ note_of edit ∷ []; spare = self.new.spare } }
         ensures spare { self.old.spare ≤ self.new.spare + 1 }
     {
         self.note_ready(&edit);
@@ -218,7 +237,8 @@ impl Log {
     pub fn note_ready(&mut self, edit: &Edit)
         requires room { 1 ≤ self.old.spare }
         requires short { log_end self.old + 1 < 2 ^ 64 }
-        ensures pushed { self.new ≡ record self.old { notes = self.old.notes ++ note_of edit.now ∷ []; spare = self.new.spare } }
+        ensures pushed { self.new ≡ record self.old
+            { notes = self.old.notes ++ note_of edit.now ∷ []; spare = self.new.spare } }
         ensures spare { self.old.spare ≤ self.new.spare + 1 }
     {
         let note = note_of(edit);
@@ -228,11 +248,14 @@ impl Log {
     }
 }
 
-/// Adds notes of edits in order, for which room stands ready. It takes no memory.
+/// Adds notes of edits in order, for which room is reserved. It takes no memory.
 pub fn note_all_ready(log: &mut Log, edits: &[Edit])
     requires room { length edits.now ≤ log.old.spare }
     requires short { log_end log.old + length edits.now < 2 ^ 64 }
-    ensures noted { log.new ≡ record log.old { notes = log.old.notes ++ map note_of edits.now; spare = log.new.spare } }
+    ensures noted { log.new ≡ record log.old {
+      notes = log.old.notes ++ map note_of edits.now;
+      spare = log.new.spare;
+    } }
     ensures spare { log.old.spare ≤ log.new.spare + length edits.now }
 {
     for edit in edits {

@@ -25,7 +25,14 @@ pub struct Note {
 
 // A note of an edit that puts a record.
 fn put_note(kind: Kind, number: u64, thread: Option<u64>, was: bool, counts: bool) -> Note
-    ensures { result ≡ record { kind = kind; number = number; thread = thread; put = true; was = was; counts = counts } }
+    ensures { result ≡ record {
+      kind = kind;
+      number = number;
+      thread = thread;
+      put = true;
+      was = was;
+      counts = counts;
+    } }
 {
     Note {
         kind,
@@ -39,7 +46,14 @@ fn put_note(kind: Kind, number: u64, thread: Option<u64>, was: bool, counts: boo
 
 // A note of an edit that drops a record.
 fn drop_note(kind: Kind, number: u64, thread: Option<u64>) -> Note
-    ensures { result ≡ record { kind = kind; number = number; thread = thread; put = false; was = true; counts = false } }
+    ensures { result ≡ record {
+      kind = kind;
+      number = number;
+      thread = thread;
+      put = false;
+      was = true;
+      counts = false;
+    } }
 {
     Note {
         kind,

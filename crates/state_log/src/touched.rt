@@ -25,7 +25,8 @@ fn numbers_named(alloc: Global, notes: &[Note], kind: Kind) -> Result<Vec<u64>, 
 // In number order, each once.
 fn put_in_order(numbers: &mut Vec<u64>)
     ensures rise { IsStrictlyIncreasing numbers.new.items }
-    ensures same { (n : ℕ) → list_any (λ x. x == n) numbers.new.items ≡ list_any (λ x. x == n) numbers.old.items }
+    ensures same { (n : ℕ) → list_any (λ x. x == n) numbers.new.items
+        ≡ list_any (λ x. x == n) numbers.old.items }
 {
     numbers.sort_unstable();
     numbers.dedup();

@@ -11,7 +11,7 @@ ghost use Rattle.thread_assign.specs.Related.{AreRelated, Decides, HaveSameLinks
 
 /// The thread that a new email joins is that of the least numbered email that has one of its links
 /// and its subject, and there is one if and only if there is such an email. The order of the links,
-/// and how often each stands in the summary, do not matter (RFC 8621, section 3).
+/// and how often each is in the summary, do not matter (RFC 8621, section 3).
 pub fn least_related_email_decides()
     ensures decided { (emails : List Email) (s : Summary) (t : ℕ) → IsTable email_number emails
         → joined_thread emails s ≡ Some t → (e : Email) × Decides emails s e × (e.thread ≡ t) }

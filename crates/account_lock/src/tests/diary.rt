@@ -1,4 +1,4 @@
-// The simplest value with a history, and one turn at it: the value that the tests put behind the lock.
+// The simplest value with a history, and one turn at it: the value that the tests lock.
 ghost use Rattle.std.specs.Prelude.{◌≡◌, ◌++◌, ◌∷◌, [], true, false, OnOk, OnErr, map};
 ghost use Rattle.mail_records.specs.Histories.{Refused};
 ghost use Rattle.account_lock.specs.Entries.{StartsWith};
@@ -10,7 +10,8 @@ use std::alloc::Global;
 use std::marker::Model;
 use std::sync::Wait;
 
-/// A list of stamps, each of which is the entry of a refused change. It has no entries before its start.
+/// A list of stamps, each of which is the entry of a refused change. It has no entries before its
+/// start.
 #[derive(Drop)]
 pub struct Diary {
     stamps: Vec<Stamp>,
@@ -63,8 +64,8 @@ impl Diary {
     }
 }
 
-/// Waits for the diary, enters a stamp of the pass's name with this serial number, and gives the diary back. If memory runs out,
-/// no stamp is entered.
+/// Waits for the diary, enters a stamp of the pass's name with this serial number, and gives the
+/// diary back. If memory runs out, no stamp is entered.
 pub fn enter_in_turn<R: Wait>(
     rt: &R,
     lock: &AccountLock<Diary>,

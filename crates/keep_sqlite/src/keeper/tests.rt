@@ -175,7 +175,8 @@ fn counts<S: Alter + Drop, O: Opens<S>>(keeper: &SqliteKeeper<S, O>) -> [u64; 3]
     ]
 }
 
-// whether each step comes as it says, and so many calls of `load`, `append` and `replace` were refused; it is closed then
+// whether each step comes as it says, and so many calls of `load`, `append` and `replace` were
+// refused; it is closed then
 fn goes<S: Alter + Drop + Send, O: Opens<S> + Send>(
     rt: &HostRuntime,
     mut keeper: SqliteKeeper<S, O>,
@@ -303,7 +304,7 @@ fn make(rt: &HostRuntime, path: &str, more: &str) -> Result<(), Error> {
     Ok(())
 }
 
-// the bytes of the file in the folder of other forms, and of the log beside it
+// the bytes of the file in the folder of other forms, and of the log next to it
 fn files_of_forms(rt: &HostRuntime) -> io::Result<(Vec<u8>, Vec<u8>)> {
     let file = fs::read(rt, "keep_sqlite_forms/a.sqlite")?;
     let log = fs::read(rt, "keep_sqlite_forms/a.sqlite-wal")?;

@@ -1,5 +1,5 @@
 use Rattle.std.proofs.Common.{◌≡◌, true, OnOk, sym, subst, arith}
-use Rattle.mime_type.specs.Forest.{Forest}
+use Rattle.mime_type.specs.PartTrees.{PartTrees}
 use Rattle.mime_type.specs.Joined.{node_of}
 use Rattle.body_lists.specs.Lists.{Lists, both, given, inside, ended}
 use Rattle.body_lists.specs.Shown.{lists_of, open_of, place_of}
@@ -17,7 +17,7 @@ add_part-returns t c =
     subst (λ (l : Lists). OnOk c.end.result (lists_of c.end.new.self ≡ both out l)) (sym same)
     (subst (λ p. OnOk c.end.result (lists_of c.end.new.self ≡ both out (ended p taking (given p true taking c.args.part.now.parts)))) c.inside-place.ensures
     (c.end.ensures out (given (place_of c.inside-place.result) true taking c.args.part.now.parts)
-    (subst (λ (f : Forest). lists_of c.add_parts.new.out ≡ both out (given (place_of c.inside-place.result) true taking f)) c.as_slice.ensures c.in_ok-add_parts.ensures)
+    (subst (λ (f : PartTrees). lists_of c.add_parts.new.out ≡ both out (given (place_of c.inside-place.result) true taking f)) c.as_slice.ensures c.in_ok-add_parts.ensures)
     (sym c.len-text.ensures) (sym c.len-html.ensures)))
 
 pub add_parts-add_part-requires : goal.add_parts-add_part-requires

@@ -1,15 +1,15 @@
 use Rattle.std.proofs.Common.{◌≡◌, true, ◌+◌, ◌*◌, drop}
-use Rattle.mime_type.specs.Forest.{none, forest_size}
+use Rattle.mime_type.specs.PartTrees.{none, part_count}
 use Rattle.mime_type.specs.Joined.{tree_of, joined}
 use Rattle.body_lists.specs.Lists.{both, given}
 use Rattle.body_lists.specs.Shown.{lists_of, open_of, place_of}
 use Rattle.body_lists.proofs.walk.+lists.Given as goal
 
 abbrev pub decreases-add_part : goal.decreases-add_part
-decreases-add_part l = 2 * forest_size (tree_of l.part.now none)
+decreases-add_part l = 2 * part_count (tree_of l.part.now none)
 
 abbrev pub decreases-add_parts : goal.decreases-add_parts
-decreases-add_parts l = 2 * forest_size (joined l.parts.now none) + 1
+decreases-add_parts l = 2 * part_count (joined l.parts.now none) + 1
 
 abbrev pub invariant-add_parts-loop-part : goal.invariant-add_parts-loop-part
 invariant-add_parts-loop-part l =

@@ -4,7 +4,7 @@ use Rattle.std.proofs.lemmas.Str.{chars_past_char, IsUtf8-past_char}
 use Rattle.mail_summary.specs.Texts.{behind, spaced}
 use Rattle.mail_summary.proofs.Fronts.{take_front, at_end}
 use Rattle.mail_summary.proofs.characters.front_spaced.Goals as goal
-use Rattle.mail_summary.proofs.characters.front_spaced.Goals.{in-None, in-Some+then-len-gt-MOST}
+use Rattle.mail_summary.proofs.characters.front_spaced.Goals.{in-None, in-Some+then-len-gt-MAX_SHOWN_CHARACTERS}
 
 pub loop-c-preserved : goal.loop-c-preserved
 loop-c-preserved c =
@@ -20,5 +20,5 @@ loop-c-preserved c =
 pub returns : goal.returns
 returns c = elim c.match-next.branch [
   | in-None w ↦ at_end _ _ _ _ w.in-None.ensures.steps.0.0 c.loop-c.invariant.same
-  | in-Some+then-len-gt-MOST w ↦ take_front 257 _ _ (omega (arith, w.if-len-gt-MOST)) ∙ ap (λ cs. take 257 cs) c.loop-c.invariant.same
+  | in-Some+then-len-gt-MAX_SHOWN_CHARACTERS w ↦ take_front 257 _ _ (omega (arith, w.if-len-gt-MAX_SHOWN_CHARACTERS)) ∙ ap (λ cs. take 257 cs) c.loop-c.invariant.same
 ]

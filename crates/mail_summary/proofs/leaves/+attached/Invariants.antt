@@ -1,16 +1,16 @@
 use Rattle.std.proofs.Common.{◌≡◌, ◌+◌, ◌*◌, drop}
 use Rattle.std.specs.List.{list_any}
-use Rattle.mime_type.specs.Forest.{none, forest_size}
+use Rattle.mime_type.specs.PartTrees.{none, part_count}
 use Rattle.mime_type.specs.Joined.{tree_of, joined}
 use Rattle.mime_tree.specs.Kept.{walked}
 use Rattle.mail_summary.specs.Leaves.{shows_attachment}
 use Rattle.mail_summary.proofs.leaves.+attached.Given as goal
 
 abbrev pub decreases-any_shows : goal.decreases-any_shows
-decreases-any_shows l = 2 * forest_size (tree_of l.part.now none)
+decreases-any_shows l = 2 * part_count (tree_of l.part.now none)
 
 abbrev pub decreases-any_shows_within : goal.decreases-any_shows_within
-decreases-any_shows_within l = 2 * forest_size (joined l.parts.now none) + 1
+decreases-any_shows_within l = 2 * part_count (joined l.parts.now none) + 1
 
 abbrev pub invariant-any_shows_within-loop-part : goal.invariant-any_shows_within-loop-part
 invariant-any_shows_within-loop-part l =

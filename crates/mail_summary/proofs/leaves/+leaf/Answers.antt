@@ -1,6 +1,6 @@
 use Rattle.std.proofs.Common.{◌+◌, drop, sym, ap, ◌∙◌, arith}
 use Rattle.std.specs.Option.{option_map, option_or}
-use Rattle.mime_type.specs.Forest.{none}
+use Rattle.mime_type.specs.PartTrees.{none}
 use Rattle.mime_type.specs.Joined.{joined}
 use Rattle.mail_summary.specs.Leaves.{leaf_numbered}
 use Rattle.mail_summary.specs.Shown.{node_in}

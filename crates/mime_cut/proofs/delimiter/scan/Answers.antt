@@ -2,10 +2,10 @@ use Rattle.std.proofs.Common.{◌≡◌, ◌+◌, length, sym, ap, ◌∙◌, ar
 use Rattle.std.proofs.lemmas.List.{length-take-le}
 use Rattle.mime_lines.specs.Lines.{lines, text}
 use Rattle.mime_lines.proofs.ScanFacts.{front_more}
-use Rattle.mime_cut.specs.declared.mark.Mark.TheVariants.{Plain}
-use Rattle.mime_cut.specs.Marks.{mark_of}
-use Rattle.mime_cut.specs.Stretch.{stretch}
-use Rattle.mime_cut.proofs.CutFacts.{stretch_plain, stretch_marks}
+use Rattle.mime_cut.specs.declared.line_kind.LineKind.TheVariants.{Other}
+use Rattle.mime_cut.specs.DelimiterLines.{line_kind}
+use Rattle.mime_cut.specs.UpToDelimiter.{up_to_delimiter}
+use Rattle.mime_cut.proofs.CutFacts.{up_to_other, up_to_that}
 use Rattle.mime_cut.proofs.delimiter.scan.Goals as goal
 
 pub loop-rest-preserved : goal.loop-rest-preserved
@@ -14,33 +14,33 @@ loop-rest-preserved c =
     let line = c.split_line.result.0.now in
     let more = c.split_line.result.1.now in
     let left = c.loop-rest.rest.now in
-    let plain : mark_of b line ≡ Plain = sym c.in-Plain.ensures in
-    let step = stretch_plain b line (lines left) (lines more) c.loop-rest.before c.loop-rest.size c.split_line.ensures.first plain in
+    let plain : line_kind b line ≡ Other = sym c.in-Other.ensures in
+    let step = up_to_other b line (lines left) (lines more) c.loop-rest.before c.loop-rest.size c.split_line.ensures.first plain in
     let front = front_more c.args.bytes.now left line more c.loop-rest.size c.loop-rest.invariant.all c.loop-rest.invariant.rest c.split_line.ensures.whole in
     let count : c.text_len.result ≡ length (text line) = sym (ap length c.text_len.ensures.value ∙ length-take-le c.text_len.result line c.text_len.ensures.within) in
     record {
-      found = ap (λ n. stretch b (c.loop-rest.size + n) (c.loop-rest.size + length line) (lines more)) count ∙ sym step.0 ∙ c.loop-rest.invariant.found;
-      behind = sym step.1 ∙ c.loop-rest.invariant.behind;
+      found = ap (λ n. up_to_delimiter b (c.loop-rest.size + n) (c.loop-rest.size + length line) (lines more)) count ∙ sym step.0 ∙ c.loop-rest.invariant.found;
+      lines_after = sym step.1 ∙ c.loop-rest.invariant.lines_after;
       rest = front.1;
       ordered = omega (arith, c.text_len.ensures.within);
       all = omega (arith, length-append line more, ap length c.split_line.ensures.whole);
     }
 
-pub returns-in-Opens : goal.returns-in-Opens
-returns-in-Opens c =
+pub returns-in-DelimiterLine : goal.returns-in-DelimiterLine
+returns-in-DelimiterLine c =
     let b = c.args.boundary.now in
     let line = c.split_line.result.0.now in
     let more = c.split_line.result.1.now in
     let left = c.loop-rest.rest.now in
-    let found = stretch_marks b line (lines left) (lines more) c.loop-rest.before c.loop-rest.size c.read_mark-mark.result c.split_line.ensures.first (sym c.read_mark-mark.ensures) c.in-Opens.is in
+    let found = up_to_that b line (lines left) (lines more) c.loop-rest.before c.loop-rest.size c.read_line_kind-kind.result c.split_line.ensures.first (sym c.read_line_kind-kind.ensures) c.in-DelimiterLine.is in
     let all = sym found.0 ∙ c.loop-rest.invariant.found in
     let front = front_more c.args.bytes.now left line more c.loop-rest.size c.loop-rest.invariant.all c.loop-rest.invariant.rest c.split_line.ensures.whole in
     record {
       before = ap (λ s. s.before) all;
       size = ap (λ s. s.size) all;
-      mark = ap (λ s. s.mark) all;
+      kind = ap (λ s. s.kind) all;
       rest = front.1;
-      behind = sym found.1 ∙ c.loop-rest.invariant.behind;
+      lines_after = sym found.1 ∙ c.loop-rest.invariant.lines_after;
       ordered = omega arith;
       within = omega (arith, length-append line more, ap length c.split_line.ensures.whole);
       advances = λ _. omega arith;

@@ -1,12 +1,12 @@
 use Rattle.std.proofs.Common.{◌≡◌, ◌+◌, ◌≤◌, drop, length}
 use Rattle.mime_lines.specs.Lines.{lines}
-use Rattle.mime_cut.specs.Stretch.{stretch, behind}
+use Rattle.mime_cut.specs.UpToDelimiter.{up_to_delimiter, lines_after}
 use Rattle.mime_cut.proofs.delimiter.scan.Given as goal
 
 abbrev pub invariant-loop-rest : goal.invariant-loop-rest
 invariant-loop-rest l = record {
-  found : stretch l.boundary l.before l.size (lines l.rest) ≡ stretch l.boundary 0 0 (lines l.bytes);
-  behind : behind l.boundary (lines l.rest) ≡ behind l.boundary (lines l.bytes);
+  found : up_to_delimiter l.boundary l.before l.size (lines l.rest) ≡ up_to_delimiter l.boundary 0 0 (lines l.bytes);
+  lines_after : lines_after l.boundary (lines l.rest) ≡ lines_after l.boundary (lines l.bytes);
   rest : l.rest ≡ drop l.size l.bytes;
   ordered : l.before ≤ l.size;
   all : l.size + length l.rest ≡ length l.bytes;

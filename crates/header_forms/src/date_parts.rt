@@ -1,0 +1,254 @@
+// What the words of a date say (RFC 5322, sections 3.3 and 4.3).
+ghost use Rattle.std.specs.Prelude.{◌≡◌, ◌<◌, ◌≤◌, ◌∷◌, [], map, length, IfSome, None, Some, true, codes, bytes_eq, if◌then◌else◌};
+ghost use Rattle.std.specs.Char.{to_ascii_lowercase, is_ascii_digit, is_ascii_alphabetic};
+ghost use Rattle.std.specs.List.{list_all};
+ghost use Rattle.std.specs.Str.{str_to_ascii_lowercase};
+ghost use Rattle.header_forms.specs.Dates;
+ghost use Rattle.header_forms.specs.Dates.{number_in, value_from, place_in, weekdays, months, year_in, time_in, zone_named, zone_in};
+
+use crate::date_time::{TimeOfDay, ZoneOffset};
+
+/// The number of at most four digits; none where a byte is none.
+fn digits(word: &[u8]) -> Option<u16>
+    requires { length word.now ≤ 4 }
+    ensures value { result ≡ (if list_all is_ascii_digit word.now then Some (value_from 0 word.now)
+        else None) }
+    ensures bound { IfSome result (λ n. n < 10000) }
+    ensures short { IfSome result (λ n. length word.now ≤ 3 → n < 1000) }
+    ensures shorter { IfSome result (λ n. length word.now ≤ 2 → n < 100) }
+{
+    let mut value: u16 = 0;
+    for byte in word {
+        if !byte.is_ascii_digit() {
+            return None;
+        }
+        value = value * 10 + u16::from(*byte - b'0');
+    }
+    Some(value)
+}
+
+/// The number that from `least` to `most` digits are.
+pub fn number(least: usize, most: usize, word: &[u8]) -> Option<u16>
+    requires { most ≤ 4 }
+    ensures value { result ≡ number_in least most word.now }
+    ensures bound { IfSome result (λ n. n < 10000) }
+    ensures short { IfSome result (λ n. length word.now ≤ 3 → n < 1000) }
+    ensures shorter { IfSome result (λ n. length word.now ≤ 2 → n < 100) }
+    ensures within { IfSome result (λ n. length word.now ≤ most) }
+{
+    if word.len() < least || most < word.len() {
+        return None;
+    }
+    digits(word)
+}
+
+/// Whether a word is a name, which is in lower case, in either case.
+fn is_name(word: &[u8], name: &[u8]) -> bool
+    requires { map to_ascii_lowercase name.now ≡ name.now }
+    ensures { result ≡ bytes_eq (str_to_ascii_lowercase word.now) name.now }
+{
+    word.eq_ignore_ascii_case(name)
+}
+
+/// The number of a weekday, from 1 for Monday.
+pub fn weekday(word: &[u8]) -> Option<u16>
+    ensures { result ≡ place_in weekdays 1 word.now }
+{
+    if is_name(word, b"mon") {
+        Some(1)
+    } else if is_name(word, b"tue") {
+        Some(2)
+    } else if is_name(word, b"wed") {
+        Some(3)
+    } else if is_name(word, b"thu") {
+        Some(4)
+    } else if is_name(word, b"fri") {
+        Some(5)
+    } else if is_name(word, b"sat") {
+        Some(6)
+    } else if is_name(word, b"sun") {
+        Some(7)
+    } else {
+        None
+    }
+}
+
+/// The number of a month, from 1.
+pub fn month(word: &[u8]) -> Option<u16>
+    ensures value { result ≡ place_in months 1 word.now }
+    ensures from { IfSome result (λ n. 1 ≤ n) }
+    ensures to { IfSome result (λ n. n ≤ 12) }
+{
+    if is_name(word, b"jan") {
+        Some(1)
+    } else if is_name(word, b"feb") {
+        Some(2)
+    } else if is_name(word, b"mar") {
+        Some(3)
+    } else if is_name(word, b"apr") {
+        Some(4)
+    } else if is_name(word, b"may") {
+        Some(5)
+    } else if is_name(word, b"jun") {
+        Some(6)
+    } else if is_name(word, b"jul") {
+        Some(7)
+    } else if is_name(word, b"aug") {
+        Some(8)
+    } else if is_name(word, b"sep") {
+        Some(9)
+    } else if is_name(word, b"oct") {
+        Some(10)
+    } else if is_name(word, b"nov") {
+        Some(11)
+    } else if is_name(word, b"dec") {
+        Some(12)
+    } else {
+        None
+    }
+}
+
+/// The whole year that a number of so many digits encodes.
+fn full_year(size: usize, n: u16) -> u16
+    requires most { n < 10000 }
+    requires short { size ≤ 3 → n < 1000 }
+    requires size { size ≤ 4 }
+    ensures value { result ≡ Dates.full_year size n }
+    ensures bound { result < 10000 }
+{
+    if size == 4 {
+        n
+    } else if size == 2 && n < 50 {
+        n + 2000
+    } else {
+        n + 1900
+    }
+}
+
+/// The year of two, three or four digits.
+pub fn year(word: &[u8]) -> Option<u16>
+    ensures value { result ≡ year_in word.now }
+    ensures bound { IfSome result (λ n. n < 10000) }
+{
+    let n = number(2, 4, word)?;
+    Some(full_year(word.len(), n))
+}
+
+/// A time that a clock shows, or the leap second of any minute.
+fn if_time(hour: u16, minute: u16, second: u16) -> Option<TimeOfDay>
+    ensures { result ≡ Dates.if_time hour minute second }
+{
+    if hour < 24 && minute < 60 && second <= 60 {
+        Some(TimeOfDay {
+            hour,
+            minute,
+            second: second.min(59),
+        })
+    } else {
+        None
+    }
+}
+
+#[tactic(auto, unfolding(crate::specs::Dates::time_by))]
+fn time_by(hour: &[u8], minute: &[u8], second: &[u8]) -> Option<TimeOfDay>
+    ensures { result ≡ Dates.time_by hour.now minute.now second.now }
+{
+    let hour = number(2, 2, hour)?;
+    let minute = number(2, 2, minute)?;
+    let second = number(2, 2, second)?;
+    if_time(hour, minute, second)
+}
+
+/// The time of a word `hh:mm` or `hh:mm:ss`.
+pub fn time(word: &[u8]) -> Option<TimeOfDay>
+    ensures { result ≡ time_in word.now }
+{
+    match word {
+        [_, _, colon, _, _] => {
+            if *colon == b':' {
+                time_by(&word[..2], &word[3..], b"00")
+            } else {
+                None
+            }
+        }
+        [_, _, first, _, _, second, _, _] => {
+            if *first == b':' && *second == b':' {
+                time_by(&word[..2], &word[3..5], &word[6..])
+            } else {
+                None
+            }
+        }
+        _ => None,
+    }
+}
+
+fn hours(behind: bool, n: u16) -> ZoneOffset
+    requires { n < 24 }
+    ensures { result ≡ Dates.hours behind n }
+{
+    ZoneOffset {
+        behind,
+        minutes: n * 60,
+    }
+}
+
+/// The offset of a zone's name, in either case; a name that isn't known has that of UTC.
+fn named_zone(name: &[u8]) -> ZoneOffset
+    ensures { result ≡ zone_named (str_to_ascii_lowercase name.now) }
+{
+    if is_name(name, b"edt") {
+        hours(true, 4)
+    } else if is_name(name, b"est") || is_name(name, b"cdt") {
+        hours(true, 5)
+    } else if is_name(name, b"cst") || is_name(name, b"mdt") {
+        hours(true, 6)
+    } else if is_name(name, b"mst") || is_name(name, b"pdt") {
+        hours(true, 7)
+    } else if is_name(name, b"pst") {
+        hours(true, 8)
+    } else {
+        hours(false, 0)
+    }
+}
+
+/// The offset of a number hhmm, if there is one.
+fn offset_by(behind: bool, digits: Option<u16>) -> Option<ZoneOffset>
+    requires { IfSome digits (λ n. n < 10000) }
+    ensures { result ≡ Dates.offset_by behind digits }
+{
+    let n = digits?;
+    if n % 100 < 60 {
+        Some(ZoneOffset {
+            behind,
+            minutes: (n / 100) * 60 + n % 100,
+        })
+    } else {
+        None
+    }
+}
+
+fn is_letters(word: &[u8]) -> bool
+    ensures { result ≡ list_all is_ascii_alphabetic word.now }
+{
+    word.iter().all(|byte| byte.is_ascii_alphabetic())
+}
+
+/// The offset of a zone: `+hhmm`, `-hhmm`, or a name.
+pub fn zone(word: &[u8]) -> Option<ZoneOffset>
+    ensures { result ≡ zone_in word.now }
+{
+    match word {
+        [] => None,
+        [sign, digits @ ..] => {
+            if *sign == b'+' {
+                offset_by(false, number(4, 4, digits))
+            } else if *sign == b'-' {
+                offset_by(true, number(4, 4, digits))
+            } else if is_letters(word) {
+                Some(named_zone(word))
+            } else {
+                None
+            }
+        }
+    }
+}

@@ -1,0 +1,98 @@
+// The words of a date: white space and comments part them, and a comma is a word of its own (RFC
+// 5322, sections 3.2.2 and 3.3).
+ghost use Rattle.std.specs.Prelude.{◌≡◌, ◌≤◌, ◌∷◌, length, option_map, MatchOption, IfSome, IfNone, true, None};
+ghost use Rattle.std.specs.List.{prefix_len};
+ghost use Rattle.header_forms.specs.Dates.{words_of};
+ghost use Rattle.header_forms.specs.DateWords;
+ghost use Rattle.header_forms.specs.DateWords.{begins_word, starts_word, has_no_word, is_end};
+
+use mail_text::{WhiteSpace, skip_gap};
+
+/// A word, and the text after it.
+#[derive(Clone, Copy)]
+pub struct Word<'a> {
+    pub word: &'a [u8],
+    pub rest: &'a [u8],
+}
+
+/// The text from its first word on; none where a comment doesn't close.
+fn skip_gaps(text: &[u8]) -> Option<&[u8]>
+    ensures value { MatchOption result (words_of text.now ≡ None)
+        (λ r. words_of text.now ≡ words_of r.now) }
+    ensures begins { IfSome result (λ r. begins_word r.now ≡ true) }
+    ensures within { IfSome result (λ r. length r.now ≤ length text.now) }
+{
+    skip_gap(text, WhiteSpace::Ascii)
+}
+
+/// Whether a byte continues a word.
+fn is_in_word(byte: u8) -> bool
+    ensures { result ≡ DateWords.is_in_word byte }
+{
+    !(byte == b'(' || byte.is_ascii_whitespace()) && byte != b','
+}
+
+/// How long the word at the start is.
+fn word_len(text: &[u8]) -> usize
+    ensures within { result ≤ length text.now }
+    ensures value { result ≡ prefix_len DateWords.is_in_word text.now }
+{
+    for (i, byte) in text.iter().enumerate() {
+        if !is_in_word(*byte) {
+            return i;
+        }
+    }
+    text.len()
+}
+
+/// The word at the start, which is no comma.
+#[tactic(auto, using(crate::proofs::DateSplit::word_split))]
+fn plain_word(text: &[u8]) -> Word<'_>
+    requires { starts_word text.now ≡ true }
+    ensures { words_of text.now ≡ option_map (λ later. result.word.now ∷ later)
+        (words_of result.rest.now) }
+{
+    let (word, rest) = text.split_at(word_len(text));
+    Word { word, rest }
+}
+
+/// The word that begins the text; none where the text is at its end.
+fn front_word(text: &[u8]) -> Option<Word<'_>>
+    requires { begins_word text.now ≡ true }
+    ensures value { IfSome result (λ w. words_of text.now
+        ≡ option_map (λ later. w.word.now ∷ later) (words_of w.rest.now)) }
+    ensures none { IfNone result (length text.now ≡ 0) }
+{
+    match text {
+        [] => None,
+        [byte, rest @ ..] => {
+            if *byte == b',' {
+                return Some(Word {
+                    word: &text[..1],
+                    rest,
+                });
+            }
+            Some(plain_word(text))
+        }
+    }
+}
+
+/// The first word of the text; none where there is none, or a comment before it doesn't close.
+pub fn next_word(text: &[u8]) -> Option<Word<'_>>
+    ensures value { IfSome result (λ w. words_of text.now
+        ≡ option_map (λ later. w.word.now ∷ later) (words_of w.rest.now)) }
+    ensures none { IfNone result (has_no_word (words_of text.now) ≡ true) }
+{
+    let rest = skip_gaps(text)?;
+    front_word(rest)
+}
+
+/// Whether there is no word, and each comment closes.
+pub fn is_done(text: &[u8]) -> bool
+    ensures { result ≡ is_end (words_of text.now) }
+{
+    match skip_gaps(text) {
+        None => false,
+        Some(rest) => rest.is_empty(),
+    }
+}

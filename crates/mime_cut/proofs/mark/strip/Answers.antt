@@ -1,6 +1,0 @@
-use Rattle.std.proofs.Common.{Bor, List, ℕ}
-use Rattle.mime_cut.proofs.MarkFacts.{strip_gives}
-use Rattle.mime_cut.proofs.mark.strip.Goals as goal
-
-pub returns : goal.returns
-returns c = strip_gives (λ (x : Bor (List ℕ)). x.now) c.args.front.now c.args.bytes.now c.strip_prefix.result c.strip_prefix.ensures.cases

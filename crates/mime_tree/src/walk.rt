@@ -1,0 +1,136 @@
+// Builds the parts of a message.
+ghost use Rattle.std.specs.Prelude.{◌≡◌, ◌≤◌, ◌<◌, ◌+◌, ◌-◌, length, slice_range, IfOk, OnOk};
+ghost use Rattle.mime_cut.specs.Cut.{piece};
+ghost use Rattle.mime_type.specs.PartTrees.{none};
+ghost use Rattle.mime_type.specs.Joined.{node_of, tree_of};
+ghost use Rattle.mime_tree.specs.Tree.{part_tree, within, is_digest as digest_of};
+ghost use Rattle.mime_tree.specs.Kept.{parts_of};
+ghost use Rattle.mime_tree.specs.Places.{AllPlaced};
+ghost use Rattle.mime_tree.specs.Counted.{Taken, taken};
+
+use crate::part::{is_digest, read_part};
+use jm_base::NoMemory;
+use mime_cut::{LineKind, next_delimiter};
+use mime_type::{Part, Parts};
+use std::alloc::Global;
+
+/// How many levels of multiparts are entered.
+const MAX_MULTIPART_LEVELS: u64 = 32;
+
+/// How many parts of a message are kept.
+const MAX_PARTS: u64 = 1000;
+
+/// How many more parts are kept, and the number of the next leaf.
+#[derive(Drop)]
+struct Budget {
+    left: u64,
+    number: u64,
+}
+
+/// The part between these places with those within it, as far as the budget goes.
+#[cycle(walk)]
+fn read_part_tree(
+    alloc: Global,
+    budget: &mut Budget,
+    message: &[u8],
+    start: u64,
+    end: u64,
+    levels: u64,
+    digest: bool,
+) -> Result<Part, NoMemory>
+    requires ordered { start ≤ end }
+    requires inside { end ≤ length message.now }
+    requires some { 0 < budget.old.left }
+    requires room { budget.old.number + budget.old.left ≤ 1001 }
+    ensures taken { IfOk result (λ p. taken (part_tree levels digest
+        (piece start (slice_range message.now start end)) none) budget.old.left budget.old.number
+        ≡ record { parts = tree_of p none; left = budget.new.left; number = budget.new.number }) }
+    ensures placed { IfOk result (λ p. AllPlaced (length message.now) (tree_of p none)) }
+    ensures room { OnOk result (budget.new.number + budget.new.left ≤ 1001) }
+{
+    let mut part = read_part(alloc, message, start, end, levels, digest)?;
+    budget.left -= 1;
+    if part.boundary.is_none() {
+        part.number = Some(budget.number);
+        budget.number += 1;
+        return Ok(part);
+    }
+    let parts = parts_within(alloc, budget, message, &part, levels)?;
+    part.parts = parts;
+    Ok(part)
+}
+
+/// The parts of a multipart's body, as far as the budget goes. Each delimiter is looked for when
+/// its turn comes.
+#[cycle(walk)]
+fn parts_within(
+    alloc: Global,
+    budget: &mut Budget,
+    message: &[u8],
+    part: &Part,
+    levels: u64,
+) -> Result<Parts, NoMemory>
+    requires entered { 0 < levels }
+    requires ordered { part.now.body ≤ part.now.end }
+    requires inside { part.now.end ≤ length message.now }
+    requires room { budget.old.number + budget.old.left ≤ 1001 }
+    ensures taken { IfOk result (λ ps. taken (within
+        (part_tree (levels - 1) (digest_of (node_of part.now))) part.now.boundary part.now.body
+        (slice_range message.now part.now.body part.now.end)) budget.old.left budget.old.number
+        ≡ record { parts = ps; left = budget.new.left; number = budget.new.number }) }
+    ensures placed { IfOk result (λ ps. AllPlaced (length message.now) ps) }
+    ensures room { OnOk result (budget.new.number + budget.new.left ≤ 1001) }
+{
+    let mut items = Vec::new(alloc);
+    let Some(boundary) = &part.boundary else {
+        return Ok(Parts::from_vec(items));
+    };
+    let boundary = boundary.as_bytes();
+    let digest = is_digest(part);
+    let mut found = next_delimiter(boundary, &message[part.body as usize..part.end as usize]);
+    let mut place = part.body as usize + found.size;
+    while let LineKind::DelimiterLine = found.kind {
+        if budget.left == 0 {
+            return Ok(Parts::from_vec(items));
+        }
+        let next = next_delimiter(boundary, found.rest);
+        let end = place + next.before;
+        let inner = read_part_tree(
+            alloc,
+            budget,
+            message,
+            place as u64,
+            end as u64,
+            levels - 1,
+            digest,
+        )?;
+        items.push(inner)?;
+        place += next.size;
+        found = next;
+    }
+    Ok(Parts::from_vec(items))
+}
+
+/// The parts of a message as a tree, in time linear in its bytes. Multiparts are entered to a depth
+/// of 32, and one below is a leaf of type application/octet-stream; parts past the 1,000th in walk
+/// order, a part before those within it, are left out; leaves are numbered from 1 in that order.
+/// Total for all bytes.
+pub fn parts(alloc: Global, bytes: &[u8]) -> Result<Part, NoMemory>
+    ensures tree { IfOk result (λ p. tree_of p none ≡ parts_of bytes.now) }
+    // Each part's body can be read at its places.
+    ensures places { IfOk result (λ p. AllPlaced (length bytes.now) (tree_of p none)) }
+{
+    let mut budget = Budget {
+        left: MAX_PARTS,
+        number: 1,
+    };
+    read_part_tree(
+        alloc,
+        &mut budget,
+        bytes,
+        0,
+        bytes.len() as u64,
+        MAX_MULTIPART_LEVELS,
+        false,
+    )
+}
