@@ -9,7 +9,7 @@ use Rattle.serde_json.proofs.Numbers.{number_of-decimal, number_of-negative}
 use Rattle.serde_json.proofs.Texts.{unless_float-number_of}
 use Rattle.jm_json.specs.Whole.{is_whole}
 
--- a number that one spelling reads as is read from the same spelling
+-- a number that one encoding reads as is read from the same encoding
 pub told : (r : Option ℤ) (a b : Option Num) → a ≡ b → IfSome r (λ z. (a ≡ Some (of_integer z)) × (is_whole (of_integer z) ≡ true)) → IfSome r (λ z. (b ≡ Some (of_integer z)) × (is_whole (of_integer z) ≡ true))
 told r a b e h = rw (← e) h
 

@@ -10,3 +10,4 @@ pub mod Parts
 pub mod Removals
 pub mod Patched
 pub mod Prefixes
+pub mod Merging

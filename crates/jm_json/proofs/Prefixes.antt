@@ -1,4 +1,4 @@
--- Paths that go on from another, among paths in the order of their bytes: they stand where the path with a slash behind it would.
+-- Paths that continue from another, among paths in the order of their bytes: they stand where the path with a slash after it would.
 use Rattle.std.proofs.Common.{◌≡◌, ℕ, ◌+◌, ◌<◌, ◌≤◌, List, [], ◌∷◌, ◌++◌, length, take, drop, get_or, true, false, eqb, ◌&&◌, ◌||◌, Less, Equal, Greater, Ordering, refl, sym, ap, ◌∙◌, subst, arith}
 use Rattle.std.proofs.lemmas.List.{drop_more, drop_all, take-append-drop}
 use Rattle.std.proofs.lemmas.Bool.Decides.{nat_tests}
@@ -45,7 +45,7 @@ at_slash : (p : List ℕ) → goes_on p (p ++ 47 ∷ []) ≡ true
 at_slash [] = refl
 at_slash (x ∷ xs) = let same : eqb x x ≡ true = grind (arith, nat_tests) in rw same (at_slash xs)
 
--- what is above a path that is above the slash, and does not go on, does not either
+-- what is above a path that is above the slash, and does not continue, does not either
 above_slash : (a b : ℕ) (more bs : List ℕ) → slice_cmp nat_cmp (47 ∷ []) (a ∷ more) ≡ Less → eqb a 47 ≡ false → slice_cmp nat_cmp (a ∷ more) (b ∷ bs) ≡ Less → eqb b 47 ≡ false
 above_slash a b more bs e other up =
     let low : 47 ≤ a = first_le 47 a (slice_cmp nat_cmp [] more) e in

@@ -95,7 +95,7 @@ pub put_held : (k : List ℕ) (t : Tree) (xs : Pairs) (m : List ℕ × Tree) (ys
 put_held k t [] m ys low e = rw e refl
 put_held k t (x ∷ xs) m ys low e = rw (low.0) (ap (λ zs. x ∷ zs) (put_held k t xs m ys low.1 e))
 
-same_key : (k x : List ℕ) → x ≡ k → slice_cmp nat_cmp k x ≡ Equal
+pub same_key : (k x : List ℕ) → x ≡ k → slice_cmp nat_cmp k x ≡ Equal
 same_key k x e = subst (λ z. slice_cmp nat_cmp z x ≡ Equal) e (tied_itself nat_list_cmp_total x)
 
 -- keys that compare otherwise are others
@@ -132,7 +132,7 @@ away_held : (k : List ℕ) (xs : Pairs) (m : List ℕ × Tree) (ys : Pairs) → 
 away_held k [] m ys low e = rw e refl
 away_held k (x ∷ xs) m ys low e = rw (below_other k x.0 low.0) (ap (λ zs. x ∷ zs) (away_held k xs m ys low.1 e))
 
--- ---- the three ways that a search by halves goes on, at a place of the list
+-- ---- the three ways that a search by halves continues, at a place of the list
 
 pub split_at : (ms : Pairs) (i : ℕ) (d : List ℕ × Tree) → i < length ms → ms ≡ take i ms ++ get_or ms i d ∷ drop (i + 1) ms
 split_at [] i d h = absurd (omega arith)
@@ -234,3 +234,13 @@ rises_after (Err e) k t old new done same rise = subst (λ ms. KeysRise (map mem
 -- a comparison with the name of a member that was read at a place
 pub told : (k a : List ℕ) (m n : Member) (o : Ordering) → m ≡ n → a ≡ n.name → o ≡ slice_cmp nat_cmp k a → slice_cmp nat_cmp k m.name ≡ o
 told k a m n o is name e = ap (λ (x : Member). slice_cmp nat_cmp k x.name) is ∙ ap (slice_cmp nat_cmp k) (sym name) ∙ sym e
+
+-- what is put at a key twice is what was put last
+twice_at : (o : Ordering) (k : List ℕ) (t u : Tree) (m : List ℕ × Tree) (ms : Pairs) → slice_cmp nat_cmp k m.0 ≡ o → put k u (put k t ms) ≡ put k u ms → put k u (put k t (m ∷ ms)) ≡ put k u (m ∷ ms)
+twice_at Less k t u m ms e more = rw (e, tied_itself nat_list_cmp_total k) refl
+twice_at Equal k t u m ms e more = rw (e, tied_itself nat_list_cmp_total k) refl
+twice_at Greater k t u m ms e more = rw (e, e) (ap (λ zs. m ∷ zs) more)
+
+pub put_twice : (k : List ℕ) (t u : Tree) (ms : Pairs) → put k u (put k t ms) ≡ put k u ms
+put_twice k t u [] = rw (tied_itself nat_list_cmp_total k) refl
+put_twice k t u (m ∷ ms) = twice_at _ k t u m ms refl (put_twice k t u ms)

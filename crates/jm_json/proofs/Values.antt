@@ -127,7 +127,7 @@ mutual
   from_members no_fields = refl
   from_members (field k t fs) = ap₂ (field k) (from_data t) (from_members fs)
 
--- the front of keys that rise rises
+-- the prefix of keys that rise rises
 below_front : (k : List ℕ) (ms : List Member) (n : ℕ) → AllByRecursion (λ y. slice_cmp nat_cmp k y ≡ Less) (keys_of (map member_of ms)) → AllByRecursion (λ y. slice_cmp nat_cmp k y ≡ Less) (keys_of (map member_of (take n ms)))
 below_front k ms zero all = tt
 below_front k [] (suc n) all = tt

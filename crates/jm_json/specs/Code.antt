@@ -91,7 +91,10 @@ mutual
 
   pub fields_back : (fs : Fields) → to_fields (of_fields fs) ≡ fs
   fields_back no_fields = refl
-  fields_back (field k t fs) = ap (λ s. field s (to_tree (of_tree t)) (to_fields (of_fields fs))) (numbers_back k) ∙ ap₂ (field k) (tree_back t) (fields_back fs)
+  fields_back (field k t fs) =
+      ap (λ s. field s (to_tree (of_tree t)) (to_fields (of_fields fs))) (numbers_back k)
+      ∙ ap₂ (field k) (tree_back t) (fields_back fs)
 
 abbrev pub tree_code : Coded Tree
-tree_code = record { code = of_tree; inj = λ s t e. sym (tree_back s) ∙ (ap to_tree e ∙ tree_back t) }
+tree_code =
+    record { code = of_tree; inj = λ s t e. sym (tree_back s) ∙ (ap to_tree e ∙ tree_back t) }

@@ -18,10 +18,12 @@ deep_le (Text s) = omega arith
 deep_le (List' ts) = omega arith
 deep_le (Object ms) = omega arith
 
-pub items_deep : (js : List Json) → max (most deep-Json js) 0 ≤ trees_size (trees_of (map tree_of js))
+pub items_deep : (js : List Json)
+    → max (most deep-Json js) 0 ≤ trees_size (trees_of (map tree_of js))
 items_deep [] = omega arith
 items_deep (j ∷ js) = omega (arith, deep_le j, items_deep js)
 
-pub members_deep : (ms : List Member) → max (most deep-Member ms) 0 ≤ fields_size (fields_of (map member_of ms))
+pub members_deep : (ms : List Member)
+    → max (most deep-Member ms) 0 ≤ fields_size (fields_of (map member_of ms))
 members_deep [] = omega arith
 members_deep (m ∷ ms) = omega (arith, deep_le m.value, members_deep ms)

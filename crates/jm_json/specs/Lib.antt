@@ -6,6 +6,7 @@ pub mod Falls
 pub mod Data
 pub mod Order
 pub mod Place
+pub mod Runs
 pub mod Whole
 pub mod Faults
 pub mod Reading

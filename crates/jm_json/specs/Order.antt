@@ -12,4 +12,10 @@ KeysRise ms = IsStrictlySortedBy (slice_cmp nat_cmp) (keys_of ms)
 -- the members, with this value at this key
 abbrev pub put : List ℕ → Tree → List (List ℕ × Tree) → List (List ℕ × Tree)
 put k t [] = (k, t) ∷ []
-put k t (m ∷ ms) = match_ordering (slice_cmp nat_cmp k m.0) ((k, t) ∷ m ∷ ms) ((k, t) ∷ ms) (m ∷ put k t ms)
+put k t (m ∷ ms) =
+    match_ordering (slice_cmp nat_cmp k m.0) ((k, t) ∷ m ∷ ms) ((k, t) ∷ ms) (m ∷ put k t ms)
+
+-- the members, with these put one after another
+abbrev pub put_all : List (List ℕ × Tree) → List (List ℕ × Tree) → List (List ℕ × Tree)
+put_all [] ms = ms
+put_all (n ∷ ns) ms = put_all ns (put n.0 n.1 ms)

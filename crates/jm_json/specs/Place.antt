@@ -1,4 +1,4 @@
--- Where a key stands in an object, or is to stand.
+-- Where a key is in an object, or is to stand.
 use Rattle.std.specs.Prelude.{◌≡◌, ℕ, ◌<◌, ◌≤◌, List, length, take, drop, slice_index_or}
 use Rattle.std.specs.Ordering.{nat_cmp}
 use Rattle.std.specs.Cmp.Lexicographic.{slice_cmp}
@@ -18,5 +18,7 @@ abbrev pub AllAbove : List ℕ → List (List ℕ × Tree) → Type 0
 AllAbove k ms = AllByRecursion (λ y. slice_cmp nat_cmp k y ≡ Less) (keys_of ms)
 
 abbrev pub IsPlace : Place → List ℕ → List (List ℕ × Tree) → Type 0
-IsPlace (Held at) k ms = (at < length ms) × AllBelow k (take at ms) × ((d : List ℕ × Tree) → (slice_index_or ms at d).0 ≡ k)
+IsPlace (Held at) k ms =
+    (at < length ms) × AllBelow k (take at ms)
+    × ((d : List ℕ × Tree) → (slice_index_or ms at d).0 ≡ k)
 IsPlace (New at) k ms = (at ≤ length ms) × AllBelow k (take at ms) × AllAbove k (drop at ms)

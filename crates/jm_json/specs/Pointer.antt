@@ -13,14 +13,17 @@ abbrev pub cut : List ℕ → List (List ℕ)
 cut [] = [] ∷ []
 cut (x ∷ xs) = cond (x == 47) ([] ∷ cut xs) (onto x (cut xs))
 
--- the name that is written as a part, behind a `~` or not: `~1` stands for `/` and `~0` for `~`. No `/` stands in a part, and
--- no other byte behind a `~` (sections 3 and 4)
+-- the name that is written as a part, after a `~` or not: `~1` means `/` and `~0` means `~`. No
+-- `/` is in a part, and no other byte after a `~` (sections 3 and 4)
 abbrev pub unescaped : Bool → List ℕ → Option (List ℕ)
 unescaped true [] = None
 unescaped false [] = Some []
 unescaped true (x ∷ xs) =
-    cond (x == 48) (option_map (λ k. 126 ∷ k) (unescaped false xs)) (cond (x == 49) (option_map (λ k. 47 ∷ k) (unescaped false xs)) None)
-unescaped false (x ∷ xs) = cond (x == 126) (unescaped true xs) (cond (x == 47) None (option_map (λ k. x ∷ k) (unescaped false xs)))
+    cond (x == 48) (option_map (λ k. 126 ∷ k) (unescaped false xs))
+    (cond (x == 49) (option_map (λ k. 47 ∷ k) (unescaped false xs)) None)
+unescaped false (x ∷ xs) =
+    cond (x == 126) (unescaped true xs)
+    (cond (x == 47) None (option_map (λ k. x ∷ k) (unescaped false xs)))
 
 abbrev pub name_of : List ℕ → Option (List ℕ)
 name_of = unescaped false

@@ -1,12 +1,13 @@
 -- Which numbers a tree may hold, and where the first other one stands.
-use Rattle.std.specs.Prelude.{ℕ, ◌+◌, ◌^◌, negsuc, List, [], ◌∷◌, ◌++◌, flat_map, Bool, false, cond, ◌==◌, nat_lt, int_lt, Option, Some, None, option_map, decimal}
+use Rattle.std.specs.Prelude.{ℕ, ◌+◌, pos, neg_ℤ, List, [], ◌∷◌, ◌++◌, flat_map, Bool, false, cond, ◌==◌, nat_lt, int_lt, Option, Some, None, option_map, decimal}
 use Rattle.std.specs.Option.{option_or}
+use Rattle.jm_base.specs.declared.identifiers.TheConstants.{NUMBER_LIMIT}
 use Rattle.serde_json.specs.Data.{Num, unsigned, negative, float, Data, null, boolean, number, string, array, object, Items, no_items, item, Members, no_members, member}
 
--- a whole number from -2^53+1 to 2^53-1
+-- an integer below 2^53 and above -2^53
 abbrev pub is_whole : Num → Bool
-is_whole (unsigned n) = nat_lt n (2 ^ 53)
-is_whole (negative z) = int_lt (negsuc 9007199254740991) z
+is_whole (unsigned n) = nat_lt n NUMBER_LIMIT
+is_whole (negative z) = int_lt (neg_ℤ (pos NUMBER_LIMIT)) z
 is_whole (float x) = false
 
 -- a key in a JSON Pointer
@@ -32,8 +33,10 @@ abbrev mutual
 
   pub first_bad_item : ℕ → Items → Option (List ℕ)
   first_bad_item i no_items = None
-  first_bad_item i (item d ds) = option_or (option_map (under (decimal i)) (first_bad d)) (first_bad_item (i + 1) ds)
+  first_bad_item i (item d ds) =
+      option_or (option_map (under (decimal i)) (first_bad d)) (first_bad_item (i + 1) ds)
 
   pub first_bad_member : Members → Option (List ℕ)
   first_bad_member no_members = None
-  first_bad_member (member k d ms) = option_or (option_map (under (pointer_part k)) (first_bad d)) (first_bad_member ms)
+  first_bad_member (member k d ms) =
+      option_or (option_map (under (pointer_part k)) (first_bad d)) (first_bad_member ms)

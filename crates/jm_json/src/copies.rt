@@ -7,7 +7,7 @@ use crate::tree::{Items, Json, Member, Members};
 use jm_base::NoMemory;
 use std::alloc::Global;
 
-/// The same tree, in memory of its own.
+/// Returns a copy of a tree.
 #[cycle(copies)]
 pub fn copy(alloc: Global, tree: &Json) -> Result<Json, NoMemory>
     ensures { IfOk result (λ t. t ≡ tree.now) }

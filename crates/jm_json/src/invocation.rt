@@ -9,8 +9,8 @@ use jm_base::{NoMemory, Sequence, Text};
 use std::alloc::Global;
 use std::marker::Model;
 
-/// A call of a method, or a response to one: the method's name, the arguments, and the client's id of the call
-/// (RFC 8620, section 3.2). Contracts see it as a `Call`, by `call_of`.
+/// A call of a method, or a response to one: the method's name, the arguments, and the client's id
+/// of the call (RFC 8620, section 3.2). Contracts see it as a `Call`, by `call_of`.
 #[derive(Drop)]
 pub struct Invocation {
     pub name: Text,
@@ -18,13 +18,13 @@ pub struct Invocation {
     pub id: Text,
 }
 
-/// A list of calls or responses, seen by contracts as the list of their `Call`s.
+/// A list of calls or responses. Contracts see it as the list of their `Call`s.
 #[derive(Drop)]
 pub struct Invocations {
     items: Vec<Invocation>,
 }
 
-/// A record that a request made: the creation id that the client gave it, and the text of its identifier
+/// A record that a request created: the creation id that the client gave it, and its id as a string
 /// (RFC 8620, sections 3.3 and 5.3).
 #[derive(Debug, Drop)]
 pub struct Created {
@@ -32,10 +32,11 @@ pub struct Created {
     pub id: Text,
 }
 
-/// What a request has made so far, in the order of making. Of a creation id that stands twice the last counts.
+/// The records that a request has created up to here, in the order of creation. Of records with one
+/// creation id the last counts.
 pub type Made = Sequence<Created>;
 
-/// What a call was answered: its responses, and what it made.
+/// The reply to a call: its responses, and the records that it created.
 #[derive(Drop)]
 pub struct Replied {
     pub responses: Invocations,
@@ -57,7 +58,8 @@ impl Model for Invocations {
 }
 
 impl Invocation {
-    /// The response that says an error of this type, to the call with this id (RFC 8620, section 3.6.2).
+    /// Returns the response that reports an error of this type, to the call with this id (RFC 8620,
+    /// section 3.6.2).
     pub fn error(alloc: Global, kind: &str, id: Text) -> Result<Invocation, NoMemory>
         ensures { IfOk result (λ c. call_of c ≡ error_of kind.now id) }
     {
@@ -71,7 +73,7 @@ impl Invocation {
         })
     }
 
-    /// The same call, in memory of its own.
+    /// Returns a copy of the call.
     pub fn copy(&self, alloc: Global) -> Result<Invocation, NoMemory>
         ensures { IfOk result (λ c. call_of c ≡ call_of self.now) }
     {
@@ -84,7 +86,7 @@ impl Invocation {
 }
 
 impl Invocations {
-    /// The empty list. It takes no memory.
+    /// Returns the empty list. It takes no memory.
     pub fn new(alloc: Global) -> Invocations
         ensures { result ≡ [] }
     {
@@ -93,14 +95,14 @@ impl Invocations {
         }
     }
 
-    /// The list of a vector's items. It takes no memory.
+    /// Returns the list of a vector's items. It takes no memory.
     pub fn from_vec(items: Vec<Invocation>) -> Invocations
         ensures { result ≡ map call_of items.items }
     {
         Invocations { items }
     }
 
-    /// The vector of the list's items. It takes no memory.
+    /// Returns the vector of the list's items. It takes no memory.
     pub fn into_vec(self) -> Vec<Invocation>
         ensures { map call_of result.items ≡ self }
     {
@@ -115,7 +117,7 @@ impl Invocations {
         self.items.as_slice()
     }
 
-    /// Puts the calls of another list at the end.
+    /// Adds the calls of another list at the end. If an allocation fails, the list is unchanged.
     pub fn append(&mut self, more: Invocations) -> Result<(), NoMemory>
         ensures ok { OnOk result (self.new ≡ self.old ++ more) }
         ensures err { OnErr result (self.new ≡ self.old) }
@@ -125,7 +127,7 @@ impl Invocations {
         Ok(())
     }
 
-    /// Puts a call at the end.
+    /// Adds a call at the end. If an allocation fails, the list is unchanged.
     pub fn push(&mut self, item: Invocation) -> Result<(), NoMemory>
         ensures ok { OnOk result (self.new ≡ self.old ++ call_of item ∷ []) }
         ensures err { OnErr result (self.new ≡ self.old) }

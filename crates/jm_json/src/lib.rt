@@ -1,11 +1,13 @@
 //! JSON trees, read from bytes and written to bytes, and the calls and responses of a request.
 //!
-//! Contracts see a [`Json`] as its tree (`Rattle.jm_json.specs.Tree`), by `tree_of`. Numbers are whole, from -2^53+1 to
-//! 2^53-1 where they were read; an object has each key once, in byte order.
+//! Contracts see a [`Json`] as its tree (`Rattle.jm_json.specs.Tree`), by `tree_of`. Numbers are
+//! integers; those that were read are below 2^53 and above -2^53. An object has each key once, in
+//! byte order.
 #![tactic(auto)]
 
 mod copies;
 mod invocation;
+mod member_runs;
 mod parser;
 mod patches;
 mod paths;
@@ -17,6 +19,7 @@ mod writer;
 
 pub use copies::copy;
 pub use invocation::{Created, Invocation, Invocations, Made, Replied};
+pub use member_runs::MemberRuns;
 pub use parser::Scratch;
 pub use patches::{PatchFault, patch};
 pub use paths::{child, part_end, pointer};

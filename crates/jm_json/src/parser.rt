@@ -1,5 +1,5 @@
-// Reading a tree straight from the tokens of its text (RFC 8259). What is irregular is left to the exact reader: a text that
-// is no JSON, a number that is not whole, or very many keys out of order.
+// Reads a tree from the tokens of its text (RFC 8259). What is irregular is left to the exact
+// reader: a text that is no JSON, a number that is no integer, or very many keys out of order.
 ghost use Rattle.std.specs.Prelude.{◌≡◌, ◌==◌, ◌<◌, length, slice_index, true, false, IsTrue, Some, None, IfOk, IfSome, OnOk};
 ghost use Rattle.serde_json.specs.Find.{of_integer};
 ghost use Rattle.serde_json.specs.Read.{number_of, number_from};
@@ -13,27 +13,28 @@ ghost use Rattle.jm_json.specs.Whole.{is_whole, first_bad, first_bad_item, first
 
 use crate::tree::{Items, Json, Members};
 use fast_float::Numeral;
-use jm_base::{NoMemory, Text};
+use jm_base::{NUMBER_LIMIT, NoMemory, Text};
 use json::{Invalid, Reader, Token};
 use std::alloc::{AllocError, Global};
 
-// How deep a text may nest.
+// The most arrays and objects that may be open at one place of a text.
 const MAX_DEPTH: usize = 127;
 
-// From this many members on, an object whose next key is not past the others is irregular, so that placing it costs little.
-const MANY: usize = 512;
+// An object with this many members is irregular if its next key does not come after the others, so
+// that inserting a member costs little.
+const MAX_UNSORTED_MEMBERS: usize = 512;
 
-// The whole numbers that are read are below 2^53, and above its negative.
-const BOUND: i64 = 9007199254740992;
+// The integers that are read are below this limit, and above its negative.
+pub(crate) const INTEGER_LIMIT: i64 = NUMBER_LIMIT as i64;
 
-/// Room that reading takes, which may be kept from one text to the next.
+/// The buffers of a reader, which may be reused for the next text.
 #[derive(Drop)]
 pub struct Scratch {
     room: json::Scratch,
 }
 
 impl Scratch {
-    /// No room yet. It takes no memory.
+    /// Returns empty buffers. It takes no memory.
     pub fn new(alloc: Global) -> Scratch {
         Scratch {
             room: json::Scratch::new(alloc),
@@ -41,7 +42,7 @@ impl Scratch {
     }
 }
 
-// Why no tree was read here.
+// Why no tree was read.
 #[derive(Clone, Copy)]
 pub(crate) enum Stop {
     Irregular,
@@ -66,7 +67,7 @@ impl From<NoMemory> for Stop {
     }
 }
 
-// The tree that bytes are read as.
+// Reads the tree of a regular text.
 pub(crate) fn read_plainly(alloc: Global, scratch: &mut Scratch, bytes: &[u8]) -> Result<Json, Stop>
     ensures { IfOk result (λ t. reading_of bytes.now ≡ reading.whole (tree_of t)) }
 {
@@ -91,7 +92,7 @@ fn take_tree(alloc: Global, reader: &mut Reader<'_>, depth: usize) -> Result<Jso
     let token = reader.next().ok_or(Stop::Irregular)?;
     match token {
         Token::String(text) => Ok(Json::Text(Text::from_str(alloc, text)?)),
-        Token::Number(text) => match whole_of(text) {
+        Token::Number(text) => match parse_integer(text) {
             Some(z) => Ok(Json::Int(z)),
             None => Err(Stop::Irregular),
         },
@@ -147,18 +148,19 @@ fn take_members(alloc: Global, reader: &mut Reader<'_>, depth: usize) -> Result<
     Ok(found)
 }
 
-// Whether there are many members, and the key is not past the last of them.
+// Returns whether there are many members and the key does not come after the last of them.
 fn is_crowded(found: &Members, name: &str) -> bool {
     let members = found.as_slice();
     match members.last() {
-        Some(last) => MANY <= members.len() && name.as_bytes() <= last.name.as_bytes(),
+        Some(last) => MAX_UNSORTED_MEMBERS <= members.len()
+            && name.as_bytes() <= last.name.as_bytes(),
         None => false,
     }
 }
 
-// The whole number that a token writes, where it is one.
+// Parses the integer of a token, if it is one.
 #[inline(always)]
-fn whole_of(text: &str) -> Option<i64>
+fn parse_integer(text: &str) -> Option<i64>
     ensures { IfSome result
         (λ z. (number_of text.now ≡ Some (of_integer z)) × (is_whole (of_integer z) ≡ true)) }
 {
@@ -181,10 +183,11 @@ fn has_minus(bytes: &[u8]) -> bool
 #[inline(always)]
 fn from_zero(numeral: &Numeral<'_>) -> Option<i64>
     ensures { IfSome result
-        (λ z. (number_from false numeral.now ≡ Some (of_integer z)) × (is_whole (of_integer z) ≡ true)) }
+        (λ z. (number_from false numeral.now ≡ Some (of_integer z))
+        × (is_whole (of_integer z) ≡ true)) }
 {
     match numeral.to_u64() {
-        Some(n) => if n < BOUND as u64 {
+        Some(n) => if n < NUMBER_LIMIT {
             Some(n as i64)
         } else {
             None
@@ -196,10 +199,15 @@ fn from_zero(numeral: &Numeral<'_>) -> Option<i64>
 #[inline(always)]
 fn below_zero(numeral: &Numeral<'_>) -> Option<i64>
     ensures { IfSome result
-        (λ z. (number_from true numeral.now ≡ Some (of_integer z)) × (is_whole (of_integer z) ≡ true)) }
+        (λ z. (number_from true numeral.now ≡ Some (of_integer z))
+        × (is_whole (of_integer z) ≡ true)) }
 {
     match numeral.to_i64(true) {
-        Some(z) => if -BOUND < z && z < 0 { Some(z) } else { None },
+        Some(z) => if -INTEGER_LIMIT < z && z < 0 {
+            Some(z)
+        } else {
+            None
+        },
         None => None,
     }
 }

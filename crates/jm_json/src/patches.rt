@@ -1,11 +1,11 @@
-// Changing a tree by a patch (RFC 8620, section 5.3).
+// Changes a tree by a patch (RFC 8620, section 5.3).
 ghost use Rattle.std.specs.Prelude.{◌≡◌, ◌<◌, ◌≤◌, ◌&&◌, ◌||◌, [], ◌∷◌, ◌++◌, true, Some, None, map, length, is_some, not, option_map, option_and_then, drop, IfOk, IfSome, OnOk, MatchResult, MatchOption};
 ghost use Rattle.jm_json.specs.Json.{tree_of, member_of};
 ghost use Rattle.jm_json.specs.Find.{as_object, find};
 ghost use Rattle.jm_json.specs.Order.{KeysRise};
 ghost use Rattle.jm_json.specs.Place.{IsPlace};
 ghost use Rattle.jm_json.specs.Pointer.{cut, name_of, unescaped};
-ghost use Rattle.jm_json.specs.Patch.{at_member, goes_on, is_prefix, is_placed as is_placed_at, member_named, set_member, changed, all_changed, first_bad_path, patched, patching, by_path};
+ghost use Rattle.jm_json.specs.Patch.{at_member, goes_on, is_prefix, is_placed as is_placed_at, member_named, set_member, changed, all_changed, first_bad_path, patched, patching, patching_by};
 ghost use Rattle.jm_json.specs.Patching.{ExplainsPatch};
 
 use crate::copies::copy;
@@ -14,8 +14,8 @@ use crate::tree::{Json, Member, Members, Place, place_of};
 use jm_base::{NoMemory, Text};
 use std::alloc::Global;
 
-/// Why a patch does not change a tree: its first bad path in the order of the keys, which is empty where the patch is no
-/// object. Or no memory was left.
+/// Why a patch is rejected: `BadPatch` has its first invalid path in the order of the keys, or the
+/// empty string if the patch is no object; `NoMemory` says that an allocation failed.
 #[derive(Debug, Drop)]
 pub enum PatchFault {
     BadPatch(Text),
@@ -33,13 +33,16 @@ impl From<NoMemory> for PatchFault {
     }
 }
 
-/// A tree changed by a patch, an object whose names are JSON Pointers without the slash that they begin with (RFC 8620,
-/// section 5.3). Null takes the value at a path away, and every other value takes its place. A path is bad where it is a prefix
-/// of another, by parts, and where some part but the last names no member of an object.
-pub fn patch(alloc: Global, tree: &Json, patch: &Json) -> Result<Json, PatchFault>
+/// Returns the tree changed by a patch, which is an object whose names are JSON Pointers without
+/// the slash that they begin with (RFC 8620, section 5.3). The tree is changed in place. Null takes
+/// the value at a path away, and every other value takes its place.
+///
+/// Fails with `BadPatch` if a path is invalid: if it is a prefix of another path by parts, or if
+/// some part but the last names no member of an object, or if the last isn't a name in an object.
+pub fn patch(alloc: Global, tree: Json, patch: &Json) -> Result<Json, PatchFault>
     ensures { MatchResult result
-        (λ t. patching (tree_of tree.now) (tree_of patch.now) ≡ patched (tree_of t))
-        (λ e. ExplainsPatch e (patching (tree_of tree.now) (tree_of patch.now))) }
+        (λ t. patching (tree_of tree) (tree_of patch.now) ≡ patched (tree_of t))
+        (λ e. ExplainsPatch e (patching (tree_of tree) (tree_of patch.now))) }
 {
     match patch.as_object() {
         Some(changes) => patch_members(alloc, tree, changes.as_slice()),
@@ -47,15 +50,15 @@ pub fn patch(alloc: Global, tree: &Json, patch: &Json) -> Result<Json, PatchFaul
     }
 }
 
-fn patch_members(alloc: Global, tree: &Json, changes: &[Member]) -> Result<Json, PatchFault>
+fn patch_members(alloc: Global, tree: Json, changes: &[Member]) -> Result<Json, PatchFault>
     requires { KeysRise (map member_of changes.now) }
     ensures { MatchResult result
-        (λ t. by_path (first_bad_path (map member_of changes.now) (map member_of changes.now) (tree_of tree.now)) (map member_of changes.now) (tree_of tree.now) ≡ patched (tree_of t))
-        (λ e. ExplainsPatch e (by_path (first_bad_path (map member_of changes.now) (map member_of changes.now) (tree_of tree.now)) (map member_of changes.now) (tree_of tree.now))) }
+        (λ t. patching_by (map member_of changes.now) (tree_of tree) ≡ patched (tree_of t))
+        (λ e. ExplainsPatch e (patching_by (map member_of changes.now) (tree_of tree))) }
 {
-    match first_bad(alloc, tree, changes)? {
+    match first_bad(alloc, &tree, changes)? {
         Some(path) => Err(PatchFault::BadPatch(path.copy()?)),
-        None => Ok(change_all(alloc, copy(alloc, tree)?, changes)?),
+        None => Ok(change_all(alloc, tree, changes)?),
     }
 }
 
@@ -66,7 +69,8 @@ fn first_bad<'a>(
 ) -> Result<Option<&'a Text>, NoMemory>
     requires { KeysRise (map member_of changes.now) }
     ensures { IfOk result (λ o. option_map (λ p. p.now) o
-        ≡ first_bad_path (map member_of changes.now) (map member_of changes.now) (tree_of tree.now)) }
+        ≡ first_bad_path (map member_of changes.now) (map member_of changes.now)
+        (tree_of tree.now)) }
 {
     for change in changes {
         if is_bad(alloc, tree, changes, change.name.as_bytes())? {
@@ -79,7 +83,8 @@ fn first_bad<'a>(
 fn is_bad(alloc: Global, tree: &Json, changes: &[Member], path: &[u8]) -> Result<bool, NoMemory>
     requires { KeysRise (map member_of changes.now) }
     ensures { IfOk result (λ b. b
-        ≡ (is_prefix path.now (map member_of changes.now) || not (is_placed_at (cut path.now) (tree_of tree.now)))) }
+        ≡ (is_prefix path.now (map member_of changes.now)
+        || not (is_placed_at (cut path.now) (tree_of tree.now)))) }
 {
     if has_longer(alloc, changes, path)? {
         return Ok(true);
@@ -87,7 +92,8 @@ fn is_bad(alloc: Global, tree: &Json, changes: &[Member], path: &[u8]) -> Result
     Ok(!is_placed(tree, path))
 }
 
-// Whether some path goes on from this one. The first that does stands where this one would with a slash behind it.
+// Returns whether this path is a prefix of another one. The first of the longer paths is at the
+// index where this path with a slash after it would be.
 fn has_longer(alloc: Global, changes: &[Member], path: &[u8]) -> Result<bool, NoMemory>
     requires { KeysRise (map member_of changes.now) }
     ensures { IfOk result (λ b. b ≡ is_prefix path.now (map member_of changes.now)) }
@@ -113,7 +119,7 @@ fn has_longer_at(changes: &[Member], path: &[u8], place: Place) -> bool
     }
 }
 
-// Whether the longer path is the path, a slash and more.
+// Returns whether the longer path is the path, a slash and more.
 fn continues(path: &[u8], longer: &[u8]) -> bool
     ensures { result ≡ goes_on path.now longer.now }
 {
@@ -133,7 +139,8 @@ fn begins_with_slash(path: &[u8]) -> bool
     !path.is_empty() && path[0] == b'/'
 }
 
-// Whether the parts of a path but the last name members that are there, and the last is a name in an object.
+// Returns whether each part of a path but the last names a member that is there, and the last is a
+// name in an object.
 fn is_placed(tree: &Json, path: &[u8]) -> bool
     ensures { result ≡ is_placed_at (cut path.now) (tree_of tree.now) }
 {
@@ -161,14 +168,14 @@ fn member<'a>(tree: &'a Json, part: &[u8]) -> Option<&'a Json>
     }
 }
 
-// A byte of a name that a part writes, and what follows it there.
+// A byte of a name that is escaped in a part, and the rest of the part.
 #[derive(Clone, Copy)]
 struct Unescaped<'a> {
     byte: u8,
     rest: &'a [u8],
 }
 
-// The first byte of the name that a byte of a part and those behind it write.
+// Returns the first byte of the name that is escaped as this byte and the rest.
 fn unescape_first<'a>(byte: u8, rest: &'a [u8]) -> Option<Unescaped<'a>>
     ensures name { MatchOption result (name_of (byte ∷ rest.now) ≡ None)
         (λ u. name_of (byte ∷ rest.now) ≡ option_map (λ k. u.byte ∷ k) (name_of u.rest.now)) }
@@ -194,7 +201,8 @@ fn unescape_tilde<'a>(part: &'a [u8]) -> Option<Unescaped<'a>>
 
 fn unescape_letter<'a>(letter: u8, rest: &'a [u8]) -> Option<Unescaped<'a>>
     ensures name { MatchOption result (unescaped true (letter ∷ rest.now) ≡ None)
-        (λ u. unescaped true (letter ∷ rest.now) ≡ option_map (λ k. u.byte ∷ k) (name_of u.rest.now)) }
+        (λ u. unescaped true (letter ∷ rest.now) ≡ option_map
+        (λ k. u.byte ∷ k) (name_of u.rest.now)) }
     ensures shorter { IfSome result (λ u. length u.rest.now ≤ length rest.now) }
 {
     match letter {
@@ -217,7 +225,7 @@ fn is_name(part: &[u8]) -> bool
     true
 }
 
-// The name that a part writes, where it writes one.
+// Returns the name that is escaped as a part, if there is one.
 fn name_in(alloc: Global, part: &[u8]) -> Result<Option<Text>, NoMemory>
     ensures { IfOk result (λ o. o ≡ name_of part.now) }
 {
@@ -239,7 +247,8 @@ fn name_in(alloc: Global, part: &[u8]) -> Result<Option<Text>, NoMemory>
 }
 
 fn change_all(alloc: Global, tree: Json, changes: &[Member]) -> Result<Json, NoMemory>
-    ensures { IfOk result (λ t. tree_of t ≡ all_changed (map member_of changes.now) (tree_of tree)) }
+    ensures { IfOk result
+        (λ t. tree_of t ≡ all_changed (map member_of changes.now) (tree_of tree)) }
 {
     let mut tree = tree;
     for member in changes {
@@ -250,7 +259,8 @@ fn change_all(alloc: Global, tree: Json, changes: &[Member]) -> Result<Json, NoM
 
 #[cycle(change)]
 fn change(alloc: Global, tree: Json, path: &[u8], value: &Json) -> Result<Json, NoMemory>
-    ensures { IfOk result (λ t. tree_of t ≡ changed (cut path.now) (tree_of value.now) (tree_of tree)) }
+    ensures { IfOk result
+        (λ t. tree_of t ≡ changed (cut path.now) (tree_of value.now) (tree_of tree)) }
 {
     let (part, more) = path.split_at(part_end(path));
     match tree {
@@ -271,16 +281,18 @@ fn change_member(
     value: &Json,
 ) -> Result<Members, NoMemory>
     requires { KeysRise members }
-    ensures last { IfOk result (λ ms. length more.now ≡ 0 → ms ≡ set_member name (tree_of value.now) members) }
+    ensures last { IfOk result
+        (λ ms. length more.now ≡ 0 → ms ≡ set_member name (tree_of value.now) members) }
     ensures inner { IfOk result (λ ms. 0 < length more.now
-        → ms ≡ at_member name (changed (cut (drop 1 more.now)) (tree_of value.now)) (find name members) members) }
+        → ms ≡ at_member name (changed (cut (drop 1 more.now)) (tree_of value.now))
+        (find name members) members) }
 {
     let mut members = members;
     if more.is_empty() {
         put_or_remove(alloc, &mut members, name, value)?;
         return Ok(members);
     }
-    match members.remove(name.as_str()) {
+    match members.take_value(name.as_str()) {
         Some(inner) => {
             let inner = change(alloc, inner, &more[1..], value)?;
             members.put(name, inner)?;

@@ -8,8 +8,8 @@ ghost use Rattle.jm_json.specs.Pointer.{cut, name_of, item_named, child as child
 
 use crate::tree::{Json, Member, value_at};
 
-/// The value that a JSON Pointer names in a tree, if it names one (RFC 6901). An index of a list is decimal, with no leading
-/// zero. No memory is taken.
+/// Returns the value that a JSON Pointer names in a tree, if it names one (RFC 6901). An index of a
+/// list is decimal, with no leading zero. It takes no memory.
 pub fn pointer<'a>(tree: &'a Json, path: &[u8]) -> Option<&'a Json>
     ensures { option_map (λ j. tree_of j.now) result ≡ pointed path.now (tree_of tree.now) }
 {
@@ -37,11 +37,13 @@ fn follow<'a>(tree: &'a Json, path: &[u8]) -> Option<&'a Json>
     child(target, rest)
 }
 
-/// Where the first part of a path ends: at the first slash, else at the path's end.
+/// Returns the byte offset at which the first part of a path ends: at the first slash, else at the
+/// path's end.
 pub fn part_end(path: &[u8]) -> usize
     ensures within { result ≤ length path.now }
     ensures last { result ≡ length path.now → cut path.now ≡ path.now ∷ [] }
-    ensures more { result < length path.now → cut path.now ≡ take result path.now ∷ cut (drop 1 (drop result path.now)) }
+    ensures more { result < length path.now → cut path.now ≡ take result path.now
+        ∷ cut (drop 1 (drop result path.now)) }
 {
     for (i, b) in path.iter().enumerate() {
         if *b == b'/' {
@@ -51,7 +53,7 @@ pub fn part_end(path: &[u8]) -> usize
     path.len()
 }
 
-/// What one part of a path names in a value: a member of an object, or an item of a list.
+/// Returns what one part of a path names in a value: a member of an object, or an item of a list.
 #[tactic(auto, using(crate::proofs::Lists::lists_back))]
 pub fn child<'a>(tree: &'a Json, part: &[u8]) -> Option<&'a Json>
     ensures { option_map (λ j. tree_of j.now) result ≡ child_of part.now (tree_of tree.now) }
@@ -64,7 +66,8 @@ pub fn child<'a>(tree: &'a Json, part: &[u8]) -> Option<&'a Json>
 }
 
 fn item_at<'a>(items: &'a [Json], part: &[u8]) -> Option<&'a Json>
-    ensures { option_map (λ j. tree_of j.now) result ≡ item_named 0 part.now (map tree_of items.now) }
+    ensures { option_map (λ j. tree_of j.now) result
+        ≡ item_named 0 part.now (map tree_of items.now) }
 {
     match index_of(part) {
         Some(index) => if index < items.len() {
@@ -77,7 +80,8 @@ fn item_at<'a>(items: &'a [Json], part: &[u8]) -> Option<&'a Json>
 }
 
 fn index_of(part: &[u8]) -> Option<usize>
-    ensures { MatchOption result ((n : ℕ) → n < 2 ^ 64 → decimal n ≢ part.now) (λ n. decimal n ≡ part.now) }
+    ensures { MatchOption result ((n : ℕ) → n < 2 ^ 64 → decimal n ≢ part.now)
+        (λ n. decimal n ≡ part.now) }
 {
     let Ok(text) = std::str::from_utf8(part) else {
         return None;
@@ -92,7 +96,7 @@ fn index_of(part: &[u8]) -> Option<usize>
     }
 }
 
-// The value of the member that a part names. A part with nothing escaped is itself the name.
+// Returns the value of the member that a part names. A part without escapes is itself the name.
 pub(crate) fn member_at<'a>(members: &'a [Member], part: &[u8]) -> Option<&'a Json>
     requires { KeysRise (map member_of members.now) }
     ensures { option_map (λ j. tree_of j.now) result
@@ -127,7 +131,7 @@ fn written_member<'a>(members: &'a [Member], part: &[u8]) -> Option<&'a Json>
     None
 }
 
-// Whether a name is written as this part.
+// Returns whether a name is escaped as this part.
 fn is_written(name: &[u8], part: &[u8]) -> bool
     ensures { result ≡ bytes_eq (pointer_part name.now) part.now }
 {
@@ -141,7 +145,7 @@ fn is_written(name: &[u8], part: &[u8]) -> bool
     rest.is_empty()
 }
 
-// What follows a byte of a name, where a part begins with it.
+// Returns the rest of a part after an escaped byte, if the part begins with it.
 fn strip<'a>(part: &'a [u8], byte: u8) -> Option<&'a [u8]>
     ensures { option_map (λ m. m.now) result ≡ stripped (pointer_byte byte) part.now }
 {

@@ -1,4 +1,4 @@
-// Reading JSON bytes (RFC 8259) as a tree.
+// Reads JSON bytes (RFC 8259) as a tree.
 ghost use Rattle.std.specs.Prelude.{◌≡◌, ◌∷◌, ◌++◌, Some, None, IfOk, IfErr, OnErr, MatchResult, MatchOption, IsUtf8, decimal, map, pos, negsuc, int_lt, false};
 ghost use Rattle.std.specs.Prelude.{List, ℕ, true};
 ghost use Rattle.serde_json.specs.Data.{Data, array, object};
@@ -13,14 +13,14 @@ ghost use Rattle.jm_json.specs.Data.{data_of, items_of, members_of};
 ghost use Rattle.jm_json.specs.Whole.{is_whole, first_bad, first_bad_item, first_bad_member, under, pointer_part};
 ghost use Rattle.jm_json.specs.Faults.{Refuses};
 
-use crate::parser::{Scratch, Stop, read_plainly};
+use crate::parser::{INTEGER_LIMIT, Scratch, Stop, read_plainly};
 use crate::tree::{Items, Json, Members};
 use jm_base::{NoMemory, Text};
 use serde_json::{Map, Number, Value};
 use std::alloc::{AllocError, Global};
 
-/// Why bytes are no tree: no JSON, a number that is not whole, whose JSON Pointer (RFC 6901) is shown, or no memory was
-/// left.
+/// Why bytes are not read: they are no JSON, a number is no integer within the limits (`NotWhole`
+/// has its JSON Pointer, RFC 6901), or an allocation failed.
 #[derive(Debug, Drop)]
 pub enum ReadFault {
     NotJson,
@@ -56,8 +56,9 @@ impl From<NoMemory> for Misfit {
     }
 }
 
-/// The tree that JSON bytes are, nested at most 127 deep, all of whose numbers are whole and from -2^53+1 to 2^53-1. Of a
-/// repeated key the last member counts. The pointer that is shown names the first other number in the order of the keys.
+/// Reads JSON bytes, nested at most 127 deep, all of whose numbers are integers below 2^53 and
+/// above -2^53. Of members with one key the last counts. The pointer of `NotWhole` names the first
+/// number of another form in the order of the keys.
 pub fn read(alloc: Global, bytes: &[u8]) -> Result<Json, ReadFault>
     ensures { MatchResult result (λ t. reading_of bytes.now ≡ reading.whole (tree_of t))
         (λ e. Explains e (reading_of bytes.now)) }
@@ -66,7 +67,7 @@ pub fn read(alloc: Global, bytes: &[u8]) -> Result<Json, ReadFault>
     read_with(alloc, &mut scratch, bytes)
 }
 
-/// The same, with room that is kept from one call to the next.
+/// Reads JSON bytes like `read`, but reuses the buffers of the reader.
 pub fn read_with(alloc: Global, scratch: &mut Scratch, bytes: &[u8]) -> Result<Json, ReadFault>
     ensures { MatchResult result (λ t. reading_of bytes.now ≡ reading.whole (tree_of t))
         (λ e. Explains e (reading_of bytes.now)) }
@@ -78,7 +79,7 @@ pub fn read_with(alloc: Global, scratch: &mut Scratch, bytes: &[u8]) -> Result<J
     }
 }
 
-// By way of a value, which is looked through for what is wrong with it.
+// Reads the bytes as a value of serde_json, in which a number of another form is looked for.
 #[cold]
 #[inline(never)]
 fn read_exactly(alloc: Global, bytes: &[u8]) -> Result<Json, ReadFault>
@@ -110,7 +111,7 @@ fn tree_from(alloc: Global, value: &Value) -> Result<Json, Misfit>
     match value {
         Value::Null => Ok(Json::Null),
         Value::Bool(b) => Ok(Json::Bool(*b)),
-        Value::Number(number) => match whole(number) {
+        Value::Number(number) => match integer_of(number) {
             Some(z) => Ok(Json::Int(z)),
             None => Err(Misfit::NotWhole(Text::from_str(alloc, "")?)),
         },
@@ -120,13 +121,14 @@ fn tree_from(alloc: Global, value: &Value) -> Result<Json, Misfit>
     }
 }
 
-fn whole(number: &Number) -> Option<i64>
+fn integer_of(number: &Number) -> Option<i64>
     ensures { MatchOption result (is_whole (number_view number.now) ≡ false)
-        (λ z. (is_whole (number_view number.now) ≡ true) × (number_view number.now ≡ of_integer z)) }
+        (λ z. (is_whole (number_view number.now) ≡ true)
+        × (number_view number.now ≡ of_integer z)) }
 {
     match number.as_i64() {
         Some(z) => {
-            if -9007199254740992 < z && z < 9007199254740992 {
+            if -INTEGER_LIMIT < z && z < INTEGER_LIMIT {
                 Some(z)
             } else {
                 None

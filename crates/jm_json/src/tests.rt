@@ -1,4 +1,5 @@
-// Tables of readings. The expected values are those of RFC 8259 and of Python's `json`, with the bounds of whole numbers put in.
+// Tables of readings. The expected values are those of RFC 8259 and of Python's `json`, with the
+// bounds of whole numbers put in.
 use crate::{
     Created, Invocation, Invocations, Items, Json, Made, Members, PatchFault, ReadFault, Replied,
     Scratch, copy, patch, pointer, read, read_with, write, write_after,
@@ -353,7 +354,7 @@ fn tree_of(alloc: Global, text: &str) -> Result<Json, AllocError> {
 }
 
 fn patching(alloc: Global, tree: &str, change: &str) -> Result<Vec<u8>, AllocError> {
-    match patch(alloc, &tree_of(alloc, tree)?, &tree_of(alloc, change)?) {
+    match patch(alloc, tree_of(alloc, tree)?, &tree_of(alloc, change)?) {
         Ok(tree) => text_of(alloc, &tree),
         Err(PatchFault::BadPatch(path)) => {
             let mut text = Vec::from_slice(alloc, b"bad: ")?;

@@ -1,17 +1,19 @@
-// JSON trees (RFC 8259), and looking into them.
-ghost use Rattle.std.specs.Prelude.{◌≡◌, [], ◌∷◌, ◌++◌, map, option_map, OnOk, OnErr, IfOk};
+// JSON trees (RFC 8259).
+ghost use Rattle.std.specs.Prelude.{◌≡◌, [], ◌∷◌, ◌++◌, map, option_map, OnOk, OnErr, IfOk, IsTrue, MatchOption};
+ghost use Rattle.jm_json.specs.Tree.{null};
 ghost use Rattle.jm_json.specs.Json.{tree_of, member_of};
 ghost use Rattle.jm_json.specs.Order.{KeysRise, put};
 ghost use Rattle.jm_json.specs.Patch.{take_away};
-ghost use Rattle.jm_json.specs.Place.{IsPlace};
+ghost use Rattle.jm_json.specs.Place.{AllBelow, IsPlace};
 ghost use Rattle.jm_json.specs.Find.{find, as_text, as_list, as_object};
 
 use jm_base::{NoMemory, Text};
 use std::alloc::Global;
 use std::cmp::Ordering;
 use std::marker::Model;
+use std::mem;
 
-/// A JSON tree whose numbers are whole. Contracts see it as a `Tree`, by `tree_of`.
+/// A JSON tree whose numbers are integers. Contracts see it as a `Tree`, by `tree_of`.
 #[derive(Debug, Drop)]
 #[cycle(json)]
 pub enum Json {
@@ -23,14 +25,15 @@ pub enum Json {
     Object(Members),
 }
 
-/// The items of a list, seen by contracts as the list of their trees.
+/// The items of a list. Contracts see them as the list of their trees.
 #[derive(Debug, Drop)]
 #[cycle(json)]
 pub struct Items {
     items: Vec<Json>,
 }
 
-/// The members of an object, seen by contracts as the list of pairs of key and tree: each key once, in byte order.
+/// The members of an object, each key once, in byte order. Contracts see them as the list of pairs
+/// of key and tree.
 #[derive(Debug, Drop)]
 #[cycle(json)]
 pub struct Members {
@@ -45,7 +48,7 @@ pub struct Member {
     pub value: Json,
 }
 
-// Where a key stands in an object, or where it would stand as a new one.
+// The index of a key in an object, or the index at which it would be inserted.
 #[derive(Clone, Copy)]
 pub(crate) enum Place {
     Held(usize),
@@ -107,7 +110,7 @@ impl Model for Members {
 }
 
 impl Json {
-    /// The text, if the tree is one.
+    /// Lends the string, if the tree is one.
     pub fn as_text(&self) -> Option<&Text>
         ensures { option_map (λ t. t.now) result ≡ as_text (tree_of self.now) }
     {
@@ -118,7 +121,7 @@ impl Json {
         }
     }
 
-    /// The items, if the tree is a list.
+    /// Lends the items, if the tree is a list.
     #[tactic(auto, using(crate::proofs::Lists::lists_back))]
     pub fn as_list(&self) -> Option<&Items>
         ensures { option_map (λ ts. ts.now) result ≡ as_list (tree_of self.now) }
@@ -130,7 +133,7 @@ impl Json {
         }
     }
 
-    /// The members, if the tree is an object.
+    /// Lends the members, if the tree is an object.
     #[tactic(auto, using(crate::proofs::Lists::lists_back))]
     pub fn as_object(&self) -> Option<&Members>
         ensures { option_map (λ ms. ms.now) result ≡ as_object (tree_of self.now) }
@@ -144,7 +147,7 @@ impl Json {
 }
 
 impl Items {
-    /// No items. It takes no memory.
+    /// Returns no items. It takes no memory.
     pub fn new(alloc: Global) -> Items
         ensures { result ≡ [] }
     {
@@ -153,7 +156,7 @@ impl Items {
         }
     }
 
-    /// No items, with room for some.
+    /// Returns no items, with room for so many.
     pub fn with_room(alloc: Global, room: usize) -> Result<Items, NoMemory>
         ensures { IfOk result (λ ts. ts ≡ []) }
     {
@@ -162,14 +165,14 @@ impl Items {
         })
     }
 
-    /// The items of a vector. It takes no memory.
+    /// Returns the items of a vector. It takes no memory.
     pub fn from_vec(items: Vec<Json>) -> Items
         ensures { result ≡ map tree_of items.items }
     {
         Items { items }
     }
 
-    /// The vector of the items. It takes no memory.
+    /// Returns the vector of the items. It takes no memory.
     pub fn into_vec(self) -> Vec<Json>
         ensures { map tree_of result.items ≡ self }
     {
@@ -184,7 +187,7 @@ impl Items {
         self.items.as_slice()
     }
 
-    /// Puts the items of another list at the end.
+    /// Adds the items of another list at the end. If an allocation fails, the items are unchanged.
     pub fn append(&mut self, more: Items) -> Result<(), NoMemory>
         ensures ok { OnOk result (self.new ≡ self.old ++ more) }
         ensures err { OnErr result (self.new ≡ self.old) }
@@ -194,7 +197,7 @@ impl Items {
         Ok(())
     }
 
-    /// Puts an item at the end.
+    /// Adds an item at the end. If an allocation fails, the items are unchanged.
     pub fn push(&mut self, item: Json) -> Result<(), NoMemory>
         ensures ok { OnOk result (self.new ≡ self.old ++ tree_of item ∷ []) }
         ensures err { OnErr result (self.new ≡ self.old) }
@@ -205,7 +208,7 @@ impl Items {
 }
 
 impl Members {
-    /// No members. It takes no memory.
+    /// Returns no members. It takes no memory.
     pub fn new(alloc: Global) -> Members
         ensures { result ≡ [] }
     {
@@ -214,7 +217,7 @@ impl Members {
         }
     }
 
-    /// No members, with room for some.
+    /// Returns no members, with room for so many.
     pub fn with_room(alloc: Global, room: usize) -> Result<Members, NoMemory>
         ensures { IfOk result (λ ms. ms ≡ []) }
     {
@@ -223,7 +226,15 @@ impl Members {
         })
     }
 
-    /// The vector of the members. It takes no memory.
+    // Returns the members of a vector whose keys rise. It takes no memory.
+    pub(crate) fn from_rising(members: Vec<Member>) -> Members
+        requires { KeysRise (map member_of members.items) }
+        ensures { result ≡ map member_of members.items }
+    {
+        Members { members }
+    }
+
+    /// Returns the vector of the members. It takes no memory.
     pub fn into_vec(self) -> Vec<Member>
         ensures value { map member_of result.items ≡ self }
         ensures order { KeysRise (map member_of result.items) }
@@ -240,14 +251,33 @@ impl Members {
         self.members.as_slice()
     }
 
-    /// The value at a key.
+    /// Lends the value at a key.
     pub fn get(&self, name: &str) -> Option<&Json>
         ensures { option_map (λ j. tree_of j.now) result ≡ find name.now self.now }
     {
         value_at(self.members.as_slice(), name.as_bytes())
     }
 
-    /// Adds a member whose key is past the others.
+    // Returns whether a key comes after all keys of the object.
+    pub(crate) fn is_past(&self, name: &str) -> bool
+        ensures past { IsTrue result → AllBelow name.now self.now }
+        ensures not_past { AllBelow name.now self.now → IsTrue result }
+        ensures order { KeysRise self.now }
+    {
+        is_past_all(self.members.as_slice(), name.as_bytes())
+    }
+
+    // Takes the value at a key out of the object, and leaves null in its place.
+    pub(crate) fn take_value(&mut self, name: &str) -> Option<Json>
+        ensures value { option_map tree_of result ≡ find name.now self.old }
+        ensures rest { MatchOption result (self.new ≡ self.old)
+            (λ _. self.new ≡ put name.now null self.old) }
+    {
+        take_value_of(&mut self.members, name.as_bytes())
+    }
+
+    /// Adds a member whose key comes after the others. If an allocation fails, the members are
+    /// unchanged.
     pub fn push(&mut self, name: Text, value: Json) -> Result<(), NoMemory>
         requires { KeysRise (self.old ++ (name, tree_of value) ∷ []) }
         ensures ok { OnOk result (self.new ≡ self.old ++ (name, tree_of value) ∷ []) }
@@ -257,7 +287,8 @@ impl Members {
         Ok(())
     }
 
-    /// Sets the value at a key: in place of the one that is there, else as a new member at its place in the order.
+    /// Sets the value at a key: in place of the one that is there, else as a new member at its
+    /// index in the order. If an allocation fails, the members are unchanged.
     pub fn put(&mut self, name: Text, value: Json) -> Result<(), NoMemory>
         ensures ok { OnOk result (self.new ≡ put name (tree_of value) self.old) }
         ensures err { OnErr result (self.new ≡ self.old) }
@@ -265,7 +296,7 @@ impl Members {
         put_member(&mut self.members, name, value)
     }
 
-    /// Takes the member of a key away, and gives its value.
+    /// Removes the member of a key, and returns its value.
     pub fn remove(&mut self, name: &str) -> Option<Json>
         ensures value { option_map (λ j. tree_of j) result ≡ find name.now self.old }
         ensures rest { self.new ≡ take_away name.now self.old }
@@ -273,7 +304,7 @@ impl Members {
         remove_member(&mut self.members, name.as_bytes())
     }
 
-    /// Sets the value at a key that is given as a slice.
+    /// Sets the value at a key that is copied. If an allocation fails, the members are unchanged.
     pub fn set(&mut self, alloc: Global, name: &str, value: Json) -> Result<(), NoMemory>
         ensures ok { OnOk result (self.new ≡ put name.now (tree_of value) self.old) }
         ensures err { OnErr result (self.new ≡ self.old) }
@@ -282,7 +313,7 @@ impl Members {
     }
 }
 
-// The value at a key.
+// Lends the value at a key.
 pub(crate) fn value_at<'a>(members: &'a [Member], name: &[u8]) -> Option<&'a Json>
     requires { KeysRise (map member_of members.now) }
     ensures { option_map (λ j. tree_of j.now) result ≡ find name.now (map member_of members.now) }
@@ -293,11 +324,13 @@ pub(crate) fn value_at<'a>(members: &'a [Member], name: &[u8]) -> Option<&'a Jso
     }
 }
 
-// Takes the member of a name away, and gives its value.
+// Removes the member of a name, and returns its value.
 fn remove_member(members: &mut Vec<Member>, name: &[u8]) -> Option<Json>
     requires { KeysRise (map member_of members.old.items) }
-    ensures value { option_map (λ j. tree_of j) result ≡ find name.now (map member_of members.old.items) }
-    ensures rest { map member_of members.new.items ≡ take_away name.now (map member_of members.old.items) }
+    ensures value { option_map (λ j. tree_of j) result
+        ≡ find name.now (map member_of members.old.items) }
+    ensures rest { map member_of members.new.items
+        ≡ take_away name.now (map member_of members.old.items) }
 {
     match place_of(members.as_slice(), name) {
         Place::Held(at) => {
@@ -308,9 +341,37 @@ fn remove_member(members: &mut Vec<Member>, name: &[u8]) -> Option<Json>
     }
 }
 
+// Returns whether a key comes after all keys.
+fn is_past_all(members: &[Member], name: &[u8]) -> bool
+    requires { KeysRise (map member_of members.now) }
+    ensures past { IsTrue result → AllBelow name.now (map member_of members.now) }
+    ensures not_past { AllBelow name.now (map member_of members.now) → IsTrue result }
+{
+    match place_of(members, name) {
+        Place::Held(_) => false,
+        Place::New(at) => at == members.len(),
+    }
+}
+
+// Takes the value at a name out, and leaves null in its place.
+fn take_value_of(members: &mut Vec<Member>, name: &[u8]) -> Option<Json>
+    requires { KeysRise (map member_of members.old.items) }
+    ensures value { option_map tree_of result ≡ find name.now (map member_of members.old.items) }
+    ensures rest { MatchOption result (members.new.items ≡ members.old.items)
+        (λ _. map member_of members.new.items
+        ≡ put name.now null (map member_of members.old.items)) }
+{
+    match place_of(members.as_slice(), name) {
+        Place::Held(at) => Some(mem::replace(&mut members[at].value, Json::Null)),
+        Place::New(_) => None,
+    }
+}
+
 fn put_member(members: &mut Vec<Member>, name: Text, value: Json) -> Result<(), NoMemory>
     requires { KeysRise (map member_of members.old.items) }
-    ensures ok { OnOk result (map member_of members.new.items ≡ put name (tree_of value) (map member_of members.old.items)) }
+    ensures ok { OnOk result
+        (map member_of members.new.items
+        ≡ put name (tree_of value) (map member_of members.old.items)) }
     ensures err { OnErr result (members.new.items ≡ members.old.items) }
 {
     match place_of(members.as_slice(), name.as_bytes()) {
@@ -325,7 +386,8 @@ fn put_member(members: &mut Vec<Member>, name: Text, value: Json) -> Result<(), 
     }
 }
 
-// The place of a key, by halving. The last key is looked at first, so that one that is past all takes one comparison.
+// Returns the index of a key by binary search. The last key is compared first, so that a key that
+// comes after all takes one comparison.
 pub(crate) fn place_of(members: &[Member], name: &[u8]) -> Place
     requires { KeysRise (map member_of members.now) }
     ensures { IsPlace result name.now (map member_of members.now) }

@@ -1,4 +1,4 @@
-// Writing a tree as JSON bytes.
+// Writes a tree as JSON bytes.
 ghost use Rattle.std.specs.Prelude.{◌≡◌, ◌≤◌, ◌++◌, Some, None, IfOk, OnOk, OnErr, IsUtf8, map};
 ghost use Rattle.serde_json.specs.Data.{depth, number};
 ghost use Rattle.serde_json.specs.Find.{of_integer};
@@ -19,22 +19,24 @@ use json::Writer;
 use std::alloc::{AllocError, Global};
 use std::mem;
 
-// Most replies fit into this many bytes, so that one allocation is enough.
-const ROOM: usize = 256;
+// The bytes that are reserved for a text. Most replies fit, so one allocation is enough.
+const INITIAL_TEXT_BYTES: usize = 256;
 
-/// The compact text of a tree, with keys in byte order (RFC 8259). It is read back as the tree, where that nests at most
-/// 127 deep and its numbers are from -2^53+1 to 2^53-1.
+/// Returns the compact text of a tree, with keys in byte order (RFC 8259). It is read back as the
+/// tree if that nests at most 127 deep and its numbers are below 2^53 and above -2^53.
 pub fn write(alloc: Global, tree: &Json) -> Result<Bytes, NoMemory>
     ensures text { IfOk result (λ b. b ≡ compact_text (data_of (tree_of tree.now))) }
     ensures reads_back { IfOk result (λ b. depth (data_of (tree_of tree.now)) ≤ max_depth
-        → first_bad (data_of (tree_of tree.now)) ≡ None → reading_of b ≡ reading.whole (tree_of tree.now)) }
+        → first_bad (data_of (tree_of tree.now)) ≡ None → reading_of b
+        ≡ reading.whole (tree_of tree.now)) }
 {
-    let mut bytes = Vec::with_capacity(alloc, ROOM)?;
+    let mut bytes = Vec::with_capacity(alloc, INITIAL_TEXT_BYTES)?;
     append_text(alloc, &mut bytes, tree)?;
     Ok(Bytes::from_vec(bytes))
 }
 
-/// Puts the compact text of a tree behind what is there already.
+/// Adds the compact text of a tree after what is there. If an allocation fails, the bytes are
+/// unchanged.
 pub fn write_after(alloc: Global, out: &mut Bytes, tree: &Json) -> Result<(), NoMemory>
     ensures ok { OnOk result (out.new ≡ out.old ++ compact_text (data_of (tree_of tree.now))) }
     ensures err { OnErr result (out.new ≡ out.old) }
@@ -46,10 +48,12 @@ pub fn write_after(alloc: Global, out: &mut Bytes, tree: &Json) -> Result<(), No
 }
 
 fn append_text(alloc: Global, out: &mut Vec<u8>, tree: &Json) -> Result<(), NoMemory>
-    ensures ok { OnOk result (out.new.items ≡ out.old.items ++ compact_text (data_of (tree_of tree.now))) }
+    ensures ok { OnOk result
+        (out.new.items ≡ out.old.items ++ compact_text (data_of (tree_of tree.now))) }
     ensures utf8 { OnOk result (IsUtf8 (compact_text (data_of (tree_of tree.now)))) }
     ensures reads_back { OnOk result (depth (data_of (tree_of tree.now)) ≤ max_depth
-        → json_text.read (compact_text (data_of (tree_of tree.now))) ≡ Some (data_of (tree_of tree.now))) }
+        → json_text.read (compact_text (data_of (tree_of tree.now)))
+        ≡ Some (data_of (tree_of tree.now))) }
     ensures err { OnErr result (out.new.items ≡ out.old.items) }
 {
     let before = out.len();
@@ -65,10 +69,11 @@ fn append_text(alloc: Global, out: &mut Vec<u8>, tree: &Json) -> Result<(), NoMe
     }
 }
 
-// A failure leaves some of the tokens written.
+// If an allocation fails, some of the tokens were written.
 #[cycle(put)]
 fn put_tree(tree: &Json, out: &mut Writer) -> Result<(), AllocError>
-    ensures ok { OnOk result (WritesValue (data_of (tree_of tree.now)) out.old.tokens out.new.tokens) }
+    ensures ok { OnOk result
+        (WritesValue (data_of (tree_of tree.now)) out.old.tokens out.new.tokens) }
     ensures before { out.new.before ≡ out.old.before }
 {
     match tree {
@@ -111,7 +116,8 @@ fn put_items(items: &[Json], out: &mut Writer) -> Result<(), AllocError>
 fn put_members(members: &[Member], out: &mut Writer) -> Result<(), AllocError>
     requires { KeysRise (map member_of members.now) }
     ensures ok { OnOk result
-        (WritesMembers (members_of (fields_of (map member_of members.now))) out.old.tokens out.new.tokens) }
+        (WritesMembers
+        (members_of (fields_of (map member_of members.now))) out.old.tokens out.new.tokens) }
     ensures before { out.new.before ≡ out.old.before }
 {
     for member in members {

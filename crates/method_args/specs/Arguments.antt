@@ -1,5 +1,5 @@
--- The arguments of a method call: the members of an object, by name (RFC 8620, 3.2 and 5). Members of names that a method
--- does not have are ignored.
+-- The arguments of a method call: the members of an object, by name (RFC 8620, 3.2 and 5). Members
+-- of names that a method does not have are ignored.
 use Rattle.std.specs.Prelude.{ℕ, ℤ, pos, negsuc, List, [], ◌∷◌, length, ◌==◌, Bool, true, false, ◌&&◌, ◌||◌, Option, Some, None, is_some, option_and_then, if◌then◌else◌, codes}
 use Rattle.std.specs.List.{list_all}
 use Rattle.jm_json.specs.Tree.{Tree, null, boolean, number, text, list, object}
@@ -96,16 +96,17 @@ pub record Form : Type 0 where
 abbrev pub form_of : Argument → Form
 form_of a = record { name = a.name.now; presence = a.presence; shape = a.shape }
 
--- The name of the first argument, in the order of the forms, that does not have its form (RFC 8620, 3.6.2:
--- `invalidArguments`).
+-- The name of the first argument, in the order of the forms, that does not have its form (RFC 8620,
+-- 3.6.2: `invalidArguments`).
 abbrev pub find_invalid : List Form → List (List ℕ × Tree) → Option (List ℕ)
 find_invalid [] members = None
 find_invalid (f ∷ fs) members =
-    if has_form f.presence f.shape (find f.name members) then find_invalid fs members else Some f.name
+    if has_form f.presence f.shape
+    (find f.name members) then find_invalid fs members else Some f.name
 
 -- ---- the value of an argument
 
--- null stands for an argument that is absent
+-- null means an argument that is absent
 abbrev pub but_null : Tree → Option Tree
 but_null null = None
 but_null (boolean b) = Some (boolean b)

@@ -1,4 +1,5 @@
-// The forms of arguments, and the first argument that does not have its form (RFC 8620, sections 1.3, 3.6.2 and 5).
+// The forms of arguments, and the first argument that does not have its form (RFC 8620, sections
+// 1.3, 3.6.2 and 5).
 ghost use Rattle.std.specs.Prelude.{◌≡◌, ◌&&◌, ◌||◌, map, is_some, option_map, option_and_then};
 ghost use Rattle.std.specs.List.{list_all};
 ghost use Rattle.jm_json.specs.Find.{as_object, as_list, find, texts_from};
@@ -199,7 +200,8 @@ fn has_shape(shape: Shape, value: &Json) -> bool
     }
 }
 
-/// Returns whether the value of an argument, or its absence, is of this form (RFC 8620, section 3.6.2).
+/// Returns whether the value of an argument, or its absence, is of this form (RFC 8620, section
+/// 3.6.2).
 pub fn has_form(presence: Presence, shape: Shape, value: Option<&Json>) -> bool
     ensures { result ≡ has_form presence shape (option_map (λ j. tree_of j.now) value.entry) }
 {
@@ -209,9 +211,11 @@ pub fn has_form(presence: Presence, shape: Shape, value: Option<&Json>) -> bool
     }
 }
 
-/// Returns the name of the first of these arguments that does not have its form. Members of other names are ignored.
+/// Returns the name of the first of these arguments that does not have its form. Members of other
+/// names are ignored.
 pub fn find_invalid<'a>(members: &Members, arguments: &[Argument<'a>]) -> Option<&'a str>
-    ensures { option_map (λ s. s.now) result ≡ find_invalid (map form_of arguments.now) members.now }
+    ensures { option_map (λ s. s.now) result
+        ≡ find_invalid (map form_of arguments.now) members.now }
 {
     for argument in arguments {
         if !has_form(

@@ -1,11 +1,14 @@
-//! Reads the arguments of a method call: the members of an object, by name (RFC 8620, sections 3.2 and 5).
+//! Reads the arguments of a method call: the members of an object, by name (RFC 8620, sections 3.2
+//! and 5).
 //!
-//! A method lists its [`Argument`]s in the order in which they are checked. [`find_invalid`] returns the name of the first one
-//! that does not have its form; the other functions read the value of one argument. Arguments of names that a method does not
-//! have are ignored.
+//! A method lists its [`Argument`]s in the order in which they are checked. [`find_invalid`]
+//! returns the name of the first one that does not have its form; the other functions read the
+//! value of one argument. Arguments of names that a method does not have are ignored.
 #![tactic(auto)]
 
 mod form;
+#[cfg(test)]
+mod tests;
 mod values;
 
 pub use form::{Argument, Presence, Shape, find_invalid, has_form};
@@ -14,5 +17,6 @@ pub use values::{
     read_text, strings_of,
 };
 
-/// The greatest number of objects that one call may get or set: `maxObjectsInGet` and `maxObjectsInSet` (RFC 8620, section 2).
+/// The greatest number of objects that one call may get or set: `maxObjectsInGet` and
+/// `maxObjectsInSet` (RFC 8620, section 2).
 pub const MAX_OBJECTS_PER_CALL: usize = 500;

@@ -41,7 +41,8 @@ pub fn read_object<'a>(members: &'a Members, name: &str) -> Option<&'a Members>
 
 // Returns the strings of a list all of whose items are strings.
 fn strings_from<'a>(alloc: Global, items: &'a [Json]) -> Result<Option<Vec<&'a str>>, NoMemory>
-    ensures { IfOk result (λ o. option_map (λ v. map (λ t. t.now) v.items) o ≡ texts_from (map tree_of items.now)) }
+    ensures { IfOk result
+        (λ o. option_map (λ v. map (λ t. t.now) v.items) o ≡ texts_from (map tree_of items.now)) }
 {
     let mut strings = Vec::new(alloc);
     for item in items {
@@ -55,7 +56,8 @@ fn strings_from<'a>(alloc: Global, items: &'a [Json]) -> Result<Option<Vec<&'a s
 
 /// Returns the strings of a value, which are lent, or `None` if the value is no list of strings.
 pub fn strings_of<'a>(alloc: Global, value: &'a Json) -> Result<Option<Vec<&'a str>>, NoMemory>
-    ensures { IfOk result (λ o. option_map (λ v. map (λ t. t.now) v.items) o ≡ as_strings (tree_of value.now)) }
+    ensures { IfOk result
+        (λ o. option_map (λ v. map (λ t. t.now) v.items) o ≡ as_strings (tree_of value.now)) }
 {
     match value.as_list() {
         Some(items) => strings_from(alloc, items.as_slice()),
@@ -63,13 +65,15 @@ pub fn strings_of<'a>(alloc: Global, value: &'a Json) -> Result<Option<Vec<&'a s
     }
 }
 
-/// Returns the strings of an argument, which are lent, or `None` if the argument is absent, null or no list of strings.
+/// Returns the strings of an argument, which are lent, or `None` if the argument is absent, null or
+/// no list of strings.
 pub fn read_strings<'a>(
     alloc: Global,
     members: &'a Members,
     name: &str,
 ) -> Result<Option<Vec<&'a str>>, NoMemory>
-    ensures { IfOk result (λ o. option_map (λ v. map (λ t. t.now) v.items) o ≡ strings_in name.now members.now) }
+    ensures { IfOk result
+        (λ o. option_map (λ v. map (λ t. t.now) v.items) o ≡ strings_in name.now members.now) }
 {
     match find_given(members, name) {
         Some(value) => strings_of(alloc, value),
@@ -87,7 +91,8 @@ fn flag_by(value: Option<&Json>) -> Option<bool>
     }
 }
 
-/// Returns the boolean of an argument, false if the argument is absent, or `None` if it is no boolean.
+/// Returns the boolean of an argument, false if the argument is absent, or `None` if it is no
+/// boolean.
 pub fn read_flag(members: &Members, name: &str) -> Option<bool>
     ensures { result ≡ flag_in name.now members.now }
 {
@@ -113,8 +118,8 @@ fn count_by(value: Option<&Json>) -> Option<u64>
     }
 }
 
-/// Returns the UnsignedInt of an argument, 0 if the argument is absent, or `None` if it is no UnsignedInt (RFC 8620,
-/// section 1.3).
+/// Returns the UnsignedInt of an argument, 0 if the argument is absent, or `None` if it is no
+/// UnsignedInt (RFC 8620, section 1.3).
 pub fn read_count(members: &Members, name: &str) -> Option<u64>
     ensures { result ≡ count_in name.now members.now }
 {

@@ -8,6 +8,7 @@ use Rattle.jm_json.specs.Reading.{Reading, not_json, not_whole, whole, reading_o
 use Rattle.jm_json.specs.declared.invocation.Created.{Created}
 use Rattle.jm_json.specs.declared.invocation.Invocation.{Invocation}
 use Rattle.jm_json.specs.declared.invocation.Replied.{Replied}
+use Rattle.method_batch.specs.declared.limits.TheConstants.{MAX_REQUEST_BYTES}
 use Rattle.method_batch.specs.Method.{core_capability, mail_capability}
 use Rattle.method_batch.specs.Request.{request_of, problem_in, uses}
 use Rattle.method_batch.specs.Prepared.{Preparation, refused, ready, preparation}
@@ -116,4 +117,4 @@ module _ {S : Type 0} (answers : S → Call → List Created → Replied → S �
 
   -- nothing was begun of the bytes of a request
   pub not_begun : (s s' : S) (bytes : List ℕ) → s' ≡ s → HasBegunAnswer answers stops s s' bytes
-  not_begun s s' bytes e = subst (λ (x : S). HasBegunAnswer answers stops s x bytes) (sym e) (long_not_begun s (nat_lt 10000000 (length bytes)) (reading_of bytes))
+  not_begun s s' bytes e = subst (λ (x : S). HasBegunAnswer answers stops s x bytes) (sym e) (long_not_begun s (nat_lt MAX_REQUEST_BYTES (length bytes)) (reading_of bytes))

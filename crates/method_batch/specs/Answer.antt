@@ -12,28 +12,34 @@ pub record Asked : Type 0 where
   pub made : List Created
   pub replied : Replied
 
--- A port goes from one state to another by a relation: this call, with this made, may be replied so. These were the calls
--- that took it from one state to another.
-abbrev pub Runs : {S : Type 0} → (S → Call → List Created → Replied → S → Type 0) → S → List Asked → S → Type 0
+-- A port goes from one state to another by a relation: this call, with this made, may be replied
+-- so. These were the calls that took it from one state to another.
+abbrev pub Runs : {S : Type 0} → (S → Call → List Created → Replied → S → Type 0) → S → List Asked
+    → S → Type 0
 Runs answers s [] s' = s' ≡ s
-Runs {S} answers s (a ∷ rest) s' = (m : S) × answers s a.call a.made a.replied m × Runs answers m rest s'
+Runs {S} answers s (a ∷ rest) s' =
+    (m : S) × answers s a.call a.made a.replied m × Runs answers m rest s'
 
 abbrev pub is_echo : Call → Bool
 is_echo c = bytes_eq c.name (codes "Core/echo")
 
 -- the port was asked nothing, and the reply is this response alone
 abbrev pub RepliesAlone : Call → List Asked → Replied → Type 0
-RepliesAlone response asked replied = (asked ≡ []) × (replied ≡ record { responses = response ∷ []; made = [] })
+RepliesAlone response asked replied =
+    (asked ≡ []) × (replied ≡ record { responses = response ∷ []; made = [] })
 
--- What a call is replied, and what the port was asked for it: a refused call is replied by its refusal, an echo by itself, and
--- any other call is asked of the port, with its arguments resolved.
+-- What a call is replied, and what the port was asked for it: a refused call is replied by its
+-- refusal, an echo by itself, and any other call is asked of the port, with its arguments resolved.
 abbrev pub RepliesPrepared : Preparation → List Created → List Asked → Replied → Type 0
 RepliesPrepared (refused response) made asked replied = RepliesAlone response asked replied
-RepliesPrepared (ready c) made asked replied = cond (is_echo c) (RepliesAlone c asked replied) (asked ≡ record { call = c; made = made; replied = replied } ∷ [])
+RepliesPrepared (ready c) made asked replied =
+    cond (is_echo c) (RepliesAlone c asked replied)
+    (asked ≡ record { call = c; made = made; replied = replied } ∷ [])
 
--- the same of a call of a request that has come so far
+-- the same of a call of a request that has come up to here
 abbrev pub RepliesOne : Bool → Bool → Call → Progress → List Asked → Replied → Type 0
-RepliesOne core mail c before asked replied = RepliesPrepared (preparation core mail c before.responses) before.made asked replied
+RepliesOne core mail c before asked replied =
+    RepliesPrepared (preparation core mail c before.responses) before.made asked replied
 
 -- the progress after a reply
 abbrev pub after_reply : Progress → Replied → Progress
@@ -44,7 +50,8 @@ abbrev pub Answers : Bool → Bool → List Call → Progress → List Asked →
 Answers core mail [] before asked after = (asked ≡ []) × (after ≡ before)
 Answers core mail (c ∷ cs) before asked after =
     (first : List Asked) × (more : List Asked) × (replied : Replied) × (asked ≡ first ++ more)
-    × RepliesOne core mail c before first replied × Answers core mail cs (after_reply before replied) more after
+    × RepliesOne core mail c before first replied
+    × Answers core mail cs (after_reply before replied) more after
 
 -- ---- of a port that goes from the state s to s' meanwhile
 
@@ -62,7 +69,7 @@ abbrev pub StopsPrepared : {S : Type 0} → (S → Call → List Created → S �
 StopsPrepared stops s s' (refused response) made = s' ≡ s
 StopsPrepared stops s s' (ready c) made = cond (is_echo c) (s' ≡ s) (stops s c made s')
 
--- the same of a call of a request that has come so far
+-- the same of a call of a request that has come up to here
 abbrev pub StopsOne : {S : Type 0} → (S → Call → List Created → S → Type 0)
     → S → S → Bool → Bool → Call → Progress → Type 0
 StopsOne stops s s' core mail c before =
@@ -76,15 +83,15 @@ StopsOrPerforms answers stops s s' core mail c before =
     StopsOne stops s s' core mail c before
     ⊎ ((after : Progress) × HasPerformed answers s s' core mail c before after)
 
--- The port is left so where the first of these calls ended out of memory. Where there is no call, it
--- is as it was.
+-- The port is left so where the first of these calls ended out of memory. Where there is no call,
+-- it is as it was.
 abbrev pub StopsAtFirst : {S : Type 0} → (S → Call → List Created → S → Type 0)
     → S → S → Bool → Bool → List Call → Progress → Type 0
 StopsAtFirst stops s s' core mail [] before = s' ≡ s
 StopsAtFirst stops s s' core mail (c ∷ cs) before = StopsOne stops s s' core mail c before
 
--- Calls of a request that ended out of memory: the first ones were performed, each once and in order,
--- the port stopped at the next one, and no other was performed.
+-- Calls of a request that ended out of memory: the first ones were performed, each once and in
+-- order, the port stopped at the next one, and no other was performed.
 abbrev pub HasBegunCalls : {S : Type 0} → (S → Call → List Created → Replied → S → Type 0)
     → (S → Call → List Created → S → Type 0) → S → S → Bool → Bool → List Call → Progress → Type 0
 HasBegunCalls {S} answers stops s s' core mail cs before =

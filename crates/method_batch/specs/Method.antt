@@ -1,4 +1,5 @@
--- The methods, and the capabilities that they belong to (RFC 8620, sections 1.8, 2 and 4; RFC 8621, section 1.3).
+-- The methods, and the capabilities that they belong to (RFC 8620, sections 1.8, 2 and 4; RFC 8621,
+-- section 1.3).
 use Rattle.std.specs.Prelude.{ℕ, List, Bool, ◌&&◌, ◌||◌, codes, bytes_eq}
 
 abbrev pub core_capability : List ℕ
@@ -11,7 +12,8 @@ abbrev pub websocket_capability : List ℕ
 websocket_capability = codes "urn:ietf:params:jmap:websocket"
 
 abbrev pub is_capability : List ℕ → Bool
-is_capability s = bytes_eq s core_capability || bytes_eq s mail_capability || bytes_eq s websocket_capability
+is_capability s =
+    bytes_eq s core_capability || bytes_eq s mail_capability || bytes_eq s websocket_capability
 
 -- the methods of the core
 abbrev pub is_core_method : List ℕ → Bool

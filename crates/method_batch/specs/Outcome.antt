@@ -10,6 +10,7 @@ use Rattle.jm_json.specs.declared.invocation.Replied.{Replied}
 use Rattle.method_batch.specs.Method.{core_capability, mail_capability}
 use Rattle.method_batch.specs.Request.{request_of, problem_in, uses}
 use Rattle.method_batch.specs.Answer.{Asked, Runs, Answers, HasBegunCalls}
+use Rattle.method_batch.specs.declared.limits.TheConstants.{MAX_REQUEST_BYTES}
 use Rattle.method_batch.specs.declared.progress.Progress.{Progress}
 use Rattle.method_batch.specs.declared.request.Request.{Request}
 use Rattle.method_batch.specs.declared.outcome.Outcome.{Outcome}
@@ -18,11 +19,12 @@ use Rattle.method_batch.specs.declared.outcome.Problem.TheVariants.{NotJson, Not
 
 -- ---- the Response
 
--- a call or a response as it stands in a text
+-- a call or a response as it is in a text
 abbrev pub call_tree : Call → Tree
 call_tree c = list (trees_of (text c.name ∷ c.args ∷ text c.id ∷ []))
 
--- the members for what was made, one after another put to those before: of a creation id that was made twice the last counts
+-- the members for what was made, one after another put to those before: of a creation id that was
+-- made twice the last counts
 abbrev pub put_ids : List (List ℕ × Tree) → List Created → List (List ℕ × Tree)
 put_ids before [] = before
 put_ids before (c ∷ cs) = put_ids (put c.creation (text c.id) before) cs
@@ -32,10 +34,13 @@ abbrev pub created_member : Bool → List Created → List (List ℕ × Tree)
 created_member false made = []
 created_member true made = (codes "createdIds", object (fields_of (put_ids [] made))) ∷ []
 
--- the Response of a request that came so far; it shows what was created, or not
+-- the Response of a request that came up to here; it shows what was created, or not
 abbrev pub response_tree : Bool → Progress → Tree
 response_tree shows p =
-    object (fields_of (created_member shows p.made ++ (codes "methodResponses", list (trees_of (map call_tree p.responses))) ∷ (codes "sessionState", text (codes "0")) ∷ []))
+    object (fields_of
+    (created_member shows p.made
+    ++ (codes "methodResponses", list (trees_of (map call_tree p.responses)))
+    ∷ (codes "sessionState", text (codes "0")) ∷ []))
 
 -- ---- the problem details of a request that is refused as a whole (RFC 7807)
 
@@ -67,7 +72,9 @@ limit_member (Some name) = (codes "limit", text name) ∷ []
 
 abbrev pub problem_tree : Problem → Tree
 problem_tree p =
-    object (fields_of (limit_member (problem_limit p) ++ (codes "status", number (pos (problem_status p))) ∷ (codes "type", text (problem_type p)) ∷ []))
+    object (fields_of
+    (limit_member (problem_limit p) ++ (codes "status", number (pos (problem_status p)))
+    ∷ (codes "type", text (problem_type p)) ∷ []))
 
 -- ---- the outcome
 
@@ -81,38 +88,47 @@ IsRefusal p o = IsReply o (problem_status p) (problem_tree p)
 abbrev pub beginning : Option (List Created) → Progress
 beginning created = record { responses = []; made = unwrap_or created [] }
 
--- Here and below, of a port that goes from the state s to s' meanwhile: the calls of a request were answered. The Response shows
--- what was created where the request itself did.
-abbrev pub IsResponse : {S : Type 0} → (S → Call → List Created → Replied → S → Type 0) → S → S → Request → Outcome → Type 0
+-- Here and below, of a port that goes from the state s to s' meanwhile: the calls of a request were
+-- answered. The Response shows what was created where the request itself did.
+abbrev pub IsResponse : {S : Type 0} → (S → Call → List Created → Replied → S → Type 0) → S → S
+    → Request → Outcome → Type 0
 IsResponse answers s s' r o =
     (asked : List Asked) × (after : Progress) × Runs answers s asked s'
-    × Answers (uses core_capability r.using) (uses mail_capability r.using) r.calls (beginning r.created) asked after
+    × Answers (uses core_capability r.using) (uses mail_capability r.using) r.calls
+    (beginning r.created) asked after
     × IsReply o 200 (response_tree (is_some r.created) after)
 
 -- a request for which there is a problem is refused
-abbrev pub IsOutcomeUnless : {S : Type 0} → (S → Call → List Created → Replied → S → Type 0) → S → S → Request → Option Problem → Outcome → Type 0
+abbrev pub IsOutcomeUnless : {S : Type 0} → (S → Call → List Created → Replied → S → Type 0) → S → S
+    → Request → Option Problem → Outcome → Type 0
 IsOutcomeUnless answers s s' r None o = IsResponse answers s s' r o
 IsOutcomeUnless answers s s' r (Some p) o = (s' ≡ s) × IsRefusal p o
 
-abbrev pub IsOutcomeBy : {S : Type 0} → (S → Call → List Created → Replied → S → Type 0) → S → S → Option Request → Outcome → Type 0
+abbrev pub IsOutcomeBy : {S : Type 0} → (S → Call → List Created → Replied → S → Type 0) → S → S
+    → Option Request → Outcome → Type 0
 IsOutcomeBy answers s s' None o = (s' ≡ s) × IsRefusal NotRequest o
 IsOutcomeBy answers s s' (Some r) o = IsOutcomeUnless answers s s' r (problem_in r) o
 
 -- the outcome of a request's tree
-abbrev pub IsOutcome : {S : Type 0} → (S → Call → List Created → Replied → S → Type 0) → S → S → Tree → Outcome → Type 0
+abbrev pub IsOutcome : {S : Type 0} → (S → Call → List Created → Replied → S → Type 0) → S → S
+    → Tree → Outcome → Type 0
 IsOutcome answers s s' t o = IsOutcomeBy answers s s' (request_of t) o
 
-abbrev pub IsAnswerBy : {S : Type 0} → (S → Call → List Created → Replied → S → Type 0) → S → S → Reading → Outcome → Type 0
+abbrev pub IsAnswerBy : {S : Type 0} → (S → Call → List Created → Replied → S → Type 0) → S → S
+    → Reading → Outcome → Type 0
 IsAnswerBy answers s s' not_json o = (s' ≡ s) × IsRefusal NotJson o
 IsAnswerBy answers s s' (not_whole path) o = (s' ≡ s) × IsRefusal NotRequest o
 IsAnswerBy answers s s' (whole t) o = IsOutcome answers s s' t o
 
--- the outcome of a request's bytes, of which there may be 10,000,000
-abbrev pub IsAnswer : {S : Type 0} → (S → Call → List Created → Replied → S → Type 0) → S → S → List ℕ → Outcome → Type 0
-IsAnswer answers s s' bytes o = cond (nat_lt 10000000 (length bytes)) ((s' ≡ s) × IsRefusal TooLarge o) (IsAnswerBy answers s s' (reading_of bytes) o)
+-- the outcome of a request's bytes, of which there may be `MAX_REQUEST_BYTES`
+abbrev pub IsAnswer : {S : Type 0} → (S → Call → List Created → Replied → S → Type 0) → S → S
+    → List ℕ → Outcome → Type 0
+IsAnswer answers s s' bytes o =
+    cond (nat_lt MAX_REQUEST_BYTES (length bytes)) ((s' ≡ s) × IsRefusal TooLarge o)
+    (IsAnswerBy answers s s' (reading_of bytes) o)
 
--- ---- A request that ended out of memory: the first calls were performed, the port stopped at the next
--- one, and no other was performed. A request that is rejected as a whole performs none.
+-- ---- A request that ended out of memory: the first calls were performed, the port stopped at the
+-- next one, and no other was performed. A request that is rejected as a whole performs none.
 
 abbrev pub HasBegunRequest : {S : Type 0} → (S → Call → List Created → Replied → S → Type 0)
     → (S → Call → List Created → S → Type 0) → S → S → Request → Type 0
@@ -145,5 +161,5 @@ HasBegunReading answers stops s s' (whole t) = HasBegun answers stops s s' t
 abbrev pub HasBegunAnswer : {S : Type 0} → (S → Call → List Created → Replied → S → Type 0)
     → (S → Call → List Created → S → Type 0) → S → S → List ℕ → Type 0
 HasBegunAnswer answers stops s s' bytes =
-    cond (nat_lt 10000000 (length bytes)) (s' ≡ s)
+    cond (nat_lt MAX_REQUEST_BYTES (length bytes)) (s' ≡ s)
     (HasBegunReading answers stops s s' (reading_of bytes))

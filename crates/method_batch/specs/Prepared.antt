@@ -1,5 +1,5 @@
--- What a call comes to before it is performed: its name is looked up, and then its arguments are resolved (RFC 8620, sections
--- 3.6.2 and 3.7).
+-- What a call comes to before it is performed: its name is looked up, and then its arguments are
+-- resolved (RFC 8620, sections 3.6.2 and 3.7).
 use Rattle.std.specs.Prelude.{ℕ, List, Bool, false, cond, codes, Option, Some, None}
 use Rattle.std.specs.List.{list_any}
 use Rattle.jm_json.specs.Tree.{Tree}
@@ -21,10 +21,12 @@ by_resolution c bad_reference = refused (error_of (codes "invalidResultReference
 by_resolution c both = refused (error_of (codes "invalidArguments") c.id)
 by_resolution c (resolved args) = ready (record { name = c.name; args = args; id = c.id })
 
--- what a call comes to behind these responses, in a request that uses the capabilities of the core and of mail, or not
+-- what a call comes to after these responses, in a request that uses the capabilities of the core
+-- and of mail, or not
 abbrev pub preparation : Bool → Bool → Call → List Call → Preparation
 preparation core mail c responses =
-    cond (is_allowed core mail c.name) (by_resolution c (resolution c.args responses)) (refused (error_of (codes "unknownMethod") c.id))
+    cond (is_allowed core mail c.name) (by_resolution c (resolution c.args responses))
+    (refused (error_of (codes "unknownMethod") c.id))
 
 abbrev pub preparation_of : Prepared → Preparation
 preparation_of (Refused i) = refused (call_of i)

@@ -1,10 +1,11 @@
-// The answer to a request: its calls in order, each by the text and the responses so far, or by the port (RFC 8620, section
-// 3.4).
+// The answer to a request: its calls in order, each by the text and the responses up to here, or by the
+// port (RFC 8620, section 3.4).
 ghost use Rattle.std.specs.Prelude.{Some, IfOk, OnErr};
 ghost use Rattle.jm_json.specs.Json.{tree_of};
 ghost use Rattle.method_batch.specs.Request.{problem_in};
 ghost use Rattle.method_batch.specs.Outcome.{IsOutcome, IsOutcomeBy, IsResponse, IsAnswer, HasBegun, HasBegunBy, HasBegunRequest, HasBegunAnswer};
 
+use crate::limits::MAX_REQUEST_BYTES;
 use crate::method::{CORE, MAIL};
 use crate::outcome::{Outcome, Problem};
 use crate::port::Port;
@@ -16,9 +17,6 @@ use jm_base::NoMemory;
 use jm_json::{Json, ReadFault, Scratch, copy, read_with};
 use std::alloc::Global;
 
-// The bytes that a request may have.
-const MOST_BYTES: usize = 10000000;
-
 /// Answers the tree of a request, whose methods the port performs. If memory runs out, the first
 /// calls were performed, the port stopped at the next one, and no other was performed.
 pub fn answer_tree<P: Port>(
@@ -26,15 +24,17 @@ pub fn answer_tree<P: Port>(
     port: &mut P,
     request: &Json,
 ) -> Result<Outcome, NoMemory>
-    ensures outcome { IfOk result (λ o. IsOutcome P.answers port.old port.new (tree_of request.now) o) }
-    ensures begun { OnErr result (HasBegun P.answers P.stops port.old port.new (tree_of request.now)) }
+    ensures outcome { IfOk result
+        (λ o. IsOutcome P.answers port.old port.new (tree_of request.now) o) }
+    ensures begun { OnErr result
+        (HasBegun P.answers P.stops port.old port.new (tree_of request.now)) }
 {
     let tree = copy(alloc, request)?;
     answer_moved(alloc, port, tree)
 }
 
-/// Answers the bytes of a request, which may be 10,000,000 bytes long. If memory runs out, the first
-/// calls were performed, the port stopped at the next one, and no other was performed.
+/// Answers the bytes of a request, of which there may be [`MAX_REQUEST_BYTES`]. If memory runs out,
+/// the first calls were performed, the port stopped at the next one, and no other was performed.
 pub fn answer_request<P: Port>(
     alloc: Global,
     port: &mut P,
@@ -57,7 +57,7 @@ pub fn answer_request_with<P: Port>(
     ensures outcome { IfOk result (λ o. IsAnswer P.answers port.old port.new request.now o) }
     ensures begun { OnErr result (HasBegunAnswer P.answers P.stops port.old port.new request.now) }
 {
-    if request.len() > MOST_BYTES {
+    if request.len() > MAX_REQUEST_BYTES {
         return Outcome::refusal(alloc, Problem::TooLarge);
     }
     match read_with(alloc, scratch, request) {

@@ -11,9 +11,10 @@ use jm_json::{Invocation, Invocations, Items, Json};
 use std::alloc::Global;
 use std::collections::VecDeque;
 
-/// The calls of a list all of whose items are calls.
+/// Returns the calls of a list, if all of its items are calls.
 pub(crate) fn read_calls(alloc: Global, tree: Option<Json>) -> Result<Option<Invocations>, NoMemory>
-    ensures { IfOk result (λ o. o ≡ option_and_then calls_from (option_and_then as_list (option_map tree_of tree))) }
+    ensures { IfOk result
+        (λ o. o ≡ option_and_then calls_from (option_and_then as_list (option_map tree_of tree))) }
 {
     match tree {
         Some(tree) => match into_items(tree) {
@@ -68,7 +69,8 @@ fn read_parts(items: Vec<Json>) -> Option<Invocation>
 
 fn read_three(name: Json, args: Json, id: Json) -> Option<Invocation>
     ensures { option_map call_of result
-        ≡ call_of_parts (as_text (tree_of name)) (as_object (tree_of args)) (tree_of args) (as_text (tree_of id)) }
+        ≡ call_of_parts (as_text (tree_of name)) (as_object (tree_of args)) (tree_of args)
+        (as_text (tree_of id)) }
 {
     let Some(name) = into_text(name) else {
         return None;

@@ -1,5 +1,5 @@
-// What a request says was created before (RFC 8620, section 3.3), moved out of its tree; and what a Response says was, moved
-// into its tree (section 3.4).
+// The `createdIds` of a request, moved out of its tree (RFC 8620, section 3.3), and those of a
+// Response, moved into its tree (section 3.4).
 ghost use Rattle.std.specs.Prelude.{◌≡◌, [], IfOk, option_and_then, map};
 ghost use Rattle.jm_json.specs.Json.{tree_of, member_of};
 ghost use Rattle.jm_json.specs.Find.{as_object};
@@ -12,7 +12,8 @@ use jm_json::{Created, Json, Made, Members};
 use std::alloc::Global;
 use std::collections::VecDeque;
 
-/// What an object of texts says was created, in the order of its creation ids.
+/// Returns the created records of an object of strings, in the order of its creation ids, if all of
+/// its values are strings.
 pub(crate) fn read_created(alloc: Global, tree: Json) -> Result<Option<Made>, NoMemory>
     ensures { IfOk result (λ o. o ≡ option_and_then created_from (as_object (tree_of tree))) }
 {
@@ -39,7 +40,7 @@ fn read_pairs(alloc: Global, members: Members) -> Result<Option<Made>, NoMemory>
     Ok(Some(made))
 }
 
-// What was made, in the order of the creation ids; what was made under one id stays in the order of making.
+// Sorts created records by creation id; records with one creation id stay in the order of creation.
 fn in_order(made: Made) -> Result<Vec<Created>, NoMemory>
     ensures { IfOk result (λ cs. put_ids [] cs.items ≡ put_ids [] made) }
 {
@@ -48,7 +49,8 @@ fn in_order(made: Made) -> Result<Vec<Created>, NoMemory>
     Ok(all)
 }
 
-/// The members for what was made: of a creation id that was made twice the last counts. Each is put last, or in place of the last.
+/// Returns the members for created records: of records with one creation id the last counts. Each
+/// is put at the end, or in place of the last one.
 pub(crate) fn id_members(alloc: Global, made: Made) -> Result<Members, NoMemory>
     ensures { IfOk result (λ ms. ms ≡ put_ids [] made) }
 {

@@ -4,6 +4,7 @@
 mod answer;
 mod calls;
 mod created;
+mod limits;
 mod method;
 mod outcome;
 mod parts;
@@ -18,5 +19,6 @@ mod tests;
 mod using;
 
 pub use answer::{answer_request, answer_request_with, answer_tree};
+pub use limits::{MAX_CALLS_PER_REQUEST, MAX_REQUEST_BYTES};
 pub use outcome::{Outcome, Problem};
 pub use port::Port;

@@ -14,7 +14,8 @@ pub(crate) fn is_capability(text: &str) -> bool
     text == CORE || text == MAIL || text == WEBSOCKET
 }
 
-/// Whether the method may be called where the capabilities of the core and of mail are used, or not.
+/// Returns whether the method may be called in a request that uses the capabilities of the core and
+/// of mail, or not.
 pub(crate) fn is_allowed(core: bool, mail: bool, name: &str) -> bool
     ensures { result ≡ is_allowed core mail name.now }
 {

@@ -1,4 +1,5 @@
-// The outcome of a request, and the problems for which one is refused (RFC 8620, section 3.6.1; RFC 7807).
+// The outcome of a request, and the problems for which one is rejected (RFC 8620, section 3.6.1;
+// RFC 7807).
 ghost use Rattle.std.specs.Prelude.{◌≡◌, IfOk, option_map};
 
 use jm_base::{NoMemory, Text};
@@ -12,9 +13,9 @@ pub struct Outcome {
     pub tree: Json,
 }
 
-/// Why a request is refused as a whole (RFC 8620, section 3.6.1), each case where none before it in this order holds:
-/// it has too many bytes, it is no JSON, it is not of a request's form, it uses a capability that is not known, or it has too
-/// many calls.
+/// Why a request is rejected as a whole (RFC 8620, section 3.6.1). The first of these that holds is
+/// the problem: the request has too many bytes, it is no JSON, it does not have the form of a
+/// request, it uses an unknown capability, or it has too many calls.
 #[derive(Clone, Copy, Debug, PartialEq, Eq)]
 pub enum Problem {
     TooLarge,
@@ -39,7 +40,7 @@ impl Problem {
         }
     }
 
-    // The limit that was passed.
+    // Returns the name of the limit that was passed.
     fn limit(self) -> Option<&'static str>
         ensures { option_map (λ s. s.now) result ≡ problem_limit self }
     {
@@ -59,7 +60,7 @@ impl Problem {
         }
     }
 
-    // The members of the problem's details that name a limit.
+    // Returns the members of the problem's details that name a limit.
     fn limit_members(self, alloc: Global) -> Result<Members, NoMemory>
         ensures { IfOk result (λ ms. ms ≡ limit_member (problem_limit self)) }
     {
@@ -78,7 +79,7 @@ impl Problem {
 impl Outcome {
     ghost use Rattle.method_batch.specs.Outcome.{IsRefusal};
 
-    /// The outcome of a request that is refused as a whole.
+    /// Returns the outcome of a request that is rejected as a whole.
     pub fn refusal(alloc: Global, problem: Problem) -> Result<Outcome, NoMemory>
         ensures { IfOk result (λ o. IsRefusal problem o) }
     {

@@ -1,4 +1,4 @@
-// Trees taken apart. What they are made of is moved out.
+// Takes trees apart. The parts are moved out of them.
 ghost use Rattle.std.specs.Prelude.{◌≡◌};
 ghost use Rattle.jm_json.specs.Json.{tree_of};
 ghost use Rattle.jm_json.specs.Find.{as_text, as_list, as_object};

@@ -12,18 +12,19 @@ use std::alloc::Global;
 /// What answers the methods of a request. Its meaning is two relations between states: one for a
 /// call that is answered, and one for a call that ends out of memory.
 pub trait Port: Drop {
-    /// In the first state this call, with what the request has created so far, may be answered by
+    /// In the first state this call, with what the request has created up to here, may be answered by
     /// this reply, which leaves the second state.
     ghost answers: { Self → Call → List Created → Replied → Self → Type 0 };
 
-    /// In the first state this call, with what the request has created so far, may end out of
+    /// In the first state this call, with what the request has created up to here, may end out of
     /// memory, which leaves the second state.
     ghost stops: { Self → Call → List Created → Self → Type 0 };
 
     /// Performs a call. If it ends out of memory, the port is in a state in which `stops` allows
     /// such a call to leave it.
     fn call(&mut self, alloc: Global, call: &Invocation, made: &Made) -> Result<Replied, NoMemory>
-        ensures answer { IfOk result (λ r. answers self.old (call_of call.now) made.now r self.new) }
+        ensures answer { IfOk result
+            (λ r. answers self.old (call_of call.now) made.now r self.new) }
         ensures stopped { OnErr result (stops self.old (call_of call.now) made.now self.new) };
 
     /// A call that ends out of memory may leave the state as it was.

@@ -1,4 +1,5 @@
-// A call before it is performed: its name is looked up, and its arguments are resolved (RFC 8620, sections 3.6.2 and 3.7).
+// A call before it is performed: its name is looked up, and its arguments are resolved (RFC 8620,
+// sections 3.6.2 and 3.7).
 ghost use Rattle.std.specs.Prelude.{◌≡◌, false, List, map, IfOk};
 ghost use Rattle.std.specs.List.{list_any};
 ghost use Rattle.jm_json.specs.Json.{tree_of, member_of};
@@ -13,7 +14,8 @@ use jm_json::{Invocation, Json, Member};
 use result_refs::{RefFault, resolve};
 use std::alloc::Global;
 
-/// A call that is refused, by this response, or one that is ready, with its arguments resolved.
+/// A call before it is performed: it is rejected with this response, or it is ready and its
+/// arguments are resolved.
 #[derive(Drop)]
 pub(crate) enum Prepared {
     Refused(Invocation),
@@ -23,7 +25,8 @@ pub(crate) enum Prepared {
 impl Prepared {
     ghost use Rattle.method_batch.specs.Prepared.{preparation, preparation_of, by_resolution, refused};
 
-    /// What a call comes to behind these responses, in a request that uses the capabilities of the core and of mail, or not.
+    /// Looks up the method of a call and resolves its arguments after these responses, in a request
+    /// that uses the capabilities of the core and of mail, or not.
     pub(crate) fn of_call(
         alloc: Global,
         room: &mut u64,
@@ -32,7 +35,9 @@ impl Prepared {
         call: Invocation,
         responses: &[Invocation],
     ) -> Result<Prepared, NoMemory>
-        ensures { IfOk result (λ p. preparation_of p ≡ preparation core mail (call_of call) (map call_of responses.now)) }
+        ensures { IfOk result
+            (λ p. preparation_of p
+            ≡ preparation core mail (call_of call) (map call_of responses.now)) }
     {
         if !is_allowed(core, mail, call.name.as_str()) {
             return Prepared::refusal(alloc, "unknownMethod", call.id);
@@ -40,7 +45,7 @@ impl Prepared {
         Prepared::of_known(alloc, room, call, responses)
     }
 
-    // Arguments without a reference are moved as they are.
+    // Arguments without a reference are moved.
     fn of_known(
         alloc: Global,
         room: &mut u64,
@@ -48,7 +53,8 @@ impl Prepared {
         responses: &[Invocation],
     ) -> Result<Prepared, NoMemory>
         ensures { IfOk result (λ p. preparation_of p
-            ≡ by_resolution (call_of call) (resolution (call_of call).args (map call_of responses.now))) }
+            ≡ by_resolution (call_of call)
+            (resolution (call_of call).args (map call_of responses.now))) }
     {
         if has_reference(&call.args) {
             return Prepared::resolved(alloc, room, call, responses);
@@ -63,10 +69,11 @@ impl Prepared {
         responses: &[Invocation],
     ) -> Result<Prepared, NoMemory>
         ensures { IfOk result (λ p. preparation_of p
-            ≡ by_resolution (call_of call) (resolution (call_of call).args (map call_of responses.now))) }
+            ≡ by_resolution (call_of call)
+            (resolution (call_of call).args (map call_of responses.now))) }
     {
         let Invocation { name, args, id } = call;
-        match resolve(alloc, room, &args, responses) {
+        match resolve(alloc, room, args, responses) {
             Ok(args) => Ok(Prepared::Ready(Invocation { name, args, id })),
             Err(RefFault::BadReference) => Prepared::refusal(alloc, "invalidResultReference", id),
             Err(RefFault::Both) => Prepared::refusal(alloc, "invalidArguments", id),
@@ -81,10 +88,12 @@ impl Prepared {
     }
 }
 
-/// Whether some argument's name begins with `#`. Where none does, the arguments are the resolved ones.
+/// Returns whether the name of some argument begins with `#`. If none does, resolving changes
+/// nothing.
 fn has_reference(args: &Json) -> bool
     ensures exact { result ≡ has_reference (tree_of args.now) }
-    ensures plain { result ≡ false → (cs : List Call) → resolution (tree_of args.now) cs ≡ resolved (tree_of args.now) }
+    ensures plain { result ≡ false → (cs : List Call) → resolution (tree_of args.now) cs
+        ≡ resolved (tree_of args.now) }
 {
     match args.as_object() {
         Some(members) => has_marks(members.as_slice()),

@@ -10,7 +10,7 @@ use result_refs::MAX_REFERENCE_BYTES;
 use std::alloc::Global;
 use std::collections::VecDeque;
 
-/// The responses so far, and what counts as made so far.
+/// How far a request has come: its responses, and the records that count as created.
 #[derive(Drop)]
 pub struct Progress {
     pub responses: Invocations,
@@ -21,7 +21,7 @@ impl Progress {
     ghost use Rattle.method_batch.specs.Answer.{Asked, Runs, Answers, after_reply, HasPerformed, StopsOrPerforms, HasBegunCalls};
     ghost use Rattle.method_batch.specs.Outcome.{beginning};
 
-    /// The beginning of a request, which may say what was created before.
+    /// Returns the beginning of a request, which may have `createdIds`.
     pub(crate) fn begin(alloc: Global, created: Option<Made>) -> Progress
         ensures { result ≡ beginning created }
     {
@@ -41,9 +41,11 @@ impl Progress {
         mail: bool,
         calls: Invocations,
     ) -> Result<Progress, NoMemory>
-        ensures done { IfOk result (λ after. (asked : List Asked) × Runs P.answers port.old asked port.new
+        ensures done { IfOk result
+            (λ after. (asked : List Asked) × Runs P.answers port.old asked port.new
             × Answers core mail calls self asked after) }
-        ensures begun { OnErr result (HasBegunCalls P.answers P.stops port.old port.new core mail calls self) }
+        ensures begun { OnErr result
+            (HasBegunCalls P.answers P.stops port.old port.new core mail calls self) }
     {
         let mut progress = self;
         let mut room = MAX_REFERENCE_BYTES;
@@ -66,8 +68,11 @@ impl Progress {
         mail: bool,
         call: Invocation,
     ) -> Result<(), NoMemory>
-        ensures ok { OnOk result (HasPerformed P.answers port.old port.new core mail (call_of call) self.old self.new) }
-        ensures err { OnErr result (StopsOrPerforms P.answers P.stops port.old port.new core mail (call_of call) self.old) }
+        ensures ok { OnOk result
+            (HasPerformed P.answers port.old port.new core mail (call_of call) self.old self.new) }
+        ensures err { OnErr result
+            (StopsOrPerforms P.answers P.stops port.old port.new core mail
+            (call_of call) self.old) }
     {
         match reply(alloc, port, room, core, mail, call, self) {
             Ok(replied) => self.take(replied),

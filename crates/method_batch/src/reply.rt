@@ -1,4 +1,4 @@
-// The reply to one call: by the responses so far, by its text alone, or by the port.
+// The reply to one call: by the responses up to here, by its text alone, or by the port.
 ghost use Rattle.std.specs.Prelude.{◌≡◌, List, [], ◌∷◌, IfOk, OnErr};
 ghost use Rattle.jm_json.specs.Invoked.{call_of};
 ghost use Rattle.method_batch.specs.Prepared.{preparation_of, ready};
@@ -11,10 +11,10 @@ use jm_base::NoMemory;
 use jm_json::{Invocation, Invocations, Made, Replied};
 use std::alloc::Global;
 
-/// Returns the reply to a call of a request. What its references make is taken from the room, which is
-/// what is left for the request.
+/// Returns the reply to a call of a request. What its references make is taken from the room, which
+/// is what is left for the request.
 ///
-/// The reply to a call of a request that uses the capabilities of the core and of mail, or not, and that has come so far.
+/// The request uses the capabilities of the core and of mail, or not, and has come this far.
 pub(crate) fn reply<P: Port>(
     alloc: Global,
     port: &mut P,
@@ -24,9 +24,11 @@ pub(crate) fn reply<P: Port>(
     call: Invocation,
     before: &Progress,
 ) -> Result<Replied, NoMemory>
-    ensures replied { IfOk result (λ r. (asked : List Asked) × Runs P.answers port.old asked port.new
+    ensures replied { IfOk result
+        (λ r. (asked : List Asked) × Runs P.answers port.old asked port.new
         × RepliesOne core mail (call_of call) before.now asked r) }
-    ensures stopped { OnErr result (StopsOne P.stops port.old port.new core mail (call_of call) before.now) }
+    ensures stopped { OnErr result
+        (StopsOne P.stops port.old port.new core mail (call_of call) before.now) }
 {
     let prepared = Prepared::of_call(alloc, room, core, mail, call, before.responses.as_slice())?;
     reply_prepared(alloc, port, prepared, &before.made)
@@ -38,9 +40,11 @@ fn reply_prepared<P: Port>(
     prepared: Prepared,
     made: &Made,
 ) -> Result<Replied, NoMemory>
-    ensures replied { IfOk result (λ r. (asked : List Asked) × Runs P.answers port.old asked port.new
+    ensures replied { IfOk result
+        (λ r. (asked : List Asked) × Runs P.answers port.old asked port.new
         × RepliesPrepared (preparation_of prepared) made.now asked r) }
-    ensures stopped { OnErr result (StopsPrepared P.stops port.old port.new (preparation_of prepared) made.now) }
+    ensures stopped { OnErr result
+        (StopsPrepared P.stops port.old port.new (preparation_of prepared) made.now) }
 {
     match prepared {
         Prepared::Refused(response) => alone(alloc, response),
@@ -54,9 +58,11 @@ fn reply_ready<P: Port>(
     call: Invocation,
     made: &Made,
 ) -> Result<Replied, NoMemory>
-    ensures replied { IfOk result (λ r. (asked : List Asked) × Runs P.answers port.old asked port.new
+    ensures replied { IfOk result
+        (λ r. (asked : List Asked) × Runs P.answers port.old asked port.new
         × RepliesPrepared (ready (call_of call)) made.now asked r) }
-    ensures stopped { OnErr result (StopsPrepared P.stops port.old port.new (ready (call_of call)) made.now) }
+    ensures stopped { OnErr result
+        (StopsPrepared P.stops port.old port.new (ready (call_of call)) made.now) }
 {
     if is_echo(&call) {
         return alone(alloc, call);
@@ -70,7 +76,7 @@ fn is_echo(call: &Invocation) -> bool
     call.name.as_str() == "Core/echo"
 }
 
-// The reply that is one response, and that made nothing.
+// Returns the reply that is one response and created nothing.
 fn alone(alloc: Global, response: Invocation) -> Result<Replied, NoMemory>
     ensures { IfOk result (λ r. r ≡ record { responses = call_of response ∷ []; made = [] }) }
 {

@@ -1,4 +1,5 @@
-// The form of a request (RFC 8620, section 3.3). What is taken from its tree is moved and not copied.
+// The form of a request (RFC 8620, section 3.3). What is taken from its tree is moved and not
+// copied.
 ghost use Rattle.std.specs.Prelude.{◌≡◌, [], ◌∷◌, IfOk, option_map, codes};
 ghost use Rattle.std.specs.Option.{option_or};
 ghost use Rattle.jm_json.specs.Json.{tree_of, member_of};
@@ -6,6 +7,7 @@ ghost use Rattle.jm_json.specs.Find.{find};
 
 use crate::calls::read_calls;
 use crate::created::read_created;
+use crate::limits::MAX_CALLS_PER_REQUEST;
 use crate::outcome::Problem;
 use crate::parts::into_members;
 use crate::using::{are_known, read_texts};
@@ -14,10 +16,7 @@ use jm_json::{Invocations, Json, Made, Member, Members};
 use std::alloc::Global;
 use std::collections::VecDeque;
 
-// The calls that a request may have.
-const MOST_CALLS: usize = 16;
-
-/// A request: the capabilities that it uses, its calls, and what it says was created, where it says so.
+/// A request: the capabilities that it uses, its calls, and its `createdIds`, if it has them.
 #[derive(Drop)]
 pub struct Request {
     pub using: Texts,
@@ -25,7 +24,7 @@ pub struct Request {
     pub created: Option<Made>,
 }
 
-// The members of a request that count.
+// The members of a request that are read.
 #[derive(Drop)]
 struct Parts {
     using: Option<Json>,
@@ -36,7 +35,7 @@ struct Parts {
 impl Request {
     ghost use Rattle.method_batch.specs.Request.{request_of, request_in, request_with, request_by, problem_in};
 
-    /// The request that a tree is, and none where it is of another form.
+    /// Returns the request of a tree, or none if the tree does not have the form of a request.
     pub(crate) fn of_tree(alloc: Global, tree: Json) -> Result<Option<Request>, NoMemory>
         ensures { IfOk result (λ o. o ≡ request_of (tree_of tree)) }
     {
@@ -61,7 +60,8 @@ impl Request {
         capabilities: Option<Texts>,
         calls: Option<Invocations>,
     ) -> Result<Option<Request>, NoMemory>
-        ensures { IfOk result (λ o. o ≡ request_with (option_map tree_of created) capabilities calls) }
+        ensures { IfOk result
+            (λ o. o ≡ request_with (option_map tree_of created) capabilities calls) }
     {
         match created {
             Some(tree) => match read_created(alloc, tree)? {
@@ -92,14 +92,15 @@ impl Request {
         }
     }
 
-    /// Why the request is refused, if it is: a capability is not known, or there are more than 16 calls.
+    /// Returns why the request is rejected, if it is: a capability is not known, or there are more
+    /// than [`MAX_CALLS_PER_REQUEST`] calls.
     pub(crate) fn problem(&self) -> Option<Problem>
         ensures { result ≡ problem_in self.now }
     {
         if !are_known(self.using.as_slice()) {
             return Some(Problem::UnknownCapability);
         }
-        if self.calls.as_slice().len() > MOST_CALLS {
+        if self.calls.as_slice().len() > MAX_CALLS_PER_REQUEST {
             return Some(Problem::TooManyCalls);
         }
         None
@@ -123,7 +124,7 @@ fn parts_of(members: Members) -> Parts
     parts
 }
 
-// The parts with a member, where it counts and was not there before.
+// Returns the parts with a member, if it is one of them and was not there before.
 fn with_member(parts: Parts, member: Member) -> Parts
     ensures using { option_map tree_of result.using
         ≡ option_or (option_map tree_of parts.using) (find (codes "using") (member_of member ∷ [])) }

@@ -11,8 +11,8 @@ use jm_json::{Invocation, Invocations, Items, Json, Made, Members};
 use std::alloc::Global;
 use std::collections::VecDeque;
 
-/// The tree of the Response to a request that came so far, which is moved into it. It shows what was created where the request
-/// itself did.
+/// Returns the tree of the Response to a request that came this far, which is moved into it. It has
+/// `createdIds` if the request had them.
 pub(crate) fn response(alloc: Global, shows: bool, after: Progress) -> Result<Json, NoMemory>
     ensures { IfOk result (λ t. tree_of t ≡ response_tree shows after) }
 {

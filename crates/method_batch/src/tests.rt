@@ -1,11 +1,13 @@
-// Requests over ports in memory. The expected replies are worked out from RFC 8620, sections 3.3 to 3.7.
+// Requests over ports in memory. The expected replies are worked out from RFC 8620, sections 3.3 to
+// 3.7.
 use crate::{Outcome, Port, answer_request, answer_tree};
 use jm_base::{NoMemory, Text};
 use jm_json::{Created, Invocation, Invocations, Json, Made, Members, Replied, copy, read, write};
 use std::alloc::Global;
 use std::test::Fail;
 
-// Answers each call by one response, which shows the arguments and how much counts as made so far, and makes one thing.
+// Answers each call by one response, which shows the arguments and how much counts as made up to here,
+// and makes one thing.
 #[derive(Drop)]
 struct Maker;
 
@@ -136,7 +138,7 @@ const RESPONSES: [(&str, &str); 9] = [
     ),
 ];
 
-// Calls that are well formed, with a comma behind each.
+// Calls that are well formed, with a comma after each.
 fn sixteen_calls(alloc: Global) -> Result<Vec<u8>, Fail> {
     let mut bytes = Vec::new(alloc);
     for _call in 0..16 {

@@ -13,9 +13,10 @@ use jm_json::{Items, Json};
 use std::alloc::Global;
 use std::collections::VecDeque;
 
-/// The texts of a list all of whose items are texts.
+/// Returns the strings of a list, if all of its items are strings.
 pub(crate) fn read_texts(alloc: Global, tree: Option<Json>) -> Result<Option<Texts>, NoMemory>
-    ensures { IfOk result (λ o. o ≡ option_and_then texts_from (option_and_then as_list (option_map tree_of tree))) }
+    ensures { IfOk result
+        (λ o. o ≡ option_and_then texts_from (option_and_then as_list (option_map tree_of tree))) }
 {
     match tree {
         Some(tree) => match into_items(tree) {
@@ -40,7 +41,7 @@ fn read_items(alloc: Global, items: Items) -> Result<Option<Texts>, NoMemory>
     Ok(Some(texts))
 }
 
-/// Whether each text is a capability.
+/// Returns whether each string is a capability.
 pub(crate) fn are_known(texts: &[Text]) -> bool
     ensures { result ≡ list_all is_capability texts.now }
 {
@@ -52,7 +53,7 @@ pub(crate) fn are_known(texts: &[Text]) -> bool
     true
 }
 
-/// Whether some text is this capability.
+/// Returns whether one of the strings is this capability.
 pub(crate) fn uses(texts: &[Text], capability: &str) -> bool
     ensures { result ≡ uses capability.now texts.now }
 {

@@ -1,4 +1,4 @@
--- The parts of a path behind its first.
+-- The parts of a path after its first.
 use Rattle.std.specs.Prelude.{ℕ, List, [], ◌∷◌}
 use Rattle.jm_json.specs.Pointer.{cut}
 

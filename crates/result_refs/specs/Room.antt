@@ -1,5 +1,5 @@
--- The bytes that are counted for a copy of a JSON value: 64 for each value in it, and those of its strings
--- and of its keys.
+-- The bytes that are counted for a copy of a JSON value: 64 for each value in it, and those of its
+-- strings and of its keys.
 use Rattle.std.specs.Prelude.{ℕ, ◌+◌, length}
 use Rattle.jm_json.specs.Tree.{Tree, null, boolean, number, text, list, object, Trees, no_trees, tree, Fields, no_fields, field}
 

@@ -1,8 +1,8 @@
 // Why arguments are not resolved.
 use jm_base::NoMemory;
 
-/// Why arguments are not resolved: a reference fails, an argument is given with and without the mark `#`, or no memory was
-/// left.
+/// Why arguments are not resolved: a reference fails, an argument is given with and without the
+/// mark `#`, or an allocation failed.
 #[derive(Clone, Copy, Debug, PartialEq, Eq)]
 pub enum RefFault {
     BadReference,

@@ -1,5 +1,5 @@
-// What the path of a reference names: a JSON Pointer (RFC 6901) in which `*` stands for the items of a list (RFC 8620, section
-// 3.7).
+// What the path of a reference names: a JSON Pointer (RFC 6901) in which `*` means the items
+// of a list (RFC 8620, section 3.7).
 ghost use Rattle.std.specs.Prelude.{◌≡◌, ◌++◌, Some, map, option_and_then, MatchResult, OnOk};
 ghost use Rattle.jm_json.specs.Json.{tree_of};
 ghost use Rattle.jm_json.specs.Find.{as_list};
@@ -14,7 +14,7 @@ use jm_base::NoMemory;
 use jm_json::{Items, Json, child, part_end};
 use std::alloc::Global;
 
-// What a path names in a tree, in memory of its own.
+// Returns a copy of what a path names in a tree.
 pub(crate) fn pick(
     alloc: Global,
     room: &mut u64,
@@ -93,8 +93,11 @@ fn take_child(
     more: &[u8],
 ) -> Result<Json, RefFault>
     ensures { MatchResult result
-        (λ t. option_and_then (walked (later_parts more.now)) (child_of part.now (tree_of tree.now)) ≡ Some (tree_of t))
-        (λ e. Fails e (option_and_then (walked (later_parts more.now)) (child_of part.now (tree_of tree.now)))) }
+        (λ t. option_and_then (walked (later_parts more.now)) (child_of part.now (tree_of tree.now))
+        ≡ Some (tree_of t))
+        (λ e. Fails e
+        (option_and_then (walked (later_parts more.now))
+        (child_of part.now (tree_of tree.now)))) }
 {
     match child(tree, part) {
         Some(next) => walk_on(alloc, room, next, more),
@@ -102,10 +105,12 @@ fn take_child(
     }
 }
 
-// The parts behind the first, with the slash before them, or nothing.
+// Returns a copy of what the parts after the first one name. They begin with a slash, or there are
+// none.
 #[cycle(walk)]
 fn walk_on(alloc: Global, room: &mut u64, tree: &Json, path: &[u8]) -> Result<Json, RefFault>
-    ensures { MatchResult result (λ t. walked (later_parts path.now) (tree_of tree.now) ≡ Some (tree_of t))
+    ensures { MatchResult result
+        (λ t. walked (later_parts path.now) (tree_of tree.now) ≡ Some (tree_of t))
         (λ e. Fails e (walked (later_parts path.now) (tree_of tree.now))) }
 {
     if path.is_empty() {
@@ -130,7 +135,7 @@ fn gather(alloc: Global, room: &mut u64, items: &[Json], path: &[u8]) -> Result<
     Ok(found)
 }
 
-// Puts a value at the end, or the items that it has.
+// Adds a value at the end, or its items if it is a list.
 fn add(found: &mut Items, value: Json) -> Result<(), NoMemory>
     ensures { OnOk result (found.new ≡ found.old ++ own_items (tree_of value)) }
 {

@@ -3,86 +3,97 @@ ghost use Rattle.std.specs.Prelude.{◌≡◌, ◌&&◌, [], true, false, Some, 
 ghost use Rattle.jm_json.specs.Json.{tree_of, member_of};
 ghost use Rattle.jm_json.specs.Find.{find};
 ghost use Rattle.jm_json.specs.Invoked.{call_of};
-ghost use Rattle.result_refs.specs.References.{resolution, resolved, by_arguments, arguments, argument, clashes, referred, asked, taken, response_of, text_at, is_marked};
+ghost use Rattle.result_refs.specs.References.{resolution, resolution_of, resolved, unless_both, arguments, argument, clashes, referred, asked, taken, response_of, text_at, is_marked};
 ghost use Rattle.result_refs.specs.Explained.{Explains, Fails};
 
 use crate::RefFault;
 use crate::path::pick;
 use jm_base::Text;
-use jm_json::{Invocation, Json, Member, Members, copy};
+use jm_json::{Invocation, Json, Member, MemberRuns, Members};
 use std::alloc::Global;
+use std::collections::VecDeque;
 
-/// The arguments of a call in which each member whose name begins with `#` is replaced: the name loses the mark, and the value
-/// is what the reference names in the responses so far (RFC 8620, section 3.7). The first response with the id of a reference
-/// is taken, and its name must be that of the reference.
+/// Returns the arguments of a call in which each member whose name begins with `#` is replaced: the
+/// name loses the mark, and the value is what the reference names in the responses up to here (RFC
+/// 8620, section 3.7). The first response with the id of a reference is taken, and its name must be
+/// that of the reference. The other members are moved.
 ///
-/// What the references make is taken from the room, which is what is left for the request. If the room
-/// does not suffice, this ends out of memory.
+/// What the references make is taken from the room, in bytes, which is what is left for the
+/// request. If the room does not suffice, this ends out of memory. Fails with `BadReference` if a
+/// reference names nothing, and otherwise with `Both` if a name is given with and without the mark.
+#[tactic(auto, using(jm_json::proofs::Lists::lists_back))]
 pub fn resolve(
     alloc: Global,
     room: &mut u64,
-    args: &Json,
+    args: Json,
     responses: &[Invocation],
 ) -> Result<Json, RefFault>
     ensures { MatchResult result
-        (λ t. resolution (tree_of args.now) (map call_of responses.now) ≡ resolved (tree_of t))
-        (λ e. Explains e (resolution (tree_of args.now) (map call_of responses.now))) }
+        (λ t. resolution (tree_of args) (map call_of responses.now) ≡ resolved (tree_of t))
+        (λ e. Explains e (resolution (tree_of args) (map call_of responses.now))) }
 {
-    match args.as_object() {
-        Some(members) => resolve_members(alloc, room, members, responses),
-        None => Ok(copy(alloc, args)?),
+    match args {
+        Json::Object(members) => resolve_members(alloc, room, members, responses),
+        args => Ok(args),
     }
 }
 
 fn resolve_members(
     alloc: Global,
     room: &mut u64,
-    members: &Members,
+    members: Members,
     responses: &[Invocation],
 ) -> Result<Json, RefFault>
     ensures { MatchResult result
-        (λ t. by_arguments (arguments [] members.now (map call_of responses.now)) (clashes members.now members.now) ≡ resolved (tree_of t))
-        (λ e. Explains e (by_arguments (arguments [] members.now (map call_of responses.now)) (clashes members.now members.now))) }
+        (λ t. resolution_of members (map call_of responses.now) ≡ resolved (tree_of t))
+        (λ e. Explains e (resolution_of members (map call_of responses.now))) }
 {
-    let found = match replace_members(alloc, room, members.as_slice(), responses) {
-        Ok(found) => found,
-        Err(fault) => return Err(fault),
-    };
-    if has_clash(members, members.as_slice()) {
+    let clash = has_clash(&members, members.as_slice());
+    match replace_members(alloc, room, members, responses) {
+        Ok(found) => unless_clash(clash, found),
+        Err(fault) => Err(fault),
+    }
+}
+
+fn unless_clash(clash: bool, members: Members) -> Result<Json, RefFault>
+    ensures { MatchResult result (λ t. unless_both clash members ≡ resolved (tree_of t))
+        (λ e. Explains e (unless_both clash members)) }
+{
+    if clash {
         return Err(RefFault::Both);
     }
-    Ok(Json::Object(found))
+    Ok(Json::Object(members))
 }
 
 fn replace_members(
     alloc: Global,
     room: &mut u64,
-    members: &[Member],
+    members: Members,
     responses: &[Invocation],
 ) -> Result<Members, RefFault>
-    ensures { MatchResult result
-        (λ ms. arguments [] (map member_of members.now) (map call_of responses.now) ≡ Some ms)
-        (λ e. Fails e (arguments [] (map member_of members.now) (map call_of responses.now))) }
+    ensures { MatchResult result (λ ms. arguments [] members (map call_of responses.now) ≡ Some ms)
+        (λ e. Fails e (arguments [] members (map call_of responses.now))) }
 {
-    let mut found = Members::with_room(alloc, members.len())?;
-    for member in members {
+    let mut found = MemberRuns::new(alloc);
+    let mut rest = VecDeque::from_vec(members.into_vec());
+    while let Some(member) = rest.pop_front() {
         match replace(alloc, room, member, responses) {
-            Ok(put) => found.put(put.name, put.value)?,
+            Ok(put) => found = found.put(alloc, put.name, put.value)?,
             Err(fault) => return Err(fault),
         }
     }
-    Ok(found)
+    Ok(found.into_members(alloc)?)
 }
 
 fn replace(
     alloc: Global,
     room: &mut u64,
-    member: &Member,
+    member: Member,
     responses: &[Invocation],
 ) -> Result<Member, RefFault>
     ensures { MatchResult result
-        (λ m. argument (member_of member.now) (map call_of responses.now) ≡ Some (member_of m))
-        (λ e. Fails e (argument (member_of member.now) (map call_of responses.now))) }
+        (λ m. argument (member_of member) (map call_of responses.now) ≡ Some (member_of m))
+        (λ e. Fails e (argument (member_of member) (map call_of responses.now))) }
 {
     match unmarked(member.name.as_str()) {
         Some(name) => match refer(alloc, room, &member.value, responses) {
@@ -92,14 +103,11 @@ fn replace(
             }),
             Err(fault) => Err(fault),
         },
-        None => Ok(Member {
-            name: member.name.copy()?,
-            value: copy(alloc, &member.value)?,
-        }),
+        None => Ok(member),
     }
 }
 
-// A name without its mark, where it has one.
+// Returns a name without its mark, if it has one.
 fn unmarked(name: &str) -> Option<&str>
     ensures { MatchOption result (is_marked name.now ≡ false)
         (λ n. (is_marked name.now ≡ true) × (n.now ≡ drop 1 name.now)) }
@@ -178,7 +186,8 @@ fn take(
 }
 
 fn response_to<'a>(id: &str, responses: &'a [Invocation]) -> Option<&'a Invocation>
-    ensures { option_map (λ r. call_of r.now) result ≡ response_of id.now (map call_of responses.now) }
+    ensures { option_map (λ r. call_of r.now) result
+        ≡ response_of id.now (map call_of responses.now) }
 {
     for response in responses {
         if response.id.as_str() == id {
@@ -199,7 +208,7 @@ fn has_clash(all: &Members, members: &[Member]) -> bool
     false
 }
 
-// Whether a name has the mark, and a member stands under the name without it.
+// Returns whether a name has the mark and there is a member of the name without it.
 fn is_given_twice(all: &Members, name: &str) -> bool
     ensures { result ≡ (is_marked name.now && is_some (find (drop 1 name.now) all.now)) }
 {

@@ -8,15 +8,15 @@ use jm_base::NoMemory;
 use jm_json::{Json, Member, copy};
 use std::alloc::Global;
 
-/// The most bytes that what the references of one request make may have in all, as they are counted:
-/// 64 MiB.
+/// The most bytes that what the references of one request make may have in all, as they are
+/// counted: 64 MiB.
 pub const MAX_REFERENCE_BYTES: u64 = 67108864;
 
 // The bytes that are counted for each value, besides those of its strings and keys.
 const VALUE_BYTES: u64 = 64;
 
-/// Copies a JSON value, and takes its bytes from the room. If the room does not suffice, this ends out of
-/// memory, and nothing is copied.
+/// Copies a JSON value, and takes its bytes from the room. If the room does not suffice, this ends
+/// out of memory, and nothing is copied.
 pub(crate) fn copy_within(alloc: Global, tree: &Json, room: &mut u64) -> Result<Json, NoMemory>
     ensures copy { IfOk result (λ t. t ≡ tree.now) }
     ensures room { OnOk result (room.new + value_bytes (tree_of tree.now) ≡ room.old) }
@@ -31,7 +31,8 @@ pub(crate) fn copy_within(alloc: Global, tree: &Json, room: &mut u64) -> Result<
     }
 }
 
-// Returns the room that is left once a value has been taken from it, and none where it does not suffice.
+// Returns the room that is left once a value has been taken from it, and none where it does not
+// suffice.
 #[cycle(room)]
 fn left_after(tree: &Json, room: u64) -> Option<u64>
     ensures { MatchOption result ⊤ (λ left. left + value_bytes (tree_of tree.now) ≡ room) }
@@ -57,7 +58,8 @@ fn left_after(tree: &Json, room: u64) -> Option<u64>
 
 #[cycle(room)]
 fn left_after_items(items: &[Json], room: u64) -> Option<u64>
-    ensures { MatchOption result ⊤ (λ left. left + items_bytes (trees_of (map tree_of items.now)) ≡ room) }
+    ensures { MatchOption result ⊤
+        (λ left. left + items_bytes (trees_of (map tree_of items.now)) ≡ room) }
 {
     let mut left = room;
     for item in items {
@@ -71,7 +73,8 @@ fn left_after_items(items: &[Json], room: u64) -> Option<u64>
 
 #[cycle(room)]
 fn left_after_members(members: &[Member], room: u64) -> Option<u64>
-    ensures { MatchOption result ⊤ (λ left. left + members_bytes (fields_of (map member_of members.now)) ≡ room) }
+    ensures { MatchOption result ⊤
+        (λ left. left + members_bytes (fields_of (map member_of members.now)) ≡ room) }
 {
     let mut left = room;
     for member in members {

@@ -1,11 +1,12 @@
-// Tables of references. The expected values are worked out from RFC 8620, section 3.7, and RFC 6901.
+// Tables of references. The expected values are worked out from RFC 8620, section 3.7, and RFC
+// 6901.
 use crate::{MAX_REFERENCE_BYTES, RefFault, resolve};
 use jm_base::Text;
 use jm_json::{Invocation, Json, read, write};
 use std::alloc::{AllocError, Global};
 use std::test::Fail;
 
-// The responses so far: what each was called, its id, and its arguments.
+// The responses up to here: what each was called, its id, and its arguments.
 const RESPONSES: [(&str, &str, &str); 3] = [
     (
         "Foo/get",
@@ -80,7 +81,7 @@ fn responses(alloc: Global) -> Result<Vec<Invocation>, AllocError> {
 // The text of what arguments become, or why they are refused.
 fn outcome(alloc: Global, args: &str) -> Result<Vec<u8>, AllocError> {
     let mut room = MAX_REFERENCE_BYTES;
-    match resolve(alloc, &mut room, &tree(alloc, args)?, &responses(alloc)?) {
+    match resolve(alloc, &mut room, tree(alloc, args)?, &responses(alloc)?) {
         Ok(tree) => match write(alloc, &tree) {
             Ok(text) => Ok(text.into_vec()),
             Err(_) => Err(AllocError),

@@ -3,9 +3,10 @@ use Rattle.jm_json.specs.Json.{tree_of}
 use Rattle.jm_json.specs.Find.{find}
 use Rattle.jm_json.specs.Order.{put}
 use Rattle.jm_json.specs.Pointer.{cut, name_of}
-use Rattle.jm_json.specs.Patch.{changed, take_away}
+use Rattle.jm_json.specs.Tree.{null}
+use Rattle.jm_json.specs.Patch.{changed}
 use Rattle.jm_json.proofs.Patched.{IsCut, changed_from, changed_none}
-use Rattle.jm_json.proofs.Removals.{put-take_away, take_away-absent}
+use Rattle.jm_json.proofs.Puts.{put_twice}
 use Rattle.jm_json.proofs.patches.+change.Goals as goal
 
 pub change-returns-in_ok-change_member-in-Some : goal.change-returns-in_ok-change_member-in-Some
@@ -36,12 +37,12 @@ change_member-returns-in_ok-put-in-Some-clause-inner t c = λ some.
     let found : find k ms ≡ Some u = ap (λ s. find s ms) (sym c.as_str.ensures) ∙ sym c.in-Some.ensures.value in
     let rest = take_all (length more - 1) (drop 1 more) (omega (arith, length-drop 1 more)) in
     let inner : tree_of c.in_ok-inner-in-Some.inner ≡ changed (cut (drop 1 more)) v u = c.in_ok-inner-in-Some.ensures ∙ ap (λ s. changed (cut s) v u) rest in
-    let without : c.remove.new.self ≡ take_away k ms = c.remove.ensures.rest ∙ ap (λ s. take_away s ms) c.as_str.ensures in
-    rw found (c.in_ok-put-in-Some.ensures.ok ∙ ap₂ (put k) inner without ∙ put-take_away k u (changed (cut (drop 1 more)) v u) ms c.requires found)
+    let empty : c.take_value.new.self ≡ put k null ms = c.in-Some.ensures.rest ∙ ap (λ s. put s null ms) c.as_str.ensures in
+    rw found (c.in_ok-put-in-Some.ensures.ok ∙ ap₂ (put k) inner empty ∙ put_twice k null (changed (cut (drop 1 more)) v u) ms)
 
 pub change_member-returns-in-None-clause-inner : goal.change_member-returns-in-None-clause-inner
 change_member-returns-in-None-clause-inner t c = λ some.
     let k = c.args.name in
     let ms = c.args.members in
     let none : find k ms ≡ None = ap (λ s. find s ms) (sym c.as_str.ensures) ∙ sym c.in-None.ensures.value in
-    rw none (c.remove.ensures.rest ∙ ap (λ s. take_away s ms) c.as_str.ensures ∙ take_away-absent k ms none)
+    rw none c.in-None.ensures.rest

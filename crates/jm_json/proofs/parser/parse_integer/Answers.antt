@@ -2,7 +2,7 @@ use Rattle.std.proofs.Common.{◌≡◌, drop, get_or, true, false, ◌==◌, sy
 use Rattle.fast_float.specs.Text.{scan}
 use Rattle.serde_json.specs.Read.{number_of, number_from}
 use Rattle.jm_json.proofs.Integers.{told}
-use Rattle.jm_json.proofs.parser.whole_of.Goals as goal
+use Rattle.jm_json.proofs.parser.parse_integer.Goals as goal
 
 pub returns-then-has_minus : goal.returns-then-has_minus
 unfolding number_of
