@@ -3,7 +3,7 @@ use Rattle.std.proofs.Common.{◌≡◌, ℕ, Bool, true, false, cond, List, [],
 use Rattle.std.specs.Option.{option_or}
 use Rattle.jm_json.specs.declared.invocation.Created.{Created}
 use Rattle.mailbox_set.specs.Properties.{last_made}
-use Rattle.mailbox_set.specs.Views.{Means, IsKnown}
+use Rattle.mailbox_set.specs.Views.{Means, IsIdFor}
 
 or_after : (b : Bool) (id : List ℕ) (old other : Option (List ℕ)) → option_or (cond b (Some id) old) other ≡ cond b (Some id) (option_or old other)
 or_after true id old other = refl
@@ -15,11 +15,11 @@ last_made-append k (y ∷ made) x =
     ap (λ o. option_or o (cond (bytes_eq y.creation k) (Some y.id) None)) (last_made-append k made x)
     ∙ or_after (bytes_eq x.creation k) x.id (last_made k made) (cond (bytes_eq y.creation k) (Some y.id) None)
 
-learned : (b : Bool) (id : List ℕ) (number : Option ℕ) (old : Option (List ℕ)) (was : Option (Option ℕ)) → Means id number → IsKnown old was → IsKnown (cond b (Some id) old) (cond b (Some number) was)
-learned true id number old was means known = means
-learned false id number old was means known = known
+noted : (b : Bool) (id : List ℕ) (number : Option ℕ) (old : Option (List ℕ)) (was : Option (Option ℕ)) → Means id number → IsIdFor old was → IsIdFor (cond b (Some id) old) (cond b (Some number) was)
+noted true id number old was means known = means
+noted false id number old was means known = known
 
-pub learned_at : (made : List Created) (x : Created) (k creation : List ℕ) (number : Option ℕ) (was now : Option (Option ℕ)) → x.creation ≡ creation → now ≡ cond (bytes_eq creation k) (Some number) was → Means x.id number
-    → IsKnown (last_made k made) was → IsKnown (last_made k (made ++ x ∷ [])) now
-learned_at made x k creation number was now same is means known =
-    rw (last_made-append k made x, is, same) (learned (bytes_eq creation k) x.id number (last_made k made) was means known)
+pub noted_at : (made : List Created) (x : Created) (k creation : List ℕ) (number : Option ℕ) (was now : Option (Option ℕ)) → x.creation ≡ creation → now ≡ cond (bytes_eq creation k) (Some number) was → Means x.id number
+    → IsIdFor (last_made k made) was → IsIdFor (last_made k (made ++ x ∷ [])) now
+noted_at made x k creation number was now same is means known =
+    rw (last_made-append k made x, is, same) (noted (bytes_eq creation k) x.id number (last_made k made) was means known)

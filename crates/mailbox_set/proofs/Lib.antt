@@ -3,7 +3,8 @@ pub mod Sames
 pub mod Knowing
 pub mod Naming
 pub mod Rising
-pub mod Givens
+pub mod NewNumbers
+pub mod Lookups
 pub mod Following
 pub mod Rounding
 pub mod Planning

@@ -6,11 +6,11 @@ use Rattle.jm_json.specs.declared.invocation.Created.{Created}
 use Rattle.mail_records.specs.declared.edits.Edit.{Edit}
 use Rattle.mail_counts.specs.Plans.{Ground, present_state, state_after}
 use Rattle.method_args.specs.declared.TheConstants.{MAX_OBJECTS_PER_CALL}
-use Rattle.mailbox_set.specs.Creates.{Course, Create}
+use Rattle.mailbox_set.specs.Creates.{Progress, Create}
 use Rattle.mailbox_set.specs.Rounds.{after_creates}
 use Rattle.mailbox_set.specs.Plans.{Plan, beginning, is_other_state, outcome_of_creates, plan_after, planned, reply_members, state_mismatch, too_large}
 
-pub plan_from_parts : (g : Ground) (account : List ℕ) (s : Course) (before after : ℕ) (created refused : List (List ℕ × Tree)) (reply : Tree) (edits : List Edit) (made : List Created)
+pub plan_from_parts : (g : Ground) (account : List ℕ) (s : Progress) (before after : ℕ) (created refused : List (List ℕ × Tree)) (reply : Tree) (edits : List Edit) (made : List Created)
     → reply ≡ object (fields_of (reply_members account before after created refused)) → before ≡ present_state OfMailbox g → after ≡ state_after OfMailbox g edits
     → created ≡ s.created → refused ≡ s.refused → edits ≡ s.edits → made ≡ s.fresh → record { reply = reply; edits = edits; made = made } ≡ plan_after g account s
 plan_from_parts g account s before after created refused reply edits made is was new c r e m =

@@ -23,8 +23,8 @@ use Rattle.mail_counts.specs.Forms.{is_name, is_role, is_sort_order}
 use Rattle.mail_counts.specs.Tidy.{IsTidy, IsThere, IsNewMailbox, is_sibling}
 use Rattle.mail_counts.specs.Views.{is_id_of, mailbox_members, mailbox_named}
 use Rattle.mail_counts.proofs.Growth.{Fits-new_mailbox, Tidy_with_new_mailbox}
-use Rattle.mailbox_set.specs.Properties.{Asked, asked, asked_name, asked_parent, identifier, named, only_if, parent_in, role_in, sort_order_in}
-use Rattle.mailbox_set.specs.Creates.{Create, Course, after_create, after_checks, after_made, bad_in, bad_members, blank, faults_of, is_bad, is_name_taken, is_role_taken, mailbox_of, new_mailbox, property, refusal}
+use Rattle.mailbox_set.specs.Properties.{SentProperties, sent_properties, sent_name, sent_parent, identifier, named, only_if, parent_in, role_in, sort_order_in}
+use Rattle.mailbox_set.specs.Creates.{Create, Progress, after_create, after_checks, after_made, bad_in, bad_members, blank, faults_of, is_bad, is_name_taken, is_role_taken, mailbox_of, new_mailbox, property, refusal}
 use Rattle.mailbox_set.specs.Rounds.{after_each, after_round, in_rounds, after_creates, stands, taken_out}
 use Rattle.mailbox_set.specs.Plans.{PutsNew, HasNewState, Plan, invalid, too_large, state_mismatch, planned, beginning, is_other_state, outcome_of_arguments, outcome_of_members, plan_after, set_outcome}
 use Rattle.method_args.specs.declared.TheConstants.{MAX_OBJECTS_PER_CALL}
@@ -169,7 +169,7 @@ parent_good c made (Some (number z)) n e = absurd (none-some n e)
 parent_good c made (Some (list ts)) n e = absurd (none-some n e)
 parent_good c made (Some (object fs)) n e = absurd (none-some n e)
 
--- ---- a create without bad properties makes a mailbox that may stand
+-- ---- a create without bad properties makes a mailbox that may be
 
 name_free : (c : Content) (parent : Option (Option ℕ)) (name : Option (List ℕ)) → is_some parent ≡ true → is_some name ≡ true → is_name_taken c parent name ≡ false
     → list_any (is_sibling (unwrap_or parent None) (unwrap_or name [])) c.mailboxes ≡ false
@@ -182,28 +182,28 @@ name_form o some =
     let h = some_there (option_and_then (only_if is_name) o) some in
     ap (λ x. is_name (unwrap_or x [])) h.1 ∙ name_good o h.0 h.1
 
--- a fault that a given property has is told
+-- a fault that a given property has is known
 given_good : (f : Faults) (given ms : Pairs) (k : List ℕ) (v : Tree) → bad_members f given ms ≡ [] → find k ms ≡ Some v → is_bad f given (k, v) ≡ false
 given_good f given ms k v none is = found_good (is_bad f given) ms k v (none_kept f given ms none) is
 
-parent_some : (c : Content) (made : List Created) (ms given : Pairs) (o : Option Tree) → find (codes "parentId") ms ≡ o → bad_members (faults_of c (asked c made ms)) given ms ≡ [] → is_some (asked_parent c made ms) ≡ true
+parent_some : (c : Content) (made : List Created) (ms given : Pairs) (o : Option Tree) → find (codes "parentId") ms ≡ o → bad_members (faults_of c (sent_properties c made ms)) given ms ≡ [] → is_some (sent_parent c made ms) ≡ true
 parent_some c made ms given None is none = ap (λ t. is_some (parent_in c made t)) is
-parent_some c made ms given (Some v) is none = not_false (is_some (asked_parent c made ms)) (given_good (faults_of c (asked c made ms)) given ms (codes "parentId") v none is)
+parent_some c made ms given (Some v) is none = not_false (is_some (sent_parent c made ms)) (given_good (faults_of c (sent_properties c made ms)) given ms (codes "parentId") v none is)
 
-role_free : (c : Content) (made : List Created) (ms given : Pairs) (o : Option Tree) → find (codes "role") ms ≡ o → bad_members (faults_of c (asked c made ms)) given ms ≡ []
+role_free : (c : Content) (made : List Created) (ms given : Pairs) (o : Option Tree) → find (codes "role") ms ≡ o → bad_members (faults_of c (sent_properties c made ms)) given ms ≡ []
     → is_role_taken c (unwrap_or (role_in (find (codes "role") ms)) None) ≡ false
 role_free c made ms given None is none = ap (λ t. is_role_taken c (unwrap_or (role_in t) None)) is ∙ no_role_taken c
 role_free c made ms given (Some v) is none =
     (or_left (is_some (role_in (find (codes "role") ms))) (is_role_taken c (unwrap_or (role_in (find (codes "role") ms)) None))
-    (given_good (faults_of c (asked c made ms)) given ms (codes "role") v none is)).1
+    (given_good (faults_of c (sent_properties c made ms)) given ms (codes "role") v none is)).1
 
-name_faultless : (c : Content) (made : List Created) (ms given : Pairs) → bad_members (faults_of c (asked c made ms)) given ms ≡ []
-    → (is_some (asked_name ms) ≡ true) × (is_name_taken c (asked_parent c made ms) (asked_name ms) ≡ false)
+name_faultless : (c : Content) (made : List Created) (ms given : Pairs) → bad_members (faults_of c (sent_properties c made ms)) given ms ≡ []
+    → (is_some (sent_name ms) ≡ true) × (is_name_taken c (sent_parent c made ms) (sent_name ms) ≡ false)
 name_faultless c made ms given none =
-    let h = some_there (find (codes "name") ms) (named_if_good (faults_of c (asked c made ms)) given ms none) in
-    or_left (is_some (asked_name ms)) (is_name_taken c (asked_parent c made ms) (asked_name ms)) (given_good (faults_of c (asked c made ms)) given ms (codes "name") h.0 none h.1)
+    let h = some_there (find (codes "name") ms) (named_if_good (faults_of c (sent_properties c made ms)) given ms none) in
+    or_left (is_some (sent_name ms)) (is_name_taken c (sent_parent c made ms) (sent_name ms)) (given_good (faults_of c (sent_properties c made ms)) given ms (codes "name") h.0 none h.1)
 
-pub IsNewMailbox-from_good : (c : Content) (made : List Created) (ms : Pairs) → bad_in c (asked c made ms) ms ≡ [] → IsNewMailbox c (mailbox_of c.next_mailbox (asked c made ms))
+pub IsNewMailbox-from_good : (c : Content) (made : List Created) (ms : Pairs) → bad_in c (sent_properties c made ms) ms ≡ [] → IsNewMailbox c (mailbox_of c.next_mailbox (sent_properties c made ms))
 IsNewMailbox-from_good c made ms none =
     let given = mailbox_members false (blank c.next_mailbox) in
     let name = name_faultless c made ms given none in
@@ -216,7 +216,7 @@ IsNewMailbox-from_good c made ms none =
         sort_order = sort_order_good (find (codes "sortOrder") ms);
       };
       parent = λ n e. parent_good c made (find (codes "parentId") ms) n e;
-      name_free = name_free c (asked_parent c made ms) (asked_name ms) parent name.0 name.1;
+      name_free = name_free c (sent_parent c made ms) (sent_name ms) parent name.0 name.1;
       role_free = role_free c made ms given (find (codes "role") ms) refl none;
       counts = record { total_emails = refl; unread_emails = refl; total_threads = refl; unread_threads = refl };
     }
@@ -224,25 +224,25 @@ IsNewMailbox-from_good c made ms none =
 -- ---- creates in rounds
 
 -- what each create keeps, all keep
-by_checks : (P : Course → Type 0) (s : Course) (x : Create) (m : Mailbox) (bad : Pairs) → (bad ≡ [] → P (after_made s x m)) → ((r : Pairs) → P (record s { refused = r })) → P (after_checks s x m bad)
+by_checks : (P : Progress → Type 0) (s : Progress) (x : Create) (m : Mailbox) (bad : Pairs) → (bad ≡ [] → P (after_made s x m)) → ((r : Pairs) → P (record s { refused = r })) → P (after_checks s x m bad)
 by_checks P s x m [] made other = made refl
 by_checks P s x m (b ∷ bs) made other = other (put x.creation (refusal (b ∷ bs)) s.refused)
 
-by_each : (P : Course → Type 0) → ((s : Course) (x : Create) → P s → P (after_create s x)) → (xs : List Create) (s : Course) → P s → P (after_each s xs)
+by_each : (P : Progress → Type 0) → ((s : Progress) (x : Create) → P s → P (after_create s x)) → (xs : List Create) (s : Progress) → P s → P (after_each s xs)
 by_each P step [] s p = p
 by_each P step (x ∷ xs) s p = by_each P step xs (after_create s x) (step s x p)
 
-by_round : (P : Course → Type 0) → ((s : Course) (x : Create) → P s → P (after_create s x)) → (n : ℕ) (s : Course) (xs : List Create) → P s → ((t : Course) (ys : List Create) → P t → P (in_rounds n t ys)) → (o : Option (Create × List Create))
+by_round : (P : Progress → Type 0) → ((s : Progress) (x : Create) → P s → P (after_create s x)) → (n : ℕ) (s : Progress) (xs : List Create) → P s → ((t : Progress) (ys : List Create) → P t → P (in_rounds n t ys)) → (o : Option (Create × List Create))
     → P (after_round (in_rounds n) s xs o)
 by_round P step n s xs p next None = by_each P step xs s p
 by_round P step n s xs p next (Some r) = next (after_create s r.0) r.1 (step s r.0 p)
 
-by_rounds : (P : Course → Type 0) → ((s : Course) (x : Create) → P s → P (after_create s x)) → (n : ℕ) (s : Course) (xs : List Create) → P s → P (in_rounds n s xs)
+by_rounds : (P : Progress → Type 0) → ((s : Progress) (x : Create) → P s → P (after_create s x)) → (n : ℕ) (s : Progress) (xs : List Create) → P s → P (in_rounds n s xs)
 by_rounds P step zero s xs p = by_each P step xs s p
 by_rounds P step (suc n) s xs p = by_round P step n s xs p (λ t ys q. by_rounds P step n t ys q) (taken_out (stands s.made) xs)
 
--- the edits so far lead to the content so far, and put new mailboxes
-pub record Leading (c : Content) (s : Course) : Type 0 where
+-- the edits up to here lead to the content up to here, and put new mailboxes
+pub record Leading (c : Content) (s : Progress) : Type 0 where
   pub content : s.content ≡ after_edits c s.edits
   pub puts : AllByRecursion PutsNew s.edits
 
@@ -250,7 +250,7 @@ all_push : {A : Type 0} (P : A → Type 0) (xs : List A) (x : A) → AllByRecurs
 all_push P [] x all p = (p, tt)
 all_push P (y ∷ xs) x all p = (all.0, all_push P xs x all.1 p)
 
-leading_made : (c : Content) (s : Course) (x : Create) (a : Asked) → Leading c s → Leading c (after_made s x (mailbox_of s.content.next_mailbox a))
+leading_made : (c : Content) (s : Progress) (x : Create) (a : SentProperties) → Leading c s → Leading c (after_made s x (mailbox_of s.content.next_mailbox a))
 leading_made c s x a f =
     let m = mailbox_of s.content.next_mailbox a in
     record {
@@ -258,22 +258,22 @@ leading_made c s x a f =
       puts = all_push PutsNew s.edits (new_mailbox m) f.puts (refl, refl, record { total_emails = refl; unread_emails = refl; total_threads = refl; unread_threads = refl });
     }
 
-leading_create : (c : Content) (s : Course) (x : Create) → Leading c s → Leading c (after_create s x)
+leading_create : (c : Content) (s : Progress) (x : Create) → Leading c s → Leading c (after_create s x)
 leading_create c s x f =
-    let a = asked s.content s.made x.members in
+    let a = sent_properties s.content s.made x.members in
     by_checks (Leading c) s x (mailbox_of s.content.next_mailbox a) (bad_in s.content a x.members) (λ none. leading_made c s x a f)
     (λ r. record { content = f.content; puts = f.puts })
 
-Leading-creates : (c : Content) (s : Course) (xs : List Create) → Leading c s → Leading c (after_creates s xs)
+Leading-creates : (c : Content) (s : Progress) (xs : List Create) → Leading c s → Leading c (after_creates s xs)
 Leading-creates c s xs f = by_rounds (Leading c) (leading_create c) (length xs) s xs f
 
--- the edits so far fit too, where numbers are below the next ones
-pub record Fitting (c : Content) (s : Course) : Type 0 where
+-- the edits up to here fit too, where numbers are below the next ones
+pub record Fitting (c : Content) (s : Progress) : Type 0 where
   pub leads : Leading c s
   pub fits : AllFit c s.edits
   pub numbered : AreNumbered s.content
 
-fitting_made : (c : Content) (s : Course) (x : Create) (a : Asked) → Fitting c s → Fitting c (after_made s x (mailbox_of s.content.next_mailbox a))
+fitting_made : (c : Content) (s : Progress) (x : Create) (a : SentProperties) → Fitting c s → Fitting c (after_made s x (mailbox_of s.content.next_mailbox a))
 fitting_made c s x a f =
     let m = mailbox_of s.content.next_mailbox a in
     let fit : Fits s.content (new_mailbox m) = Fits-new_mailbox s.content m false f.numbered refl in
@@ -284,26 +284,26 @@ fitting_made c s x a f =
       numbered = AreNumbered-after_edit s.content (new_mailbox m) fit f.numbered;
     }
 
-fitting_create : (c : Content) (s : Course) (x : Create) → Fitting c s → Fitting c (after_create s x)
+fitting_create : (c : Content) (s : Progress) (x : Create) → Fitting c s → Fitting c (after_create s x)
 fitting_create c s x f =
-    let a = asked s.content s.made x.members in
+    let a = sent_properties s.content s.made x.members in
     by_checks (Fitting c) s x (mailbox_of s.content.next_mailbox a) (bad_in s.content a x.members) (λ none. fitting_made c s x a f)
     (λ r. record { leads = record { content = f.leads.content; puts = f.leads.puts }; fits = f.fits; numbered = f.numbered })
 
-Fitting-creates : (c : Content) (s : Course) (xs : List Create) → Fitting c s → Fitting c (after_creates s xs)
+Fitting-creates : (c : Content) (s : Progress) (xs : List Create) → Fitting c s → Fitting c (after_creates s xs)
 Fitting-creates c s xs f = by_rounds (Fitting c) (fitting_create c) (length xs) s xs f
 
-abbrev Tidied : Course → Type 0
+abbrev Tidied : Progress → Type 0
 Tidied s = IsTidy s.content
 
-tidy_create : (s : Course) (x : Create) → Tidied s → Tidied (after_create s x)
+tidy_create : (s : Progress) (x : Create) → Tidied s → Tidied (after_create s x)
 tidy_create s x tidy =
-    let a = asked s.content s.made x.members in
+    let a = sent_properties s.content s.made x.members in
     by_checks Tidied s x (mailbox_of s.content.next_mailbox a) (bad_in s.content a x.members)
     (λ none. Tidy_with_new_mailbox s.content (mailbox_of s.content.next_mailbox a) false tidy (IsNewMailbox-from_good s.content s.made x.members none))
     (λ r. tidy)
 
-pub Tidy-creates : (s : Course) (xs : List Create) → IsTidy s.content → IsTidy (after_creates s xs).content
+pub Tidy-creates : (s : Progress) (xs : List Create) → IsTidy s.content → IsTidy (after_creates s xs).content
 Tidy-creates s xs tidy = by_rounds Tidied tidy_create (length xs) s xs tidy
 
 -- ---- a plan

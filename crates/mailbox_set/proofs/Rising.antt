@@ -53,7 +53,7 @@ keys_of_properties (m ∷ ms) = ap (λ ks. m.0 ∷ ks) (keys_of_properties ms)
 pub rise_properties : (ms : Pairs) → KeysRise ms → KeysRise (map property ms)
 rise_properties ms rise = subst (IsStrictlySortedBy (slice_cmp nat_cmp)) (sym (keys_of_properties ms)) rise
 
--- a member that passes may be put behind those that passed before it
+-- a member that passes may be put after those that passed before it
 pub rise_pushed : (p : List ℕ × Tree → Bool) (sent : List Member) (i : ℕ) (m : Member) (bad : Pairs) (name : List ℕ) → i < length sent → m ≡ get_or sent i m → p (member_of m) ≡ true → name ≡ m.name
     → bad ++ map property (filter p (map member_of (drop i sent))) ≡ map property (filter p (map member_of sent)) → KeysRise (map member_of sent) → KeysRise (bad ++ (name, null) ∷ [])
 rise_pushed p sent i m bad name lt is passes same all rise =
@@ -72,7 +72,7 @@ rise_moved p all told rest m passes is rise =
     let whole : (told ++ m ∷ []) ++ filter p rest ≡ filter p all = append_assoc told (m ∷ []) (filter p rest) ∙ (ap (λ xs. told ++ xs) (sym first) ∙ is) in
     rise_before (told ++ m ∷ []) (filter p rest) (subst KeysRise (sym whole) (rise_kept p all rise))
 
--- a member that passes is moved behind those before it, and another is left out
+-- a member that passes is moved after those before it, and another is left out
 pub moved_more : (p : List ℕ × Tree → Bool) (told rest all : Pairs) (m : List ℕ × Tree) → p m ≡ true → told ++ filter p (m ∷ rest) ≡ all → (told ++ m ∷ []) ++ filter p rest ≡ all
 moved_more p told rest all m passes is =
     let first : filter p (m ∷ rest) ≡ m ∷ filter p rest = rw passes refl in

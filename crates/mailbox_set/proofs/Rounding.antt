@@ -2,17 +2,17 @@
 use Rattle.std.proofs.Common.{◌≡◌, ℕ, zero, suc, ◌+◌, ◌<◌, ◌≤◌, Bool, true, false, List, [], ◌∷◌, ◌++◌, map, length, get_or, take, drop, Option, Some, None, is_some, option_map, refl, sym, ap, ◌∙◌, arith, append_assoc, add-one, length-append, length-take, length-drop}
 use Rattle.std.specs.List.{remove}
 use Rattle.std.proofs.lemmas.List.{drop_more, drop_all, take_more, map-append}
-use Rattle.mailbox_set.specs.Views.{IsKnown, create_of, IsFirst}
-use Rattle.mailbox_set.specs.Creates.{Create, Course, after_create}
+use Rattle.mailbox_set.specs.Views.{IsIdFor, create_of, IsFirst}
+use Rattle.mailbox_set.specs.Creates.{Create, Progress, after_create}
 use Rattle.mailbox_set.specs.Rounds.{stands, taken_out, after_each, after_round, in_rounds}
 use Rattle.mailbox_set.specs.declared.arguments.Draft.{Draft}
 
 -- something is known at a creation id exactly where something was made under it
-pub known_some : (o : Option (List ℕ)) (k : Option (Option ℕ)) → IsKnown o k → is_some k ≡ is_some o
-known_some None None h = refl
-known_some None (Some n) h = absurd h
-known_some (Some s) None h = absurd h
-known_some (Some s) (Some n) h = refl
+pub id_some : (o : Option (List ℕ)) (k : Option (Option ℕ)) → IsIdFor o k → is_some k ≡ is_some o
+id_some None None h = refl
+id_some None (Some n) h = absurd h
+id_some (Some s) None h = absurd h
+id_some (Some s) (Some n) h = refl
 
 abbrev pub behind : List Create → Create × List Create → Create × List Create
 behind front r = (r.0, front ++ r.1)
@@ -71,20 +71,20 @@ pub searched_all : (p : Create → Bool) (ds : List Draft) (i : ℕ) → length 
 searched_all p ds i e so = so ∙ ap (λ xs. option_map (behind (map create_of (take i ds))) (taken_out p (map create_of xs))) (drop_all i ds (omega arith))
 
 -- rounds end where no reference stands
-pub rounds_end : (n : ℕ) (s : Course) (xs : List Create) → taken_out (stands s.made) xs ≡ None → in_rounds n s xs ≡ after_each s xs
+pub rounds_end : (n : ℕ) (s : Progress) (xs : List Create) → taken_out (stands s.made) xs ≡ None → in_rounds n s xs ≡ after_each s xs
 rounds_end zero s xs none = refl
 rounds_end (suc n) s xs none = ap (after_round (in_rounds n) s xs) none
 
 -- a round
-pub rounds_step : (n k : ℕ) (s : Course) (xs ys : List Create) (x : Create) → n ≡ suc k → taken_out (stands s.made) xs ≡ Some (x, ys) → in_rounds n s xs ≡ in_rounds k (after_create s x) ys
+pub rounds_step : (n k : ℕ) (s : Progress) (xs ys : List Create) (x : Create) → n ≡ suc k → taken_out (stands s.made) xs ≡ Some (x, ys) → in_rounds n s xs ≡ in_rounds k (after_create s x) ys
 rounds_step n k s xs ys x e some = ap (λ m. in_rounds m s xs) e ∙ ap (after_round (in_rounds k) s xs) some
 
 -- one create after the other, one further
-pub each_step : (s : Course) (ds : List Draft) (i : ℕ) (e : Draft) → i < length ds → e ≡ get_or ds i e → after_each s (map create_of (drop i ds)) ≡ after_each (after_create s (create_of e)) (map create_of (drop (i + 1) ds))
+pub each_step : (s : Progress) (ds : List Draft) (i : ℕ) (e : Draft) → i < length ds → e ≡ get_or ds i e → after_each s (map create_of (drop i ds)) ≡ after_each (after_create s (create_of e)) (map create_of (drop (i + 1) ds))
 each_step s ds i e lt is =
     ap (λ xs. after_each s (map create_of xs)) (drop_more ds i e lt) ∙ ap (λ d. after_each (after_create s (create_of d)) (map create_of (drop (i + 1) ds))) (sym is)
 
-pub each_end : (s : Course) (ds : List Draft) (i : ℕ) → length ds ≤ i → after_each s (map create_of (drop i ds)) ≡ s
+pub each_end : (s : Progress) (ds : List Draft) (i : ℕ) → length ds ≤ i → after_each s (map create_of (drop i ds)) ≡ s
 each_end s ds i le = ap (λ xs. after_each s (map create_of xs)) (drop_all i ds le)
 
 -- one draft less
@@ -92,7 +92,7 @@ pub length_removed : (ds : List Draft) (i : ℕ) → i < length ds → length ds
 length_removed ds i lt = omega (arith, length-append (take i ds) (drop (suc i) ds), length-take i ds, length-drop (suc i) ds)
 
 -- a round, by the draft that was taken out
-pub round_by_draft : (ds rest : List Draft) (i : ℕ) (d : Draft) (t : Course) → IsFirst (stands t.made) ds (Some i) → d ≡ get_or ds i d → rest ≡ remove ds i
+pub round_by_draft : (ds rest : List Draft) (i : ℕ) (d : Draft) (t : Progress) → IsFirst (stands t.made) ds (Some i) → d ≡ get_or ds i d → rest ≡ remove ds i
     → in_rounds (length ds) t (map create_of ds) ≡ in_rounds (length rest) (after_create t (create_of d)) (map create_of rest)
 round_by_draft ds rest i d t first is removed =
     rounds_step (length ds) (length (remove ds i)) t (map create_of ds) (map create_of (remove ds i)) (create_of (get_or ds i d)) (length_removed ds i first.0) (first.1 d)

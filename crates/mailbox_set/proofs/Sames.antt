@@ -33,7 +33,7 @@ fields_of_lengths (x ∷ xs) (y ∷ ys) ne =
     ap (λ b. bytes_eq x.name y.name && is_same (tree_of x.value) (tree_of y.value) && b) (fields_of_lengths xs ys (λ e. ne (ap suc e)))
     ∙ and_false (bytes_eq x.name y.name && is_same (tree_of x.value) (tree_of y.value))
 
--- the items at one place, and those behind
+-- the items at one place, and those after
 pub trees_step : (xs ys : List Json) (i : ℕ) (x y : Json) → i < length xs → i < length ys → x ≡ get_or xs i x → y ≡ get_or ys i y
     → trees_tested (drop i xs) (drop i ys) ≡ (is_same (tree_of x) (tree_of y) && trees_tested (drop (i + 1) xs) (drop (i + 1) ys))
 trees_step xs ys i x y lx ly ex ey =

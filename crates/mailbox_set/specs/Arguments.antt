@@ -8,7 +8,8 @@ use Rattle.method_args.specs.declared.form.Presence.TheVariants.{Required, Optio
 use Rattle.method_args.specs.declared.form.Shape.TheVariants.{String, Flag, Objects, EmptyList, EmptyObject}
 use Rattle.mailbox_set.specs.Creates.{Create}
 
--- The arguments in byte order, in which they are checked. Until updates and destroys are built, there may be none.
+-- The arguments in byte order, in which they are checked. Until updates and destroys are built,
+-- there may be none.
 abbrev pub forms : List Form
 forms =
     record { name = codes "accountId"; presence = Required; shape = String }

@@ -1,4 +1,4 @@
--- Whether two JSON trees are the same.
+-- Whether two JSON trees are equal.
 use Rattle.std.specs.Prelude.{Bool, true, false, not, ◌&&◌, if◌then◌else◌, bytes_eq}
 use Rattle.std.specs.Ordering.{int_eq}
 use Rattle.jm_json.specs.Tree.{Tree, null, boolean, number, text, list, object, Trees, no_trees, tree, Fields, no_fields, field}
@@ -23,5 +23,6 @@ abbrev mutual
 
   pub are_same_fields : Fields → Fields → Bool
   are_same_fields no_fields no_fields = true
-  are_same_fields (field j s fs) (field k t gs) = bytes_eq j k && is_same s t && are_same_fields fs gs
+  are_same_fields (field j s fs) (field k t gs) =
+      bytes_eq j k && is_same s t && are_same_fields fs gs
   are_same_fields _ _ = false

@@ -1,5 +1,5 @@
--- What the object of a create asks for, property by property (RFC 8620, 5.3; RFC 8621, 2 and 2.5). None stands for a value
--- that isn't good by itself.
+-- The properties that the object of a create sends (RFC 8620, 5.3; RFC 8621, 2 and 2.5). None
+-- means a value that is invalid by itself.
 use Rattle.std.specs.Prelude.{ℕ, pos, List, [], ◌∷◌, Bool, true, ◌==◌, Option, Some, None, option_map, option_and_then, if◌then◌else◌, codes, bytes_eq}
 use Rattle.std.specs.Option.{option_or}
 use Rattle.jm_json.specs.Tree.{Tree, null, boolean, number, text}
@@ -13,17 +13,18 @@ use Rattle.mail_counts.specs.Views.{mailbox_named}
 abbrev pub only_if : {A : Type 0} → (A → Bool) → A → Option A
 only_if test x = if test x then Some x else None
 
--- the identifier that was made last under a creation id
+-- the id that was created last under a creation id
 abbrev pub last_made : List ℕ → List Created → Option (List ℕ)
 last_made k [] = None
-last_made k (x ∷ xs) = option_or (last_made k xs) (if bytes_eq x.creation k then Some x.id else None)
+last_made k (x ∷ xs) =
+    option_or (last_made k xs) (if bytes_eq x.creation k then Some x.id else None)
 
--- the creation id that a text refers to: what stands behind its `#`
+-- the creation id that a string refers to: what follows its `#`
 abbrev pub reference : List ℕ → Option (List ℕ)
 reference [] = None
 reference (x ∷ xs) = if x == 35 then Some xs else None
 
--- the identifier that a text stands for, or that its reference does
+-- the id that a string or its reference means
 abbrev pub by_reference : List Created → List ℕ → Option (List ℕ) → Option (List ℕ)
 by_reference made s None = Some s
 by_reference made s (Some k) = last_made k made
@@ -36,50 +37,50 @@ abbrev pub named : Content → List ℕ → Option ℕ
 named c s = option_map mailbox_number (mailbox_named c.mailboxes s)
 
 -- the name
-abbrev pub asked_name : List (List ℕ × Tree) → Option (List ℕ)
-asked_name ms = option_and_then (only_if is_name) (option_and_then as_text (find (codes "name") ms))
+abbrev pub sent_name : List (List ℕ × Tree) → Option (List ℕ)
+sent_name ms = option_and_then (only_if is_name) (option_and_then as_text (find (codes "name") ms))
 
--- the parent: none where null or nothing is given
+-- the parent: none if null or nothing is sent
 abbrev pub parent_in : Content → List Created → Option Tree → Option (Option ℕ)
 parent_in c made None = Some None
 parent_in c made (Some null) = Some None
 parent_in c made (Some (text s)) = option_map Some (option_and_then (named c) (identifier made s))
 parent_in c made _ = None
 
-abbrev pub asked_parent : Content → List Created → List (List ℕ × Tree) → Option (Option ℕ)
-asked_parent c made ms = parent_in c made (find (codes "parentId") ms)
+abbrev pub sent_parent : Content → List Created → List (List ℕ × Tree) → Option (Option ℕ)
+sent_parent c made ms = parent_in c made (find (codes "parentId") ms)
 
--- the role: none where null or nothing is given
+-- the role: none if null or nothing is sent
 abbrev pub role_in : Option Tree → Option (Option (List ℕ))
 role_in None = Some None
 role_in (Some null) = Some None
 role_in (Some (text s)) = option_map Some (only_if is_role s)
 role_in _ = None
 
--- the sort order: 0 where nothing is given
+-- the sort order: 0 if nothing is sent
 abbrev pub sort_order_in : Option Tree → Option ℕ
 sort_order_in None = Some 0
 sort_order_in (Some (number (pos n))) = only_if is_sort_order n
 sort_order_in _ = None
 
--- whether it is subscribed: yes where nothing is given (our own)
+-- whether it is subscribed: true if nothing is sent (the RFC leaves this open)
 abbrev pub subscribed_in : Option Tree → Option Bool
 subscribed_in None = Some true
 subscribed_in (Some (boolean b)) = Some b
 subscribed_in _ = None
 
--- what a create asks for, beside a content and what the request has made so far
-pub record Asked : Type 0 where
+-- the properties that a create sends, over a content and what the request has created up to here
+pub record SentProperties : Type 0 where
   pub name : Option (List ℕ)
   pub parent : Option (Option ℕ)
   pub role : Option (Option (List ℕ))
   pub sort_order : Option ℕ
   pub subscribed : Option Bool
 
-abbrev pub asked : Content → List Created → List (List ℕ × Tree) → Asked
-asked c made ms = record {
-  name = asked_name ms;
-  parent = asked_parent c made ms;
+abbrev pub sent_properties : Content → List Created → List (List ℕ × Tree) → SentProperties
+sent_properties c made ms = record {
+  name = sent_name ms;
+  parent = sent_parent c made ms;
   role = role_in (find (codes "role") ms);
   sort_order = sort_order_in (find (codes "sortOrder") ms);
   subscribed = subscribed_in (find (codes "isSubscribed") ms);

@@ -17,8 +17,8 @@ pub struct Draft<'a> {
     pub members: &'a Members,
 }
 
-/// Returns the name of the first argument in byte order that is missing or does not have its form. Until updates and destroys
-/// are built, there may be none.
+/// Returns the name of the first argument in byte order that is missing or does not have its form.
+/// Until updates and destroys are built, there may be none.
 pub fn find_invalid_argument(members: &Members) -> Option<&'static str>
     ensures { option_map (λ s. s.now) result ≡ invalid_argument members.now }
 {
@@ -77,7 +77,8 @@ pub fn read_if_in_state<'a>(members: &'a Members) -> Option<&'a Text>
 }
 
 fn collect_drafts<'a>(alloc: Global, members: &'a [Member]) -> Result<Vec<Draft<'a>>, NoMemory>
-    ensures { IfOk result (λ v. map create_of v.items ≡ filter_map create_in (map member_of members.now)) }
+    ensures { IfOk result
+        (λ v. map create_of v.items ≡ filter_map create_in (map member_of members.now)) }
 {
     let mut drafts = Vec::with_capacity(alloc, members.len())?;
     for member in members {

@@ -7,22 +7,23 @@ ghost use Rattle.jm_json.specs.Tree.{text as text_tree};
 ghost use Rattle.mail_records.specs.Contents.{mailbox_at};
 ghost use Rattle.mail_counts.specs.Tidy.{is_sibling};
 ghost use Rattle.mail_counts.specs.Views.{mailbox_members};
-ghost use Rattle.mailbox_set.specs.Properties.{asked, asked_parent, identifier, parent_in};
-ghost use Rattle.mailbox_set.specs.Views.{has_role, Follows, MeansIfAny, asked_of};
-ghost use Rattle.mailbox_set.specs.Creates.{Course, bad_members, blank, differs, faults_of, is_bad, is_name_taken, is_role_taken, property};
+ghost use Rattle.mailbox_set.specs.Properties.{sent_properties, sent_parent, identifier, parent_in};
+ghost use Rattle.mailbox_set.specs.Views.{has_role, Follows, MeansIfAny, properties_of};
+ghost use Rattle.mailbox_set.specs.Creates.{Progress, bad_members, blank, differs, faults_of, is_bad, is_name_taken, is_role_taken, property};
 
 use crate::creation_ids::{find_id, read_mailbox_number, read_reference};
 use crate::equality::is_same;
-use crate::names::{has_text, is_name_beyond, is_role_beyond};
+use crate::names::{has_other_role, has_other_sibling, has_text};
 use crate::planner::Planner;
-use crate::properties::{Asked, read_name, read_role, read_sort_order, read_subscribed};
+use crate::properties::{SentProperties, read_name, read_role, read_sort_order, read_subscribed};
 use jm_base::{Kind, NoMemory, Text};
 use jm_json::{Json, Member, Members};
 use mail_counts::mailbox_view;
 use mail_records::Mailbox;
 use std::alloc::Global;
 
-/// Which of the properties that a client may set are bad: a value isn't good by itself, or breaks a rule.
+/// Which of the properties that a client may set are invalid: a value is invalid by itself, or it
+/// breaks a rule.
 #[derive(Clone, Copy, Debug, PartialEq, Eq)]
 pub struct Faults {
     pub name: bool,
@@ -32,12 +33,14 @@ pub struct Faults {
     pub subscribed: bool,
 }
 
-// The number of the mailbox that a text names: by its identifier, or by a reference to one that was made.
+// Returns the number of the mailbox that a string names: by its id, or by a reference to a created
+// one.
 fn find_number<'a>(planner: &Planner<'a>, text: &'a Text) -> Option<u64>
-    ensures { (s : Course) → Follows planner.now s → MeansIfAny (identifier s.made text.now) result }
+    ensures { (s : Progress) → Follows planner.now s
+        → MeansIfAny (identifier s.made text.now) result }
 {
     match read_reference(text.as_bytes()) {
-        Some(creation) => match find_id(&planner.known, creation) {
+        Some(creation) => match find_id(&planner.ids, creation) {
             Some(number) => number,
             None => None,
         },
@@ -45,9 +48,10 @@ fn find_number<'a>(planner: &Planner<'a>, text: &'a Text) -> Option<u64>
     }
 }
 
-// Whether the mailbox of a number is there by now.
+// Returns whether the mailbox of a number is there after the creates up to here.
 fn is_there(planner: &Planner, number: u64) -> bool
-    ensures { (s : Course) → Follows planner.now s → result ≡ is_some (mailbox_at s.content number) }
+    ensures { (s : Progress) → Follows planner.now s → result
+        ≡ is_some (mailbox_at s.content number) }
 {
     planner.content.mailbox(number).is_some()
         || (planner.content.next(Kind::Mailbox) <= number && number < planner.next)
@@ -55,7 +59,8 @@ fn is_there(planner: &Planner, number: u64) -> bool
 
 fn find_parent<'a>(planner: &Planner<'a>, text: &'a Text) -> Option<Option<u64>>
     requires { planner.now.next < 2 ^ 53 }
-    ensures { (s : Course) → Follows planner.now s → result ≡ parent_in s.content s.made (Some (text_tree text.now)) }
+    ensures { (s : Progress) → Follows planner.now s → result
+        ≡ parent_in s.content s.made (Some (text_tree text.now)) }
 {
     match find_number(planner, text) {
         Some(number) => if is_there(planner, number) {
@@ -69,7 +74,8 @@ fn find_parent<'a>(planner: &Planner<'a>, text: &'a Text) -> Option<Option<u64>>
 
 fn parse_parent<'a>(planner: &Planner<'a>, tree: &'a Json) -> Option<Option<u64>>
     requires { planner.now.next < 2 ^ 53 }
-    ensures { (s : Course) → Follows planner.now s → result ≡ parent_in s.content s.made (Some (tree_of tree.now)) }
+    ensures { (s : Progress) → Follows planner.now s → result
+        ≡ parent_in s.content s.made (Some (tree_of tree.now)) }
 {
     match tree {
         Json::Null => Some(None),
@@ -80,7 +86,8 @@ fn parse_parent<'a>(planner: &Planner<'a>, tree: &'a Json) -> Option<Option<u64>
 
 fn read_parent<'a>(planner: &Planner<'a>, members: &'a Members) -> Option<Option<u64>>
     requires { planner.now.next < 2 ^ 53 }
-    ensures { (s : Course) → Follows planner.now s → result ≡ asked_parent s.content s.made members.now }
+    ensures { (s : Progress) → Follows planner.now s → result
+        ≡ sent_parent s.content s.made members.now }
 {
     match members.get("parentId") {
         Some(tree) => parse_parent(planner, tree),
@@ -88,12 +95,13 @@ fn read_parent<'a>(planner: &Planner<'a>, members: &'a Members) -> Option<Option
     }
 }
 
-/// What a create asks for.
-pub fn read_properties<'a>(planner: &Planner<'a>, members: &'a Members) -> Asked<'a>
+/// Reads the properties that a create sends.
+pub fn read_properties<'a>(planner: &Planner<'a>, members: &'a Members) -> SentProperties<'a>
     requires { planner.now.next < 2 ^ 53 }
-    ensures { (s : Course) → Follows planner.now s → asked_of result ≡ asked s.content s.made members.now }
+    ensures { (s : Progress) → Follows planner.now s → properties_of result
+        ≡ sent_properties s.content s.made members.now }
 {
-    Asked {
+    SentProperties {
         name: read_name(members),
         parent: read_parent(planner, members),
         role: read_role(members),
@@ -102,21 +110,26 @@ pub fn read_properties<'a>(planner: &Planner<'a>, members: &'a Members) -> Asked
     }
 }
 
-// Whether some mailbox has this parent and name.
+// Returns whether some mailbox has this parent and name.
 fn has_sibling_named<'a>(planner: &Planner<'a>, parent: Option<u64>, name: &'a str) -> bool
-    ensures { (s : Course) → Follows planner.now s → result ≡ list_any (is_sibling parent name.now) s.content.mailboxes }
+    ensures { (s : Progress) → Follows planner.now s → result
+        ≡ list_any (is_sibling parent name.now) s.content.mailboxes }
 {
     if has_text(&planner.names, parent, name) {
         return true;
     }
-    is_name_beyond(planner.beyond, planner.next, parent, name)
+    let first = planner.content.next(Kind::Mailbox);
+    let siblings = planner.content.children_named(parent, name.as_bytes());
+    has_other_sibling(siblings, first, planner.next)
 }
 
-fn is_name_taken<'a>(planner: &Planner<'a>, asked: &Asked<'a>) -> bool
-    ensures { (s : Course) → Follows planner.now s → result ≡ is_name_taken s.content (asked_of asked.now).parent (asked_of asked.now).name }
+fn is_name_taken<'a>(planner: &Planner<'a>, properties: &SentProperties<'a>) -> bool
+    ensures { (s : Progress) → Follows planner.now s → result
+        ≡ is_name_taken s.content (properties_of properties.now).parent
+        (properties_of properties.now).name }
 {
-    match asked.parent {
-        Some(parent) => match asked.name {
+    match properties.parent {
+        Some(parent) => match properties.name {
             Some(name) => has_sibling_named(planner, parent, name.as_str()),
             None => false,
         },
@@ -124,18 +137,25 @@ fn is_name_taken<'a>(planner: &Planner<'a>, asked: &Asked<'a>) -> bool
     }
 }
 
-// Whether some mailbox has this role.
+// Returns whether some mailbox has this role.
 fn has_mailbox_with_role<'a>(planner: &Planner<'a>, role: &'a str) -> bool
-    ensures { (s : Course) → Follows planner.now s → result ≡ list_any (has_role role.now) s.content.mailboxes }
+    ensures { (s : Progress) → Follows planner.now s → result
+        ≡ list_any (has_role role.now) s.content.mailboxes }
 {
     if has_text(&planner.roles, None, role) {
         return true;
     }
-    is_role_beyond(planner.beyond, planner.next, role)
+    let first = planner.content.next(Kind::Mailbox);
+    has_other_role(
+        planner.content.with_role(role.as_bytes()),
+        first,
+        planner.next,
+    )
 }
 
 fn is_role_used<'a>(planner: &Planner<'a>, role: Option<&'a Text>) -> bool
-    ensures { (s : Course) → Follows planner.now s → result ≡ is_role_taken s.content (option_map (λ t. t.now) role.entry) }
+    ensures { (s : Progress) → Follows planner.now s → result
+        ≡ is_role_taken s.content (option_map (λ t. t.now) role.entry) }
 {
     match role {
         Some(role) => has_mailbox_with_role(planner, role.as_str()),
@@ -143,34 +163,37 @@ fn is_role_used<'a>(planner: &Planner<'a>, role: Option<&'a Text>) -> bool
     }
 }
 
-fn is_name_bad<'a>(planner: &Planner<'a>, asked: &Asked<'a>) -> bool
-    ensures { (s : Course) → Follows planner.now s → result ≡ (faults_of s.content (asked_of asked.now)).name }
+fn is_name_bad<'a>(planner: &Planner<'a>, properties: &SentProperties<'a>) -> bool
+    ensures { (s : Progress) → Follows planner.now s → result
+        ≡ (faults_of s.content (properties_of properties.now)).name }
 {
-    if asked.name.is_none() {
+    if properties.name.is_none() {
         return true;
     }
-    is_name_taken(planner, asked)
+    is_name_taken(planner, properties)
 }
 
-fn is_role_bad<'a>(planner: &Planner<'a>, asked: &Asked<'a>) -> bool
-    ensures { (s : Course) → Follows planner.now s → result ≡ (faults_of s.content (asked_of asked.now)).role }
+fn is_role_bad<'a>(planner: &Planner<'a>, properties: &SentProperties<'a>) -> bool
+    ensures { (s : Progress) → Follows planner.now s → result
+        ≡ (faults_of s.content (properties_of properties.now)).role }
 {
-    match asked.role {
+    match properties.role {
         Some(role) => is_role_used(planner, role),
         None => true,
     }
 }
 
-/// Which of the properties that a client may set are bad.
-pub fn check_properties<'a>(planner: &Planner<'a>, asked: &Asked<'a>) -> Faults
-    ensures { (s : Course) → Follows planner.now s → result ≡ faults_of s.content (asked_of asked.now) }
+/// Returns which of the properties that a client may set are invalid.
+pub fn check_properties<'a>(planner: &Planner<'a>, properties: &SentProperties<'a>) -> Faults
+    ensures { (s : Progress) → Follows planner.now s → result
+        ≡ faults_of s.content (properties_of properties.now) }
 {
     Faults {
-        name: is_name_bad(planner, asked),
-        parent: asked.parent.is_none(),
-        role: is_role_bad(planner, asked),
-        sort_order: asked.sort_order.is_none(),
-        subscribed: asked.subscribed.is_none(),
+        name: is_name_bad(planner, properties),
+        parent: properties.parent.is_none(),
+        role: is_role_bad(planner, properties),
+        sort_order: properties.sort_order.is_none(),
+        subscribed: properties.subscribed.is_none(),
     }
 }
 
@@ -203,7 +226,8 @@ fn collect_invalid(
     sent: &[Member],
 ) -> Result<Members, NoMemory>
     requires { KeysRise (map member_of sent.now) }
-    ensures { IfOk result (λ ms. ms ≡ map property (filter (is_bad faults.now given.now) (map member_of sent.now))) }
+    ensures { IfOk result
+        (λ ms. ms ≡ map property (filter (is_bad faults.now given.now) (map member_of sent.now))) }
 {
     let mut bad = Members::new(alloc);
     for member in sent {
@@ -214,7 +238,8 @@ fn collect_invalid(
     Ok(bad)
 }
 
-/// The bad properties of a create, in byte order, each with null in the place of its value.
+/// Returns the invalid properties of a create, in byte order, each with null in the place of its
+/// value.
 pub fn find_invalid_members(
     alloc: Global,
     faults: &Faults,
@@ -230,7 +255,7 @@ pub fn find_invalid_members(
     Ok(bad)
 }
 
-/// What a new mailbox of this number has where a client asks for nothing.
+/// Returns the properties of a new mailbox of this number for which a client sends nothing.
 pub fn build_default_members(alloc: Global, number: u64) -> Result<Members, NoMemory>
     ensures { IfOk result (λ ms. ms ≡ mailbox_members false (blank number)) }
 {

@@ -2,17 +2,17 @@
 ghost use Rattle.std.specs.Prelude.{IfOk, List, None, OnOk, Some, option_map, ℕ, ◌+◌, ◌<◌, ◌^◌, ◌||◌, ◌≡◌, ◌≤◌};
 ghost use Rattle.jm_json.specs.Order.{put};
 ghost use Rattle.mail_counts.specs.Tidy.{same_role};
-ghost use Rattle.mailbox_set.specs.Creates.{Course, after_create, after_made, blank, made_under, mailbox_of, refusal};
-ghost use Rattle.mailbox_set.specs.Views.{create_of, Follows, holds, asked_of};
+ghost use Rattle.mailbox_set.specs.Creates.{Progress, after_create, after_made, blank, made_under, mailbox_of, refusal};
+ghost use Rattle.mailbox_set.specs.Views.{create_of, Follows, holds, properties_of};
 
 use crate::arguments::Draft;
 use crate::checks::{
     build_default_members, check_properties, find_invalid_members, read_properties,
 };
 use crate::creation_ids::{note_id, read_mailbox_number};
-use crate::names::{Taken, add_text};
+use crate::names::{TextSet, add_text};
 use crate::planner::Planner;
-use crate::properties::{Asked, choose_values};
+use crate::properties::{SentProperties, choose_values};
 use crate::response::{build_created_object, build_refusal};
 use jm_base::{Id, Kind, NoMemory, Text, id_text};
 use jm_json::{Created, Members};
@@ -28,19 +28,23 @@ fn copy_role(role: Option<&Text>) -> Result<Option<Text>, NoMemory>
     }
 }
 
-fn build_mailbox<'a>(alloc: Global, number: u64, asked: &Asked<'a>) -> Result<Mailbox, NoMemory>
-    ensures { IfOk result (λ m. m ≡ mailbox_of number (asked_of asked.now)) }
+fn build_mailbox<'a>(
+    alloc: Global,
+    number: u64,
+    properties: &SentProperties<'a>,
+) -> Result<Mailbox, NoMemory>
+    ensures { IfOk result (λ m. m ≡ mailbox_of number (properties_of properties.now)) }
 {
-    let wanted = choose_values(asked);
-    let name = Text::from_str(alloc, wanted.name)?;
-    let role = copy_role(wanted.role)?;
+    let values = choose_values(properties);
+    let name = Text::from_str(alloc, values.name)?;
+    let role = copy_role(values.role)?;
     Ok(Mailbox {
         number,
         name,
-        parent: wanted.parent,
+        parent: values.parent,
         role,
-        sort_order: wanted.sort_order,
-        subscribed: wanted.subscribed,
+        sort_order: values.sort_order,
+        subscribed: values.subscribed,
         total_emails: 0,
         unread_emails: 0,
         total_threads: 0,
@@ -48,9 +52,12 @@ fn build_mailbox<'a>(alloc: Global, number: u64, asked: &Asked<'a>) -> Result<Ma
     })
 }
 
-/// Puts a role, if there is one, into a set of roles.
-pub fn add_role<'a>(roles: &mut Taken<'a>, role: Option<&'a Text>) -> Result<(), NoMemory>
-    ensures { OnOk result ((t : List ℕ) → holds roles.new.keys.keys None t ≡ (same_role (option_map (λ r. r.now) role.entry) (Some t) || holds roles.old.keys.keys None t)) }
+/// Adds a role, if there is one, to a set of roles.
+pub fn add_role<'a>(roles: &mut TextSet<'a>, role: Option<&'a Text>) -> Result<(), NoMemory>
+    ensures { OnOk result
+        ((t : List ℕ) → holds roles.new.keys.keys None t
+        ≡ (same_role (option_map (λ r. r.now) role.entry) (Some t)
+        || holds roles.old.keys.keys None t)) }
 {
     match role {
         Some(role) => add_text(roles, None, role.as_str()),
@@ -68,27 +75,29 @@ fn build_created(alloc: Global, creation: &Text, number: u64) -> Result<Created,
     })
 }
 
-// Makes the mailbox that is asked for.
+// Creates the mailbox with these properties.
 fn create_mailbox<'a>(
     alloc: Global,
     planner: &mut Planner<'a>,
     draft: &Draft<'a>,
-    asked: &Asked<'a>,
+    properties: &SentProperties<'a>,
 ) -> Result<(), NoMemory>
     requires { planner.old.next + 1 < 2 ^ 53 }
-    ensures follows { OnOk result ((s : Course) → Follows planner.old s
-        → Follows planner.new (after_made s (create_of draft.now) (mailbox_of s.content.next_mailbox (asked_of asked.now)))) }
+    ensures follows { OnOk result ((s : Progress) → Follows planner.old s
+        → Follows planner.new
+        (after_made s (create_of draft.now)
+        (mailbox_of s.content.next_mailbox (properties_of properties.now)))) }
     ensures next { OnOk result (planner.new.next ≤ planner.old.next + 1) }
 {
     let number = planner.next;
-    let item = build_mailbox(alloc, number, asked)?;
+    let item = build_mailbox(alloc, number, properties)?;
     let told = build_created_object(alloc, draft.members, &item)?;
-    let wanted = choose_values(asked);
-    add_text(&mut planner.names, wanted.parent, wanted.name)?;
-    add_role(&mut planner.roles, wanted.role)?;
+    let values = choose_values(properties);
+    add_text(&mut planner.names, values.parent, values.name)?;
+    add_role(&mut planner.roles, values.role)?;
     let made = build_created(alloc, draft.creation, number)?;
     note_id(
-        &mut planner.known,
+        &mut planner.ids,
         draft.creation.as_bytes(),
         read_mailbox_number(made.id.as_bytes()),
     )?;
@@ -109,8 +118,9 @@ fn refuse_create<'a>(
     draft: &Draft<'a>,
     bad: Members,
 ) -> Result<(), NoMemory>
-    ensures follows { OnOk result ((s : Course) → Follows planner.old s
-        → Follows planner.new (record s { refused = put draft.now.creation.now (refusal bad) s.refused })) }
+    ensures follows { OnOk result ((s : Progress) → Follows planner.old s
+        → Follows planner.new
+        (record s { refused = put draft.now.creation.now (refusal bad) s.refused })) }
     ensures next { planner.new.next ≡ planner.old.next }
 {
     let told = build_refusal(alloc, bad)?;
@@ -118,22 +128,24 @@ fn refuse_create<'a>(
     Ok(())
 }
 
-/// Does a create.
+/// Performs a create: a mailbox is created if all its properties are valid.
 pub fn perform_create<'a>(
     alloc: Global,
     planner: &mut Planner<'a>,
     draft: &Draft<'a>,
 ) -> Result<(), NoMemory>
     requires { planner.old.next + 1 < 2 ^ 53 }
-    ensures follows { OnOk result ((s : Course) → Follows planner.old s → Follows planner.new (after_create s (create_of draft.now))) }
+    ensures follows { OnOk result
+        ((s : Progress) → Follows planner.old s
+        → Follows planner.new (after_create s (create_of draft.now))) }
     ensures next { OnOk result (planner.new.next ≤ planner.old.next + 1) }
 {
-    let asked = read_properties(planner, draft.members);
-    let faults = check_properties(planner, &asked);
+    let properties = read_properties(planner, draft.members);
+    let faults = check_properties(planner, &properties);
     let given = build_default_members(alloc, planner.next)?;
     let bad = find_invalid_members(alloc, &faults, &given, draft.members)?;
     if bad.as_slice().is_empty() {
-        create_mailbox(alloc, planner, draft, &asked)
+        create_mailbox(alloc, planner, draft, &properties)
     } else {
         refuse_create(alloc, planner, draft, bad)
     }

@@ -2,20 +2,21 @@
 ghost use Rattle.std.specs.Prelude.{IfOk, List, OnOk, [], option_map, ◌++◌, ◌∷◌, ◌≡◌};
 ghost use Rattle.jm_json.specs.declared.invocation.Created.{Created as TheCreated};
 ghost use Rattle.mailbox_set.specs.Properties.{reference};
-ghost use Rattle.mailbox_set.specs.Views.{Means, Knows, known_at};
+ghost use Rattle.mailbox_set.specs.Views.{Means, HoldIds, id_at};
 
 use jm_base::{Kind, NoMemory, read_id};
 use jm_json::Created;
 use std::alloc::Global;
 use std::collections::BTreeMap;
 
-/// The number of the mailbox that was made last under each creation id; none where a record of another kind was.
+/// The number of the mailbox that was created last under each creation id; none if a record of
+/// another kind was.
 #[derive(Drop)]
-pub struct Known<'a> {
+pub struct CreatedIds<'a> {
     pub numbers: BTreeMap<&'a [u8], Option<u64>>,
 }
 
-/// The number of the mailbox whose identifier a text is.
+/// Parses the number of the mailbox whose id a string is.
 pub fn read_mailbox_number(text: &[u8]) -> Option<u64>
     ensures { Means text.now result }
 {
@@ -29,7 +30,7 @@ pub fn read_mailbox_number(text: &[u8]) -> Option<u64>
     }
 }
 
-/// The creation id that a text refers to: what stands behind its `#`.
+/// Returns the creation id that a string refers to: what follows its `#`.
 pub fn read_reference<'a>(text: &'a [u8]) -> Option<&'a [u8]>
     ensures { option_map (λ s. s.now) result ≡ reference text.now }
 {
@@ -39,40 +40,42 @@ pub fn read_reference<'a>(text: &'a [u8]) -> Option<&'a [u8]>
     }
 }
 
-/// Notes what was made under a creation id.
+/// Notes what was created under a creation id.
 pub fn note_id<'a>(
-    known: &mut Known<'a>,
+    ids: &mut CreatedIds<'a>,
     creation: &'a [u8],
     number: Option<u64>,
 ) -> Result<(), NoMemory>
-    ensures { OnOk result ((made : List TheCreated) (x : TheCreated) → Knows known.old made → x.creation ≡ creation.now → Means x.id number → Knows known.new (made ++ x ∷ [])) }
+    ensures { OnOk result
+        ((made : List TheCreated) (x : TheCreated) → HoldIds ids.old made → x.creation
+        ≡ creation.now → Means x.id number → HoldIds ids.new (made ++ x ∷ [])) }
 {
-    let _earlier = known.numbers.insert(creation, number)?;
+    let _earlier = ids.numbers.insert(creation, number)?;
     Ok(())
 }
 
-/// All that was made so far.
-pub fn collect_ids<'a>(alloc: Global, made: &'a [Created]) -> Result<Known<'a>, NoMemory>
-    ensures { IfOk result (λ k. Knows k made.now) }
+/// Returns the ids of all records that were created up to here.
+pub fn collect_ids<'a>(alloc: Global, made: &'a [Created]) -> Result<CreatedIds<'a>, NoMemory>
+    ensures { IfOk result (λ k. HoldIds k made.now) }
 {
-    let mut known = Known {
+    let mut ids = CreatedIds {
         numbers: BTreeMap::new(alloc),
     };
     for created in made {
         note_id(
-            &mut known,
+            &mut ids,
             created.creation.as_bytes(),
             read_mailbox_number(created.id.as_bytes()),
         )?;
     }
-    Ok(known)
+    Ok(ids)
 }
 
-/// What stands at a creation id.
-pub fn find_id<'a>(known: &Known<'a>, creation: &'a [u8]) -> Option<Option<u64>>
-    ensures { result ≡ known_at known.now creation.now }
+/// Returns what was created under a creation id, if anything was.
+pub fn find_id<'a>(ids: &CreatedIds<'a>, creation: &'a [u8]) -> Option<Option<u64>>
+    ensures { result ≡ id_at ids.now creation.now }
 {
-    match known.numbers.get(creation) {
+    match ids.numbers.get(creation) {
         Some(number) => Some(*number),
         None => None,
     }

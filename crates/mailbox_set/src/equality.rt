@@ -43,7 +43,7 @@ fn is_text(value: &Text, tree: &Json) -> bool
     }
 }
 
-/// Whether two trees are the same.
+/// Returns whether two trees are equal.
 #[cycle(same)]
 pub fn is_same(left: &Json, right: &Json) -> bool
     ensures { result ≡ is_same (tree_of left.now) (tree_of right.now) }
@@ -80,7 +80,8 @@ fn is_object(members: &[Member], tree: &Json) -> bool
 
 #[cycle(same)]
 fn are_same_items(left: &[Json], right: &[Json]) -> bool
-    ensures { result ≡ are_same_trees (trees_of (map tree_of left.now)) (trees_of (map tree_of right.now)) }
+    ensures { result
+        ≡ are_same_trees (trees_of (map tree_of left.now)) (trees_of (map tree_of right.now)) }
 {
     if left.len() != right.len() {
         return false;
@@ -97,14 +98,18 @@ fn are_same_items(left: &[Json], right: &[Json]) -> bool
 
 #[cycle(same)]
 fn is_same_member(left: &Member, right: &Member) -> bool
-    ensures { result ≡ (bytes_eq left.now.name right.now.name && is_same (tree_of left.now.value) (tree_of right.now.value)) }
+    ensures { result
+        ≡ (bytes_eq left.now.name right.now.name
+        && is_same (tree_of left.now.value) (tree_of right.now.value)) }
 {
     left.name == right.name && is_same(&left.value, &right.value)
 }
 
 #[cycle(same)]
 fn are_same_members(left: &[Member], right: &[Member]) -> bool
-    ensures { result ≡ are_same_fields (fields_of (map member_of left.now)) (fields_of (map member_of right.now)) }
+    ensures { result
+        ≡ are_same_fields (fields_of (map member_of left.now))
+        (fields_of (map member_of right.now)) }
 {
     if left.len() != right.len() {
         return false;

@@ -1,4 +1,5 @@
-//! The plan of a Mailbox/set: what it is answered, and which edits it makes (RFC 8620, section 5.3; RFC 8621, section 2.5).
+//! The plan of a Mailbox/set: its response and its edits (RFC 8620, section 5.3; RFC 8621, section
+//! 2.5).
 #![tactic(auto)]
 
 mod arguments;

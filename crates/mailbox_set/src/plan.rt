@@ -8,7 +8,7 @@ ghost use Rattle.mail_counts.specs.CountsFlag.{AreCountsFlagsRight};
 ghost use Rattle.mail_counts.specs.Tidy.{IsTidy};
 ghost use Rattle.state_log.specs.Logs.{log_end};
 ghost use Rattle.mailbox_set.specs.Arguments.{account_in, creates_in, if_in_state, invalid_argument};
-ghost use Rattle.mailbox_set.specs.Creates.{Course};
+ghost use Rattle.mailbox_set.specs.Creates.{Progress};
 ghost use Rattle.mailbox_set.specs.Views.{create_of, Follows};
 ghost use Rattle.mailbox_set.specs.Plans.{ExplainsSet, HasNewState, beginning, ground_of, is_other_state, outcome_of_arguments, outcome_of_creates, plan_after, plan_of, planned, set_outcome, PutsNew};
 ghost use Rattle.mailbox_set.specs.Rounds.{after_creates};
@@ -35,15 +35,16 @@ fn finish_plan<'a>(
     planner: Planner<'a>,
 ) -> Result<SetPlan, NoMemory>
     requires last { log_end log.now ≤ 2 ^ 52 + 2 ^ 26 }
-    ensures { IfOk result (λ p. (c : Content') (s : Course) → Follows planner.entry s → plan_of p ≡ plan_after (ground_of c log.now) account.now s) }
+    ensures { IfOk result
+        (λ p. (c : Content') (s : Progress) → Follows planner.entry s → plan_of p
+        ≡ plan_after (ground_of c log.now) account.now s) }
 {
     let Planner {
         content: _,
         next: _,
-        beyond: _,
         names: _names,
         roles: _roles,
-        known: _known,
+        ids: _ids,
         fresh,
         edits,
         created,
@@ -59,7 +60,7 @@ fn finish_plan<'a>(
     })
 }
 
-// The planner after all creates.
+// Returns the planner after all creates.
 fn perform_creates<'a>(
     alloc: Global,
     content: &'a Content,
@@ -67,14 +68,17 @@ fn perform_creates<'a>(
     drafts: Vec<Draft<'a>>,
 ) -> Result<Planner<'a>, NoMemory>
     requires room { content.now.content.next_mailbox + length drafts.items < 2 ^ 53 }
-    ensures { IfOk result (λ p. Follows p (after_creates (beginning content.now.content made.now) (map create_of drafts.entry.items))) }
+    ensures { IfOk result
+        (λ p. Follows p
+        (after_creates (beginning content.now.content made.now)
+        (map create_of drafts.entry.items))) }
 {
     let mut planner = start_planner(alloc, content, made.as_slice())?;
     do_creates(alloc, &mut planner, drafts)?;
     Ok(planner)
 }
 
-// The plan of creates: at most 500, where the client asks for no other state.
+// Plans creates: at most [`MAX_OBJECTS_PER_CALL`], if the client asks for no other state.
 fn plan_creates<'a>(
     alloc: Global,
     content: &'a Content,
@@ -85,8 +89,12 @@ fn plan_creates<'a>(
     requires next { content.now.content.next_mailbox ≤ 2 ^ 52 + 2 ^ 26 }
     requires last { log_end log.now ≤ 2 ^ 52 + 2 ^ 26 }
     ensures { MatchResult result
-        (λ p. outcome_of_creates (ground_of content.now.content log.now) made.now (account_in members.now) (if_in_state members.now) (creates_in members.now) ≡ planned (plan_of p))
-        (λ e. ExplainsSet e (outcome_of_creates (ground_of content.now.content log.now) made.now (account_in members.now) (if_in_state members.now) (creates_in members.now))) }
+        (λ p. outcome_of_creates (ground_of content.now.content log.now) made.now
+        (account_in members.now) (if_in_state members.now) (creates_in members.now)
+        ≡ planned (plan_of p))
+        (λ e. ExplainsSet e
+        (outcome_of_creates (ground_of content.now.content log.now) made.now
+        (account_in members.now) (if_in_state members.now) (creates_in members.now))) }
 {
     let drafts = read_creates(alloc, members)?;
     if drafts.len() > MAX_OBJECTS_PER_CALL {
@@ -110,8 +118,11 @@ fn plan_members<'a>(
     requires next { content.now.content.next_mailbox ≤ 2 ^ 52 + 2 ^ 26 }
     requires last { log_end log.now ≤ 2 ^ 52 + 2 ^ 26 }
     ensures { MatchResult result
-        (λ p. outcome_of_arguments (ground_of content.now.content log.now) made.now members.now (invalid_argument members.now) ≡ planned (plan_of p))
-        (λ e. ExplainsSet e (outcome_of_arguments (ground_of content.now.content log.now) made.now members.now (invalid_argument members.now))) }
+        (λ p. outcome_of_arguments (ground_of content.now.content log.now) made.now members.now
+        (invalid_argument members.now) ≡ planned (plan_of p))
+        (λ e. ExplainsSet e
+        (outcome_of_arguments (ground_of content.now.content log.now) made.now members.now
+        (invalid_argument members.now))) }
 {
     match find_invalid_argument(members) {
         Some(name) => Err(SetFault::Invalid(Text::from_str(alloc, name)?)),
@@ -129,8 +140,10 @@ fn plan<'a>(
     requires next { content.now.content.next_mailbox ≤ 2 ^ 52 + 2 ^ 26 }
     requires last { log_end log.now ≤ 2 ^ 52 + 2 ^ 26 }
     ensures { MatchResult result
-        (λ p. set_outcome (ground_of content.now.content log.now) (tree_of args.now) made.now ≡ planned (plan_of p))
-        (λ e. ExplainsSet e (set_outcome (ground_of content.now.content log.now) (tree_of args.now) made.now)) }
+        (λ p. set_outcome (ground_of content.now.content log.now) (tree_of args.now) made.now
+        ≡ planned (plan_of p))
+        (λ e. ExplainsSet e
+        (set_outcome (ground_of content.now.content log.now) (tree_of args.now) made.now)) }
 {
     match args.as_object() {
         Some(members) => plan_members(alloc, content, log, members, made),
@@ -138,17 +151,20 @@ fn plan<'a>(
     }
 }
 
-/// What a Mailbox/set with these arguments is answered and does, for a user who may write the account. `content` and `log`
-/// are of one history, and `made` is what the request has made so far.
+/// Returns the plan of a Mailbox/set with these arguments, for a user who may write the account.
+/// `content` and `log` are of one history, and `made` is what the request has created up to here.
 ///
-/// The arguments are `accountId`, `ifInState` and `create`; `update` and `destroy` must be missing, null or empty as long as
-/// they aren't built. A refusal changes nothing: `Invalid` names the first argument in byte order that is missing or has
-/// a wrong form, and no argument where `args` is no object; `TooLarge` comes with more than 500 creates; `StateMismatch`
-/// with an `ifInState` that isn't the text of the mailboxes' state. Of several the first in this order is told.
+/// The arguments are `accountId`, `ifInState` and `create`; `update` and `destroy` must be missing,
+/// null or empty as long as they aren't built. Fails with `Invalid` and the name of the first
+/// argument in byte order that is missing or does not have its form (the empty name if `args` is no
+/// object), with `TooLarge` if there are more than [`MAX_OBJECTS_PER_CALL`] creates, and with
+/// `StateMismatch` if `ifInState` is not the text of the mailboxes' state. The first fault in this
+/// order is returned, and nothing is changed.
 ///
-/// Creates are done in rounds, each the first in byte order whose `parentId` refers to nothing or to what has been made. One
-/// with bad properties is told in `notCreated`, and makes nothing. The edits put new mailboxes with counts 0, fit a content whose
-/// numbers are below its next ones, and leave a tidy one tidy.
+/// Creates are performed in rounds, in each the first one in byte order whose `parentId` refers to
+/// no create or to one that was performed. One with invalid properties is reported in `notCreated`,
+/// and creates nothing. The edits put new mailboxes with counts 0, fit a content whose numbers are
+/// below its next ones, and leave a tidy content tidy.
 pub fn plan_mailbox_set(
     alloc: Global,
     content: &Content,
@@ -158,13 +174,21 @@ pub fn plan_mailbox_set(
 ) -> Result<SetPlan, SetFault>
     requires next { content.now.content.next_mailbox ≤ 2 ^ 52 + 2 ^ 26 }
     requires last { log_end log.now ≤ 2 ^ 52 + 2 ^ 26 }
-    ensures outcome { IfOk result (λ p. set_outcome (ground_of content.now.content log.now) (tree_of args.now) made.now ≡ planned (plan_of p)) }
-    ensures fault { IfErr result (λ e. ExplainsSet e (set_outcome (ground_of content.now.content log.now) (tree_of args.now) made.now)) }
-    ensures fits { IfOk result (λ p. AreNumbered content.now.content → AllFit content.now.content p.edits) }
-    ensures tidy { IfOk result (λ p. IsTidy content.now.content → IsTidy (after_edits content.now.content p.edits)) }
+    ensures outcome { IfOk result
+        (λ p. set_outcome (ground_of content.now.content log.now) (tree_of args.now) made.now
+        ≡ planned (plan_of p)) }
+    ensures fault { IfErr result
+        (λ e. ExplainsSet e
+        (set_outcome (ground_of content.now.content log.now) (tree_of args.now) made.now)) }
+    ensures fits { IfOk result
+        (λ p. AreNumbered content.now.content → AllFit content.now.content p.edits) }
+    ensures tidy { IfOk result
+        (λ p. IsTidy content.now.content → IsTidy (after_edits content.now.content p.edits)) }
     ensures puts { IfOk result (λ p. AllByRecursion PutsNew p.edits) }
-    ensures new_state { IfOk result (λ p. HasNewState (ground_of content.now.content log.now) (tree_of p.reply) p.edits) }
-    ensures flags { IfOk result (λ p. AreNumbered content.now.content → AreCountsFlagsRight content.now.content p.edits) }
+    ensures new_state { IfOk result
+        (λ p. HasNewState (ground_of content.now.content log.now) (tree_of p.reply) p.edits) }
+    ensures flags { IfOk result
+        (λ p. AreNumbered content.now.content → AreCountsFlagsRight content.now.content p.edits) }
 {
     plan(alloc, content, log, args, made)
 }

@@ -1,19 +1,21 @@
-// The properties of a mailbox that a create gives (RFC 8620, section 5.3; RFC 8621, sections 2 and 2.5).
+// The properties of a mailbox that a create gives (RFC 8620, section 5.3; RFC 8621, sections 2 and
+// 2.5).
 ghost use Rattle.std.specs.Prelude.{[], codes, if◌then◌else◌, option_map, true, unwrap_or, ◌≡◌};
 ghost use Rattle.jm_json.specs.Find.{find};
 ghost use Rattle.jm_json.specs.Json.{tree_of};
 ghost use Rattle.jm_json.specs.Tree.{number, text as text_tree};
 ghost use Rattle.mail_counts.specs.Forms.{is_name};
-ghost use Rattle.mailbox_set.specs.Properties.{asked_name, role_in, sort_order_in, subscribed_in};
-ghost use Rattle.mailbox_set.specs.Views.{asked_of};
+ghost use Rattle.mailbox_set.specs.Properties.{sent_name, role_in, sort_order_in, subscribed_in};
+ghost use Rattle.mailbox_set.specs.Views.{properties_of};
 
 use jm_base::Text;
 use jm_json::{Json, Members};
 use mail_counts::{is_name, is_role, is_sort_order};
 
-/// What the object of a create asks for. None stands for a value that isn't good by itself.
+/// The properties that the object of a create sends. None means a value that is invalid by
+/// itself.
 #[derive(Clone, Copy)]
-pub struct Asked<'a> {
+pub struct SentProperties<'a> {
     pub name: Option<&'a Text>,
     pub parent: Option<Option<u64>>,
     pub role: Option<Option<&'a Text>>,
@@ -23,7 +25,7 @@ pub struct Asked<'a> {
 
 /// The values of a new mailbox that a client may set.
 #[derive(Clone, Copy)]
-pub struct Wanted<'a> {
+pub struct NewValues<'a> {
     pub name: &'a str,
     pub parent: Option<u64>,
     pub role: Option<&'a Text>,
@@ -41,15 +43,16 @@ fn check_name<'a>(text: &'a Text) -> Option<&'a Text>
     }
 }
 
-/// The name.
+/// Reads the name.
 pub fn read_name<'a>(members: &'a Members) -> Option<&'a Text>
-    ensures { option_map (λ t. t.now) result ≡ asked_name members.now }
+    ensures { option_map (λ t. t.now) result ≡ sent_name members.now }
 {
     check_name(members.get("name")?.as_text()?)
 }
 
 fn check_role<'a>(text: &'a Text) -> Option<Option<&'a Text>>
-    ensures { option_map (λ r. option_map (λ t. t.now) r) result ≡ role_in (Some (text_tree text.now)) }
+    ensures { option_map (λ r. option_map (λ t. t.now) r) result
+        ≡ role_in (Some (text_tree text.now)) }
 {
     if is_role(text.as_str()) {
         Some(Some(text))
@@ -59,7 +62,8 @@ fn check_role<'a>(text: &'a Text) -> Option<Option<&'a Text>>
 }
 
 fn parse_role<'a>(tree: &'a Json) -> Option<Option<&'a Text>>
-    ensures { option_map (λ r. option_map (λ t. t.now) r) result ≡ role_in (Some (tree_of tree.now)) }
+    ensures { option_map (λ r. option_map (λ t. t.now) r) result
+        ≡ role_in (Some (tree_of tree.now)) }
 {
     match tree {
         Json::Null => Some(None),
@@ -68,9 +72,10 @@ fn parse_role<'a>(tree: &'a Json) -> Option<Option<&'a Text>>
     }
 }
 
-/// The role: none where null or nothing is given.
+/// Reads the role: none if null or nothing is sent.
 pub fn read_role<'a>(members: &'a Members) -> Option<Option<&'a Text>>
-    ensures { option_map (λ r. option_map (λ t. t.now) r) result ≡ role_in (find (codes "role") members.now) }
+    ensures { option_map (λ r. option_map (λ t. t.now) r) result
+        ≡ role_in (find (codes "role") members.now) }
 {
     match members.get("role") {
         Some(tree) => parse_role(tree),
@@ -101,7 +106,7 @@ fn parse_sort_order(tree: &Json) -> Option<u64>
     }
 }
 
-/// The sort order: 0 where nothing is given.
+/// Reads the sort order: 0 if nothing is sent.
 pub fn read_sort_order(members: &Members) -> Option<u64>
     ensures { result ≡ sort_order_in (find (codes "sortOrder") members.now) }
 {
@@ -120,7 +125,7 @@ fn parse_flag(tree: &Json) -> Option<bool>
     }
 }
 
-/// Whether it is subscribed: yes where nothing is given.
+/// Reads whether the mailbox is subscribed: true if nothing is sent.
 pub fn read_subscribed(members: &Members) -> Option<bool>
     ensures { result ≡ subscribed_in (find (codes "isSubscribed") members.now) }
 {
@@ -130,20 +135,22 @@ pub fn read_subscribed(members: &Members) -> Option<bool>
     }
 }
 
-/// The values that are asked for, in the place of each bad one what a new mailbox has where nothing is asked for.
-pub fn choose_values<'a>(asked: &Asked<'a>) -> Wanted<'a>
-    ensures name { result.name.now ≡ unwrap_or (asked_of asked.now).name [] }
-    ensures parent { result.parent ≡ unwrap_or (asked_of asked.now).parent None }
-    ensures role { option_map (λ t. t.now) result.role ≡ unwrap_or (asked_of asked.now).role None }
-    ensures sort_order { result.sort_order ≡ unwrap_or (asked_of asked.now).sort_order 0 }
-    ensures subscribed { result.subscribed ≡ unwrap_or (asked_of asked.now).subscribed true }
+/// Returns the values that are sent, and the default in the place of each invalid one.
+pub fn choose_values<'a>(properties: &SentProperties<'a>) -> NewValues<'a>
+    ensures name { result.name.now ≡ unwrap_or (properties_of properties.now).name [] }
+    ensures parent { result.parent ≡ unwrap_or (properties_of properties.now).parent None }
+    ensures role { option_map (λ t. t.now) result.role
+        ≡ unwrap_or (properties_of properties.now).role None }
+    ensures sort_order { result.sort_order ≡ unwrap_or (properties_of properties.now).sort_order 0 }
+    ensures subscribed { result.subscribed
+        ≡ unwrap_or (properties_of properties.now).subscribed true }
 {
-    Wanted {
-        name: name_or_empty(asked.name),
-        parent: asked.parent.unwrap_or(None),
-        role: role_or_none(asked.role),
-        sort_order: asked.sort_order.unwrap_or(0),
-        subscribed: asked.subscribed.unwrap_or(true),
+    NewValues {
+        name: name_or_empty(properties.name),
+        parent: properties.parent.unwrap_or(None),
+        role: role_or_none(properties.role),
+        sort_order: properties.sort_order.unwrap_or(0),
+        subscribed: properties.subscribed.unwrap_or(true),
     }
 }
 
@@ -157,7 +164,8 @@ fn name_or_empty<'a>(name: Option<&'a Text>) -> &'a str
 }
 
 fn role_or_none<'a>(role: Option<Option<&'a Text>>) -> Option<&'a Text>
-    ensures { option_map (λ t. t.now) result ≡ unwrap_or (option_map (λ r. option_map (λ t. t.now) r) role.entry) None }
+    ensures { option_map (λ t. t.now) result
+        ≡ unwrap_or (option_map (λ r. option_map (λ t. t.now) r) role.entry) None }
 {
     match role {
         Some(role) => role,

@@ -7,7 +7,7 @@ ghost use Rattle.mail_counts.specs.Plans.{state_after};
 ghost use Rattle.mailbox_set.specs.Plans.{ground_of, is_other_state, object_or_null, reply_members};
 ghost use Rattle.state_log.specs.Logs.{log_end};
 ghost use Rattle.std.specs.Map.{keys_of};
-ghost use Rattle.mailbox_set.specs.Creates.{created_tree, is_settable, is_told, refusal};
+ghost use Rattle.mailbox_set.specs.Creates.{created_tree, is_settable, is_reported, refusal};
 
 use jm_base::{Kind, NoMemory, Text, state_text};
 use jm_json::{Items, Json, Member, Members};
@@ -17,7 +17,7 @@ use state_log::Log;
 use std::alloc::Global;
 use std::collections::VecDeque;
 
-/// Whether a client asks for another state than this one.
+/// Returns whether a client asks for another state than this one.
 pub fn is_other_state(alloc: Global, state: u64, wanted: Option<&Text>) -> Result<bool, NoMemory>
     ensures { IfOk result (λ b. b ≡ is_other_state state (option_map (λ t. t.now) wanted.entry)) }
 {
@@ -30,7 +30,8 @@ pub fn is_other_state(alloc: Global, state: u64, wanted: Option<&Text>) -> Resul
     }
 }
 
-/// Returns the state of the mailboxes after these edits, which follow the last position of the log (RFC 8620, section 5.3).
+/// Returns the state of the mailboxes after these edits, which follow the last position of the log
+/// (RFC 8620, section 5.3).
 pub fn find_new_state(log: &Log, edits: &[Edit]) -> u64
     requires room { log_end log.now + length edits.now < 2 ^ 64 }
     ensures { (c : Content) → result ≡ state_after Kind.Mailbox (ground_of c log.now) edits.now }
@@ -48,7 +49,8 @@ fn wrap_object(members: Members) -> Json
     Json::Object(members)
 }
 
-/// The arguments of the response: the account, the states before and after, what was created, and what was not.
+/// Builds the arguments of the response: the account, the states before and after, what was
+/// created, and what was not.
 pub fn build_response(
     alloc: Global,
     account: &str,
@@ -57,7 +59,9 @@ pub fn build_response(
     created: Members,
     refused: Members,
 ) -> Result<Json, NoMemory>
-    ensures { IfOk result (λ j. tree_of j ≡ object (fields_of (reply_members account.now before after created refused))) }
+    ensures { IfOk result
+        (λ j. tree_of j
+        ≡ object (fields_of (reply_members account.now before after created refused))) }
 {
     let account = Text::from_str(alloc, account)?;
     let before = state_text(alloc, before)?;
@@ -85,15 +89,15 @@ fn is_settable(name: &str) -> bool
         || name == "sortOrder"
 }
 
-// Whether a client doesn't know this property of what it made.
+// Returns whether the client did not send this property of a mailbox that it created.
 fn is_reported(sent: &Members, name: &str) -> bool
-    ensures { (t : Tree) → result ≡ is_told sent.now (name.now, t) }
+    ensures { (t : Tree) → result ≡ is_reported sent.now (name.now, t) }
 {
     !(is_settable(name) && sent.get(name).is_some())
 }
 
 fn collect_reported(alloc: Global, sent: &Members, view: Members) -> Result<Members, NoMemory>
-    ensures { IfOk result (λ ms. ms ≡ filter (is_told sent.now) view) }
+    ensures { IfOk result (λ ms. ms ≡ filter (is_reported sent.now) view) }
 {
     let mut told = Members::new(alloc);
     let mut rest = VecDeque::from_vec(view.into_vec());
@@ -106,7 +110,8 @@ fn collect_reported(alloc: Global, sent: &Members, view: Members) -> Result<Memb
     Ok(told)
 }
 
-/// What is told of a new mailbox: what the server gives, and each default that wasn't sent.
+/// Builds what is reported of a new mailbox: what the server sets, and each default that wasn't
+/// sent.
 pub fn build_created_object(
     alloc: Global,
     sent: &Members,
@@ -129,7 +134,7 @@ fn collect_property_names(alloc: Global, bad: Members) -> Result<Items, NoMemory
     Ok(names)
 }
 
-/// What is told of a create with bad properties.
+/// Builds what is reported of a create with invalid properties.
 pub fn build_refusal(alloc: Global, bad: Members) -> Result<Json, NoMemory>
     ensures { IfOk result (λ j. tree_of j ≡ refusal bad) }
 {

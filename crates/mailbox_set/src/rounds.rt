@@ -1,6 +1,7 @@
-// The order of creates: a create may refer to the parent that another creates (RFC 8620, section 5.3).
+// The order of creates: a create may refer to the parent that another creates (RFC 8620, section
+// 5.3).
 ghost use Rattle.std.specs.Prelude.{IfSome, OnOk, length, map, option_map, ◌+◌, ◌<◌, ◌^◌, ◌≡◌, ◌≤◌};
-ghost use Rattle.mailbox_set.specs.Creates.{Course};
+ghost use Rattle.mailbox_set.specs.Creates.{Progress};
 ghost use Rattle.mailbox_set.specs.Views.{create_of, IsFirst, Follows};
 ghost use Rattle.mailbox_set.specs.Rounds.{after_creates, after_each, stands, waits_for};
 
@@ -12,26 +13,28 @@ use jm_base::NoMemory;
 use jm_json::Members;
 use std::alloc::Global;
 
-// The creation id that the parentId of a create refers to.
+// Reads the creation id that the `parentId` of a create refers to.
 fn read_awaited_id<'a>(members: &'a Members) -> Option<&'a [u8]>
     ensures { option_map (λ k. k.now) result ≡ waits_for members.now }
 {
     read_reference(members.get("parentId")?.as_text()?.as_bytes())
 }
 
-// Whether what a create refers to has been made.
+// Returns whether the create that this one refers to was performed.
 fn is_ready<'a>(planner: &Planner<'a>, draft: &Draft<'a>) -> bool
-    ensures { (s : Course) → Follows planner.now s → result ≡ stands s.made (create_of draft.now) }
+    ensures { (s : Progress) → Follows planner.now s → result
+        ≡ stands s.made (create_of draft.now) }
 {
     match read_awaited_id(draft.members) {
-        Some(creation) => find_id(&planner.known, creation).is_some(),
+        Some(creation) => find_id(&planner.ids, creation).is_some(),
         None => true,
     }
 }
 
 fn find_ready<'a>(planner: &Planner<'a>, drafts: &[Draft<'a>]) -> Option<usize>
     ensures within { IfSome result (λ i. i < length drafts.now) }
-    ensures first { (s : Course) → Follows planner.now s → IsFirst (stands s.made) drafts.now result }
+    ensures first { (s : Progress) → Follows planner.now s
+        → IsFirst (stands s.made) drafts.now result }
 {
     for i in 0..drafts.len() {
         if is_ready(planner, &drafts[i]) {
@@ -41,14 +44,16 @@ fn find_ready<'a>(planner: &Planner<'a>, drafts: &[Draft<'a>]) -> Option<usize>
     None
 }
 
-// One create after the other.
+// Performs creates one after the other.
 fn do_each<'a>(
     alloc: Global,
     planner: &mut Planner<'a>,
     drafts: &[Draft<'a>],
 ) -> Result<(), NoMemory>
     requires { planner.old.next + length drafts.now < 2 ^ 53 }
-    ensures { OnOk result ((s : Course) → Follows planner.old s → Follows planner.new (after_each s (map create_of drafts.now))) }
+    ensures { OnOk result
+        ((s : Progress) → Follows planner.old s
+        → Follows planner.new (after_each s (map create_of drafts.now))) }
 {
     for i in 0..drafts.len() {
         perform_create(alloc, planner, &drafts[i])?;
@@ -56,14 +61,17 @@ fn do_each<'a>(
     Ok(())
 }
 
-/// Does creates in rounds, each with the first one whose reference stands. Those whose references never stand come last.
+/// Performs creates in rounds, in each the first one whose reference is resolved. Those whose
+/// references are never resolved come last.
 pub fn do_creates<'a>(
     alloc: Global,
     planner: &mut Planner<'a>,
     drafts: Vec<Draft<'a>>,
 ) -> Result<(), NoMemory>
     requires { planner.old.next + length drafts.items < 2 ^ 53 }
-    ensures { OnOk result ((s : Course) → Follows planner.old s → Follows planner.new (after_creates s (map create_of drafts.entry.items))) }
+    ensures { OnOk result
+        ((s : Progress) → Follows planner.old s
+        → Follows planner.new (after_creates s (map create_of drafts.entry.items))) }
 {
     let mut rest = drafts;
     'rounds: while let Some(at) = find_ready(planner, rest.as_slice()) {

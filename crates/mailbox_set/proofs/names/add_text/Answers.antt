@@ -14,4 +14,4 @@ returns c =
     ∙ added_key _ _ _ _
     (key_tested c.args.group g c.args.text.now s
     ∙ (ap (λ b. b && bytes_eq s c.args.text.now) (same_parent_flip g c.args.group) ∙ ap (λ b. same_parent c.args.group g && b) (texts_flip s c.args.text.now)))
-    (found c.args.taken.now.keys.keys))
+    (found c.args.set.now.keys.keys))

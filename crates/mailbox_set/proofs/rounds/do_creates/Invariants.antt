@@ -1,5 +1,5 @@
 use Rattle.std.proofs.Common.{◌≡◌, ◌+◌, ◌<◌, ◌^◌, map, length}
-use Rattle.mailbox_set.specs.Creates.{Course}
+use Rattle.mailbox_set.specs.Creates.{Progress}
 use Rattle.mailbox_set.specs.Views.{create_of, Follows}
 use Rattle.mailbox_set.specs.Rounds.{after_creates, in_rounds}
 use Rattle.mailbox_set.proofs.rounds.do_creates.Given as goal
@@ -7,7 +7,7 @@ use Rattle.mailbox_set.proofs.rounds.do_creates.Given as goal
 abbrev pub invariant-rounds : goal.invariant-rounds
 invariant-rounds l = record {
   room : l.planner.next + length l.rest.items < 2 ^ 53;
-  follows : (s : Course) → Follows l.initial.planner s → (t : Course) × Follows l.planner t × (in_rounds (length l.rest.items) t (map create_of l.rest.items) ≡ after_creates s (map create_of l.fn.drafts.items));
+  follows : (s : Progress) → Follows l.initial.planner s → (t : Progress) × Follows l.planner t × (in_rounds (length l.rest.items) t (map create_of l.rest.items) ≡ after_creates s (map create_of l.fn.drafts.items));
 }
 
 abbrev pub decreases-rounds : goal.decreases-rounds

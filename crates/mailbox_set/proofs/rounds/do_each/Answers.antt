@@ -1,11 +1,11 @@
 use Rattle.std.proofs.Common.{refl, sym, ◌∙◌, subst, arith}
-use Rattle.mailbox_set.specs.Creates.{Course, after_create}
+use Rattle.mailbox_set.specs.Creates.{Progress, after_create}
 use Rattle.mailbox_set.specs.Views.{create_of, Follows}
 use Rattle.mailbox_set.proofs.Rounding.{each_step, each_end}
 use Rattle.mailbox_set.proofs.rounds.do_each.Goals as goal
 
 pub loop-i-init : goal.loop-i-init
-loop-i-init c = record { room = omega arith; follows = λ (s : Course) f. (s, f, refl) }
+loop-i-init c = record { room = omega arith; follows = λ (s : Progress) f. (s, f, refl) }
 
 pub loop-i-preserved : goal.loop-i-preserved
 loop-i-preserved c =
@@ -13,7 +13,7 @@ loop-i-preserved c =
     let next = c.in_ok-perform_create.ensures.next in
     record {
       room = omega arith;
-      follows = λ (s : Course) f.
+      follows = λ (s : Progress) f.
           let was = c.loop-i.invariant.follows s f in (
             after_create was.0 (create_of c.index-drafts-i.result),
             c.in_ok-perform_create.ensures.follows was.0 was.1,
@@ -23,6 +23,6 @@ loop-i-preserved c =
 
 pub returns : goal.returns
 returns c =
-    λ (s : Course) f.
+    λ (s : Progress) f.
     let was = c.loop-i.invariant.follows s f in
     subst (Follows c.loop-i.planner) (sym (each_end was.0 c.args.drafts.now c.loop-i.i c.loop-i-test.false) ∙ was.2) was.1

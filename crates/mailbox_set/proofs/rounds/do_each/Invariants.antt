@@ -1,5 +1,5 @@
 use Rattle.std.proofs.Common.{◌≡◌, ◌+◌, ◌<◌, ◌^◌, map, length, drop}
-use Rattle.mailbox_set.specs.Creates.{Course}
+use Rattle.mailbox_set.specs.Creates.{Progress}
 use Rattle.mailbox_set.specs.Views.{create_of, Follows}
 use Rattle.mailbox_set.specs.Rounds.{after_each}
 use Rattle.mailbox_set.proofs.rounds.do_each.Given as goal
@@ -7,5 +7,5 @@ use Rattle.mailbox_set.proofs.rounds.do_each.Given as goal
 abbrev pub invariant-loop-i : goal.invariant-loop-i
 invariant-loop-i l = record {
   room : l.planner.next + length l.drafts < 2 ^ 53 + l.i;
-  follows : (s : Course) → Follows l.initial.planner s → (t : Course) × Follows l.planner t × (after_each t (map create_of (drop l.i l.drafts)) ≡ after_each s (map create_of l.drafts));
+  follows : (s : Progress) → Follows l.initial.planner s → (t : Progress) × Follows l.planner t × (after_each t (map create_of (drop l.i l.drafts)) ≡ after_each s (map create_of l.drafts));
 }

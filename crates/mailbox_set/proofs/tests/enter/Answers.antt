@@ -6,5 +6,5 @@ use Rattle.mailbox_set.proofs.tests.enter.Goals as goal
 
 pub returns-in-Some : goal.returns-in-Some
 returns-in-Some c =
-    subst AreNumbered (sym (rw c.in-Some.is at c.in_ok-after.ensures.content ∙ ap (after_edits c.args.content.content) c.as_slice-3.ensures))
-    (AreNumbered-after_edits c.args.edits c.args.content.content c.requires.fits c.requires.numbered)
+    subst AreNumbered (sym (rw c.in-Some.is at c.in_ok-after.ensures.content ∙ ap (after_edits c.args.content.content) c.as_slice.ensures))
+    (AreNumbered-after_edits c.args.edits.now c.args.content.content c.requires.fits c.requires.numbered)
