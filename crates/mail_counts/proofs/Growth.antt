@@ -17,7 +17,7 @@ use Rattle.mail_records.proofs.Growth.{found, all_map, AreTables-after_edit, Are
 use Rattle.mail_counts.specs.Counts.{HasCounts, HasNoCounts, is_in, is_unread, is_unread_thread, emails_in, email_thread, each_once}
 use Rattle.mail_counts.specs.Tidy.{IsTidy, IsThere, IsWellFormed, IsPlaced, IsNewMailbox, IsTidyEmail, AreMailboxesTidy, AreEmailsTidy, HasRoot, ancestor, parent_of, share_name, share_role}
 
--- ---- a record behind all others
+-- ---- a record after all others
 
 pub put-last : {R : Type 0} (number : R → ℕ) (r : R) (xs : List R) → AllByRecursion (λ x. number x < number r) xs → put number r xs ≡ xs ++ r ∷ []
 put-last number r [] all = refl
@@ -38,7 +38,7 @@ below_new : (c : Content) (m : Mailbox) → AreNumbered c → m.number ≡ c.nex
 below_new c m numbered is =
     all_map (λ (x : Mailbox). x.number < c.next_mailbox) (λ (x : Mailbox). x.number < m.number) c.mailboxes (λ (x : Mailbox) (lt : x.number < c.next_mailbox). omega arith) numbered.mailboxes.below_next
 
--- a new mailbox stands behind the others
+-- a new mailbox follows the others
 pub mailboxes-new : (c : Content) (m : Mailbox) → AreNumbered c → m.number ≡ c.next_mailbox → put mailbox_number m c.mailboxes ≡ c.mailboxes ++ m ∷ []
 mailboxes-new c m numbered is = put-last mailbox_number m c.mailboxes (below_new c m numbered is)
 

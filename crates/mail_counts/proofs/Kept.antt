@@ -20,12 +20,12 @@ use Rattle.mail_counts.proofs.Growth.{HasCounts-none, emails_in-above, mailboxes
 abbrev AreBelow : Content → Type 0
 AreBelow c = AllByRecursion (λ (e : Email). AllByRecursion (λ x. x < c.next_mailbox) e.mailboxes) c.emails
 
-there : {R : Type 0} (o : Option R) → is_some o ≡ true → (x : R) × (o ≡ Some x)
+pub there : {R : Type 0} (o : Option R) → is_some o ≡ true → (x : R) × (o ≡ Some x)
 there None h = absurd (true≢false (sym h))
 there (Some x) h = (x, refl)
 
 -- a mailbox with the number and the counts of another has right counts where the other has
-same_counts : (emails : List Email) (m n : Mailbox) → m.number ≡ n.number → SameCounts m n → HasCounts emails m → HasCounts emails n
+pub same_counts : (emails : List Email) (m n : Mailbox) → m.number ≡ n.number → SameCounts m n → HasCounts emails m → HasCounts emails n
 same_counts emails m n is same counts = record {
   total_emails = subst (λ k. n.total_emails ≡ length (emails_in k emails)) is (sym same.total_emails ∙ counts.total_emails);
   unread_emails = subst (λ k. n.unread_emails ≡ length (filter is_unread (emails_in k emails))) is (sym same.unread_emails ∙ counts.unread_emails);
@@ -96,6 +96,6 @@ AreThreadsTidy-after_edits (DropEmail number thread ∷ es) c of tidy = let no =
 AreThreadsTidy-after_edits (PutThread item was ∷ es) c of tidy = let no = of.0 in absurd (cc)
 AreThreadsTidy-after_edits (DropThread number ∷ es) c of tidy = let no = of.0 in absurd (cc)
 
--- with no edits behind them
+-- with no edits after them
 pub and_none : (P : Content → Type 0) (c : Content) (es more : List Edit) → more ≡ [] → P (after_edits c es) → P (after_edits c (es ++ more))
 and_none P c es more none holds = subst (λ (all : List Edit). P (after_edits c all)) (sym (ap (λ (tail : List Edit). es ++ tail) none ∙ append-nil es)) holds

@@ -1,4 +1,12 @@
+pub mod Covers
+pub mod Followed
+pub mod Groups
 pub mod Growth
 pub mod Kept
+pub mod Listed
 pub mod Named
+pub mod Nothing
+pub mod Partition
+pub mod Sorted
 pub mod StateAfter
+pub mod TidyAgain

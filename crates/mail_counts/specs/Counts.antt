@@ -34,12 +34,14 @@ threads_in n emails = each_once (map email_thread (emails_in n emails))
 abbrev pub is_unread_thread : List Email → ℕ → Bool
 is_unread_thread emails t = list_any (λ e. e.thread == t && is_unread e) emails
 
--- The four counts of a mailbox are those of the emails in it, and of the threads with an email in it.
+-- The four counts of a mailbox are those of the emails in it, and of the threads with an email in
+-- it.
 pub record HasCounts (emails : List Email) (m : Mailbox) : Type 0 where
   pub total_emails : m.total_emails ≡ length (emails_in m.number emails)
   pub unread_emails : m.unread_emails ≡ length (filter is_unread (emails_in m.number emails))
   pub total_threads : m.total_threads ≡ length (threads_in m.number emails)
-  pub unread_threads : m.unread_threads ≡ length (filter (is_unread_thread emails) (threads_in m.number emails))
+  pub unread_threads : m.unread_threads ≡ length
+      (filter (is_unread_thread emails) (threads_in m.number emails))
 
 -- The four counts are 0, as they are of a mailbox without emails.
 pub record HasNoCounts (m : Mailbox) : Type 0 where

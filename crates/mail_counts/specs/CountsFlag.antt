@@ -1,5 +1,6 @@
--- What the flag `counts` of a put of a mailbox says. By it a client is told that only counts changed (RFC 8621, 2.2:
--- `updatedProperties`). It is a promise of plans: a valid account may hold edits whose flag is wrong.
+-- What the flag `counts` of a put of a mailbox says. By it a client learns that only counts
+-- changed (RFC 8621, 2.2: `updatedProperties`). It is a promise of plans: a valid account may hold
+-- edits whose flag is wrong.
 use Rattle.std.specs.Prelude.{◌≡◌, ◌↔◌, true, List, [], ◌∷◌, Option, Some, None, ⊤}
 use Rattle.mail_records.specs.Contents.{Content, mailbox_at}
 use Rattle.mail_records.specs.Edits.{after_edit}
@@ -21,9 +22,11 @@ abbrev pub ChangesOnlyCounts : Option Mailbox → Mailbox → Type 0
 ChangesOnlyCounts None new = ⊥
 ChangesOnlyCounts (Some old) new = SameButCounts old new
 
--- A put of a mailbox has the flag if and only if the mailbox was there and the put changes only its four counts.
+-- A put of a mailbox has the flag if and only if the mailbox was there and the put changes only its
+-- four counts.
 abbrev pub IsCountsFlagRight : Content → Edit → Type 0
-IsCountsFlagRight c (PutMailbox item was counts) = (counts ≡ true) ↔ ChangesOnlyCounts (mailbox_at c item.number) item
+IsCountsFlagRight c (PutMailbox item was counts) =
+    (counts ≡ true) ↔ ChangesOnlyCounts (mailbox_at c item.number) item
 IsCountsFlagRight c _ = ⊤
 
 -- each edit's flag is right in the content before it

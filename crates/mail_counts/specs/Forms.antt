@@ -2,7 +2,8 @@
 use Rattle.std.specs.Prelude.{ℕ, List, [], ◌∷◌, length, Bool, ◌&&◌, ◌||◌, not, ◌==◌, nat_le, nat_lt, codes, bytes_eq}
 use Rattle.std.specs.List.{list_any, list_all}
 
--- a byte of a text without control characters: in UTF-8 a byte below 32, and 127, stands for that character alone
+-- a byte of a text without control characters: in UTF-8 a byte below 32, and 127, means that
+-- character alone
 abbrev pub is_plain_byte : ℕ → Bool
 is_plain_byte x = nat_le 32 x && not (x == 127)
 
@@ -12,7 +13,8 @@ is_name s = nat_le 1 (length s) && nat_le (length s) 255 && list_all is_plain_by
 
 -- the roles of mailboxes (RFC 8621, 2, and the registry of RFC 8457 that it names)
 abbrev pub roles : List (List ℕ)
-roles = codes "inbox" ∷ codes "archive" ∷ codes "drafts" ∷ codes "sent" ∷ codes "junk" ∷ codes "trash" ∷ codes "all" ∷ codes "flagged" ∷ codes "important" ∷ []
+roles = codes "inbox" ∷ codes "archive" ∷ codes "drafts" ∷ codes "sent" ∷ codes "junk"
+    ∷ codes "trash" ∷ codes "all" ∷ codes "flagged" ∷ codes "important" ∷ []
 
 abbrev pub is_role : List ℕ → Bool
 is_role s = list_any (λ r. bytes_eq s r) roles
@@ -21,7 +23,8 @@ is_role s = list_any (λ r. bytes_eq s r) roles
 abbrev pub is_sort_order : ℕ → Bool
 is_sort_order n = nat_lt n 2147483648
 
--- the bytes `(`, `)`, `{`, `]`, `%`, `*`, `"` and `\`, and upper-case letters, which are kept as lower-case ones
+-- the bytes `(`, `)`, `{`, `]`, `%`, `*`, `"` and `\`, and upper-case letters, which are kept as
+-- lower-case ones
 abbrev pub is_kept_out : ℕ → Bool
 is_kept_out x = list_any (λ y. y == x) (codes "(){]%*\"\\") || (nat_le 65 x && nat_le x 90)
 

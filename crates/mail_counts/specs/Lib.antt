@@ -1,7 +1,11 @@
 pub mod Forms
 pub mod Counts
 pub mod Tidy
+pub mod Touched
+pub mod DerivedEdits
+pub mod TidyBut
 pub mod Views
 pub mod Derived
 pub mod Plans
 pub mod CountsFlag
+pub mod Members

@@ -1,4 +1,5 @@
--- When a content is tidy: all that is asked of an account's records by themselves, without blobs and without its history.
+-- When a content is tidy: all that is asked of an account's records by themselves, without blobs
+-- and without its history.
 use Rattle.std.specs.Prelude.{◌≡◌, ℕ, zero, suc, ◌≤◌, List, length, map, filter, Bool, true, false, ◌&&◌, ◌==◌, Option, Some, None, is_some, option_and_then, bytes_eq, IsPermutation}
 use Rattle.std.specs.List.{AllByRecursion, IsDistinct, list_any}
 use Rattle.std.specs.List.Sorted.{IsStrictlySortedBy}
@@ -44,7 +45,8 @@ share_role m n = same_role m.role n.role
 abbrev pub parent_of : Content → ℕ → Option ℕ
 parent_of c n = option_and_then (λ (m : Mailbox). m.parent) (mailbox_at c n)
 
--- the mailbox that one comes to by so many steps from a mailbox to its parent; none where a chain of parents ended before
+-- the mailbox that one comes to by so many steps from a mailbox to its parent; none where a chain
+-- of parents ended before
 abbrev pub ancestor : ℕ → Content → Option ℕ → Option ℕ
 ancestor zero c start = start
 ancestor (suc k) c None = None
@@ -63,7 +65,8 @@ pub record IsWellFormed (m : Mailbox) : Type 0 where
   pub role : ForSome m.role (λ r. is_role r ≡ true)
   pub sort_order : is_sort_order m.sort_order ≡ true
 
--- a mailbox in its content: its parent is there, its chain of parents ends, and its counts are right
+-- a mailbox in its content: its parent is there, its chain of parents ends, and its counts are
+-- right
 pub record IsPlaced (c : Content) (m : Mailbox) : Type 0 where
   pub parent : ForSome m.parent (IsThere c)
   pub root : HasRoot c m.parent
@@ -75,8 +78,8 @@ pub record AreMailboxesTidy (c : Content) : Type 0 where
   pub names : IsDistinct share_name c.mailboxes
   pub roles : IsDistinct share_role c.mailboxes
 
--- A mailbox may stand in a content as a new one: it has the next number, its form is right, its parent is there, no mailbox
--- of that parent has its name and none its role, and its counts are 0.
+-- A mailbox may be in a content as a new one: it has the next number, its form is right, its
+-- parent is there, no mailbox of that parent has its name and none its role, and its counts are 0.
 pub record IsNewMailbox (c : Content) (m : Mailbox) : Type 0 where
   pub number : m.number ≡ c.next_mailbox
   pub form : IsWellFormed m
@@ -87,8 +90,8 @@ pub record IsNewMailbox (c : Content) (m : Mailbox) : Type 0 where
 
 -- ---- emails (RFC 8621, 4)
 
--- Its mailboxes are there, from 1 to 64, and rise; its keywords are of their form, at most 128, and rise; its dates are
--- moments of the years 0001 to 9999.
+-- Its mailboxes are there, from 1 to 64, and rise; its keywords are of their form, at most 128, and
+-- rise; its dates are moments of the years 0001 to 9999.
 pub record IsTidyEmail (c : Content) (e : Email) : Type 0 where
   pub mailboxes : AllByRecursion (IsThere c) e.mailboxes
   pub some_mailbox : 1 ≤ length e.mailboxes
@@ -109,7 +112,8 @@ pub record AreEmailsTidy (c : Content) : Type 0 where
 
 -- by the moment received, and of equal moments by number
 abbrev pub by_received : Email → Email → Ordering
-by_received a b = match_ordering (int_cmp a.received.seconds b.received.seconds) Less (nat_cmp a.number b.number) Greater
+by_received a b = match_ordering (int_cmp a.received.seconds b.received.seconds) Less
+    (nat_cmp a.number b.number) Greater
 
 -- the thread lists these emails, which are all of its emails, in order
 pub record IsListOf (emails : List Email) (t : Thread) (listed : List Email) : Type 0 where
@@ -121,11 +125,13 @@ pub record IsListOf (emails : List Email) (t : Thread) (listed : List Email) : T
 -- the threads are exactly those that emails name, and each lists its emails
 pub record AreThreadsTidy (c : Content) : Type 0 where
   pub named : AllByRecursion (λ (e : Email). is_some (thread_at c e.thread) ≡ true) c.emails
-  pub lists : AllByRecursion (λ (t : Thread). (listed : List Email) × IsListOf c.emails t listed) c.threads
+  pub lists : AllByRecursion (λ (t : Thread). (listed : List Email) × IsListOf c.emails t listed)
+      c.threads
 
 -- ---- a content
 
--- The records are in number order with each number below its kind's next one, and mailboxes, emails and threads are tidy.
+-- The records are in number order with each number below its kind's next one, and mailboxes, emails
+-- and threads are tidy.
 pub record IsTidy (c : Content) : Type 0 where
   pub tables : AreTables c
   pub numbered : AreNumbered c

@@ -1,4 +1,5 @@
--- What a client is shown of a mailbox: the members of its object, in byte order of their names (RFC 8621, 2).
+-- What a client is shown of a mailbox: the members of its object, in byte order of their names (RFC
+-- 8621, 2).
 use Rattle.std.specs.Prelude.{ℕ, ◌^◌, pos, min, List, [], ◌∷◌, Bool, true, false, ◌&&◌, not, nat_le, nat_lt, Option, Some, None, codes, bytes_eq}
 use Rattle.std.specs.List.{find as first_that}
 use Rattle.jm_base.specs.Ids.{id_text}
@@ -32,8 +33,9 @@ abbrev pub role_tree : Option (List ℕ) → Tree
 role_tree None = null
 role_tree (Some r) = text r
 
--- The rights of a user on each mailbox of an account, which is read-only for the user or not. Items may always be read,
--- nothing may be submitted, and the rest is as the account is (RFC 8621, 2; which rights there are is our own).
+-- The rights of a user on each mailbox of an account, which is read-only for the user or not. Items
+-- may always be read, nothing may be submitted, and the rest is as the account is (RFC 8621, 2;
+-- which rights there are is our own).
 abbrev pub rights_members : Bool → List (List ℕ × Tree)
 rights_members read_only =
     (codes "mayAddItems", boolean (not read_only))

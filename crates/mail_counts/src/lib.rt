@@ -1,13 +1,15 @@
-//! What an account's records must be to be tidy, the counts of mailboxes, what a client is shown of a mailbox, and the
-//! plans of sets.
+//! What an account's records must be to be tidy, the counts of mailboxes, what a client is shown of
+//! a mailbox, and the plans of sets.
 //!
-//! When a content is tidy stands in `specs/Tidy.antt`, and a mailbox's counts in `specs/Counts.antt`. A call that sets
-//! records answers a [`SetPlan`] or a [`SetFault`].
+//! When a content is tidy is in `specs/Tidy.antt`, and a mailbox's counts in
+//! `specs/Counts.antt`. A call that sets records answers a [`SetPlan`] or a [`SetFault`].
 #![tactic(auto)]
 
 mod following;
 mod form;
 mod laws;
+mod mailbox_counts;
+mod members;
 mod plan;
 mod state;
 #[cfg(test)]
@@ -16,7 +18,8 @@ mod view;
 
 pub use following::derived;
 pub use form::{is_name, is_role, is_sort_order};
-pub use laws::state_after_edits_is_that_of_the_grown_history;
+pub use laws::{derived_edits_make_tidy, state_after_edits_is_that_of_the_grown_history};
+pub use mailbox_counts::MailboxCounts;
 pub use plan::{SetFault, SetPlan};
 pub use state::state_after;
 pub use view::{mailbox_rights, mailbox_view};

@@ -3,8 +3,8 @@ use jm_base::{NoMemory, Text};
 use jm_json::{Json, Made};
 use mail_records::Edits;
 
-/// What a set, an import or a copy does: the arguments of its response, its edits in order, and the records that it
-/// makes, each with its creation id.
+/// What a set, an import or a copy does: the arguments of its response, its edits in order, and the
+/// records that it makes, each with its creation id.
 #[derive(Drop)]
 pub struct SetPlan {
     pub reply: Json,
@@ -15,7 +15,8 @@ pub struct SetPlan {
 /// A set is refused as a whole, and changes nothing.
 #[derive(Debug, Drop)]
 pub enum SetFault {
-    /// The argument of this name is missing or has a wrong form; with an empty name the arguments are no object.
+    /// The argument of this name is missing or has a wrong form; with an empty name the arguments
+    /// are no object.
     Invalid(Text),
     /// It names more than 500 objects.
     TooLarge,

@@ -66,7 +66,8 @@ pub fn mailbox_rights(alloc: Global, read_only: bool) -> Result<Json, NoMemory>
     Ok(Json::Object(rights(alloc, read_only)?))
 }
 
-/// The members of a mailbox's object, in byte order of their names, for a user to whom the account is read-only or not.
+/// The members of a mailbox's object, in byte order of their names, for a user to whom the account
+/// is read-only or not.
 pub fn mailbox_view(alloc: Global, mailbox: &Mailbox, read_only: bool) -> Result<Members, NoMemory>
     ensures { IfOk result (λ ms. ms ≡ mailbox_members read_only mailbox.now) }
 {
