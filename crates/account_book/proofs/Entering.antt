@@ -4,7 +4,7 @@ use Rattle.std.proofs.Math.Seq.{take-append_seam, drop-append_seam}
 use Rattle.std.proofs.lemmas.List.{append-nil, drop-append-le, map-append, take-append-le}
 use Rattle.mail_records.specs.Contents.{Content}
 use Rattle.mail_records.specs.Edits.{after_edits, AllFit}
-use Rattle.mail_records.specs.Histories.{History, Entry, Committed, Refused, edits_of, content_of, blobs_in, grown}
+use Rattle.mail_records.specs.Histories.{History, Entry, Committed, Refused, edits_of, content_of, blobs_in, blobs_of, grown}
 use Rattle.mail_records.specs.declared.edits.Edit.{Edit}
 use Rattle.mail_records.specs.declared.edits.Commit.{Commit}
 use Rattle.mail_records.proofs.Growth.{AllFit-append}
@@ -14,10 +14,11 @@ use Rattle.record_codec.specs.Sizes.{edit_bytes}
 use Rattle.record_codec.proofs.Lengths.{edit_bytes-append}
 use Rattle.state_log.proofs.Kept.{IsLogOf-committed}
 use Rattle.state_log.specs.Logs.{Notes, note_of}
+use Rattle.blob_store.specs.Blobs.{AreBlobsFew}
 use Rattle.account_book.specs.Accounts.{Stands, history_of, entries_with, kept_entry}
 use Rattle.account_book.specs.declared.entry.Entry.{Entry as KeptEntry}
 
--- an entry behind others takes the blobs that they leave
+-- an entry after others takes the blobs that they leave
 entries_with-push : (hs : List Entry) (k : KeptEntry) (more : List (List ℕ)) → entries_with (map kept_entry hs ++ k ∷ []) (blobs_in hs ++ more) ≡ hs ++ entries_with (k ∷ []) more
 entries_with-push [] k more = refl
 entries_with-push (Committed commit ∷ hs) k more =
@@ -60,9 +61,9 @@ history_of-commit log log' base content entries entries' blobs blobs' n bytes co
 pub Stands-commit : (h : History) (content content' : Content) (log log' : Notes) (entries entries' : List KeptEntry) (blobs blobs' : List (List ℕ)) (n bytes bytes' : ℕ) (commit : Commit)
     → Stands h content log entries blobs n bytes → AllFit (content_of h) commit.edits
     → content' ≡ after_edits content commit.edits → log' ≡ noted log commit.edits log'.spare
-    → entries' ≡ entries ++ kept_entry (Committed commit) ∷ [] → blobs' ≡ blobs ++ commit.blobs → bytes' ≡ edit_bytes (edits_of h) + edit_bytes commit.edits
+    → entries' ≡ entries ++ kept_entry (Committed commit) ∷ [] → blobs' ≡ blobs ++ commit.blobs → AreBlobsFew (blobs_of h ++ commit.blobs) → bytes' ≡ edit_bytes (edits_of h) + edit_bytes commit.edits
     → Stands (grown h (Committed commit)) content' log' entries' blobs' n bytes'
-Stands-commit h content content' log log' entries entries' blobs blobs' n bytes bytes' commit s fit is_content is_log are_entries are_blobs are_bytes =
+Stands-commit h content content' log log' entries entries' blobs blobs' n bytes bytes' commit s fit is_content is_log are_entries are_blobs few are_bytes =
     let all = edits_of-grown h (Committed commit) in
     record {
       founded = IsFounded-grown_by h (Committed commit ∷ []) s.founded;
@@ -71,6 +72,7 @@ Stands-commit h content content' log log' entries entries' blobs blobs' n bytes 
       log_is = IsLogOf-committed h log log' commit s.log_is is_log;
       entries_are = are_entries ∙ ap (λ es. es ++ kept_entry (Committed commit) ∷ []) s.entries_are ∙ sym (map-append kept_entry h.entries (Committed commit ∷ []));
       blobs_are = are_blobs ∙ ap (λ bs. bs ++ commit.blobs) s.blobs_are ∙ sym (blobs_of-grown h (Committed commit));
+      few = subst AreBlobsFew (sym (are_blobs ∙ ap (λ bs. bs ++ commit.blobs) s.blobs_are)) few;
       base_blobs_are = s.base_blobs_are;
       bytes_are = are_bytes ∙ sym (ap edit_bytes all ∙ edit_bytes-append (edits_of h) commit.edits);
     }

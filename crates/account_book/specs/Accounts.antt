@@ -1,8 +1,9 @@
 -- How an account keeps its history, and what holds of each account.
-use Rattle.std.specs.Prelude.{◌≡◌, ℕ, ◌≤◌, ◌+◌, ◌^◌, true, false, not, if◌then◌else◌, List, [], ◌∷◌, take, drop, filter, length, map, sum}
+use Rattle.std.specs.Prelude.{◌≡◌, ℕ, ◌≤◌, ◌+◌, ◌^◌, true, false, not, if◌then◌else◌, List, [], ◌∷◌, take, drop, filter, length, map}
 use Rattle.mail_records.specs.Contents.{Content, NextAtMost}
 use Rattle.mail_records.specs.Edits.{AllFit}
 use Rattle.mail_records.specs.Histories.{History, Entry, Committed, Refused, IsFounded, is_refused, edits_of, content_of, blobs_of, end_of}
+use Rattle.blob_store.specs.Blobs.{AreBlobsFew}
 use Rattle.state_log.specs.Logs.{Notes, IsLogOf}
 use Rattle.record_codec.specs.Sizes.{edit_bytes}
 use Rattle.account_book.specs.declared.entry.Entry.{Entry as KeptEntry}
@@ -14,7 +15,7 @@ entry_with e blobs =
     then Refused e.stamp
     else Committed (record { blobs = blobs; edits = e.edits; stamp = e.stamp })
 
--- the entries that are kept so: each takes its blobs from the front of the list
+-- the entries that are kept so: each takes its blobs from the start of the list
 abbrev pub entries_with : List KeptEntry → List (List ℕ) → List Entry
 entries_with [] blobs = []
 entries_with (e ∷ es) blobs =
@@ -42,14 +43,17 @@ history_of log base base_blobs entries blobs = record {
 }
 
 -- Content, log, entries, blobs, the count of the base's blobs and the count of the bytes of edits
--- are those of the history. The history is founded, and its edits fit one after the other.
-pub record Stands (h : History) (content : Content) (log : Notes) (entries : List KeptEntry) (blobs : List (List ℕ)) (base_blobs bytes : ℕ) : Type 0 where
+-- are those of the history. The history is founded, its edits fit one after the other, and its
+-- blobs are within the limits.
+pub record Stands (h : History) (content : Content) (log : Notes) (entries : List KeptEntry)
+    (blobs : List (List ℕ)) (base_blobs bytes : ℕ) : Type 0 where
   pub founded : IsFounded h
   pub fits : AllFit h.base (edits_of h)
   pub content_is : content ≡ content_of h
   pub log_is : IsLogOf h log
   pub entries_are : entries ≡ map kept_entry h.entries
   pub blobs_are : blobs ≡ blobs_of h
+  pub few : AreBlobsFew blobs
   pub base_blobs_are : base_blobs ≡ length h.base_blobs
   pub bytes_are : bytes ≡ edit_bytes (edits_of h)
 
@@ -67,8 +71,3 @@ pub record IsBounded (h : History) : Type 0 where
 -- the history without its refusals
 abbrev pub without_refusals : History → History
 without_refusals h = record h { entries = filter (λ (e : Entry). not (is_refused e)) h.entries }
-
--- an account's blobs are at most 1,000,000 and have at most 134,217,728 bytes
-pub record AreBlobsFew (blobs : List (List ℕ)) : Type 0 where
-  pub count : length blobs ≤ 1000000
-  pub bytes : sum (map length blobs) ≤ 134217728

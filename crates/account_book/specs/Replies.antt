@@ -1,5 +1,5 @@
--- What a call on an account is answered, and what it does to the account's history. What a call plans, and how many
--- bytes edits take where they are kept, are parameters.
+-- What a call on an account is answered, and what it does to the account's history. What a call
+-- plans, and how many bytes edits take where they are kept, are parameters.
 use Rattle.std.specs.Prelude.{◌≡◌, ℕ, ◌+◌, ◌≤◌, List, [], ◌∷◌, ◌⊎◌, codes}
 use Rattle.jm_json.specs.Call.{error_of}
 use Rattle.mail_records.specs.Histories.{History, Committed, edits_of, account_after, grown}
@@ -19,7 +19,8 @@ use Rattle.account_book.specs.declared.plans.Point.{Point}
 abbrev pub error_reply : List ℕ → List ℕ → Out
 error_reply kind id = Replies (record { responses = error_of kind id ∷ []; made = [] })
 
--- the answer to what can't be done: for a method, and for each side of a copy, the error of this type
+-- the answer to what can't be done: for a method, and for each side of a copy, the error of this
+-- type
 abbrev pub refusal : List ℕ → Ask → Out
 refusal kind (Method call) = error_reply kind call.id
 refusal kind (Fetch call) = error_reply kind call.id
@@ -47,27 +48,35 @@ pub record IsAnswered (p : Plan) (point : Point) (out : Out) : Type 0 where
   pub reply : out ≡ p.out
 
 -- a plan whose edits would pass the limit is refused, and nothing is entered
-pub record IsUnavailable (bytes : List Edit → ℕ) (before : History) (p : Plan) (point : Point) (ask : Ask) (out : Out) : Type 0 where
+pub record IsUnavailable (bytes : List Edit → ℕ) (before : History) (p : Plan) (point : Point)
+    (ask : Ask) (out : Out) : Type 0 where
   pub some : ¬ IsIdle p
   pub past : ¬ IsWithin bytes before p.edits
   pub same : point.after ≡ point.before
   pub reply : out ≡ refusal (codes "serverUnavailable") ask
 
 -- any other plan is answered, and the one entry more is its commit
-pub record IsCommitted (bytes : List Edit → ℕ) (before after : History) (p : Plan) (point : Point) (stamp : Stamp) (out : Out) : Type 0 where
+pub record IsCommitted (bytes : List Edit → ℕ) (before after : History) (p : Plan) (point : Point)
+    (stamp : Stamp) (out : Out) : Type 0 where
   pub some : ¬ IsIdle p
   pub within : IsWithin bytes before p.edits
   pub next : point.after ≡ point.before + 1
   pub grows : after ≡ grown before (Committed (commit_of p stamp))
   pub reply : out ≡ p.out
 
--- What a call with this plan is answered at a point, where the account before it and the one after it are these.
-abbrev pub IsReplyTo : Plan → (List Edit → ℕ) → History → History → Point → Ask → Stamp → Out → Type 0
+-- What a call with this plan is answered at a point, where the account before it and the one after
+-- it are these.
+abbrev pub IsReplyTo : Plan → (List Edit → ℕ) → History → History → Point → Ask → Stamp → Out
+    → Type 0
 IsReplyTo p bytes before after point ask stamp out =
-    IsAnswered p point out ⊎ IsUnavailable bytes before p point ask out ⊎ IsCommitted bytes before after p point stamp out
+    IsAnswered p point out ⊎ IsUnavailable bytes before p point ask out
+    ⊎ IsCommitted bytes before after p point stamp out
 
--- What a call is answered at a point of a history. Its plan is that of the account before it, which has the point's entries
--- before it alone; so of the history nothing counts that is later than the point.
-abbrev pub IsReply : (History → Call → ℕ → Plan) → (List Edit → ℕ) → History → Point → Call → Stamp → Out → Type 0
+-- What a call is answered at a point of a history. Its plan is that of the account before it, which
+-- has the point's entries before it alone; so of the history nothing counts that is later than the
+-- point.
+abbrev pub IsReply : (History → Call → ℕ → Plan) → (List Edit → ℕ) → History → Point → Call → Stamp
+    → Out → Type 0
 IsReply plan bytes h point call stamp out =
-    IsReplyTo (plan (account_after h point.before) call point.moment) bytes (account_after h point.before) (account_after h point.after) point call.ask stamp out
+    IsReplyTo (plan (account_after h point.before) call point.moment) bytes
+    (account_after h point.before) (account_after h point.after) point call.ask stamp out

@@ -1,5 +1,5 @@
--- The rules by which tests perform calls: a method of a user who may write adds a mailbox that has the method's name, and is
--- answered with its number. No rules of the product use them.
+-- The rules by which tests perform calls: a method of a user who may write adds a mailbox that has
+-- the method's name, and is answered with its number. No rules of the product use them.
 use Rattle.std.specs.Prelude.{◌≡◌, ℕ, ◌≤◌, Bool, false, List, [], ◌∷◌, None, ⊤}
 use Rattle.std.specs.List.{AllByRecursion}
 use Rattle.mail_records.specs.Edits.{AllFit}

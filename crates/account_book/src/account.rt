@@ -1,9 +1,10 @@
 // An account: what it began with, its entries, and what they make of it.
-ghost use Rattle.std.specs.Prelude.{◌≡◌, ◌+◌, ◌≤◌, OnOk, MatchOption, length, map, ⊤};
+ghost use Rattle.std.specs.Prelude.{◌≡◌, ◌+◌, ◌≤◌, ◌++◌, OnOk, MatchOption, length, map, ⊤};
 ghost use Rattle.std.specs.List.{AllByRecursion};
 ghost use Rattle.mail_records.specs.Contents.{AreNumbered, AreTables};
 ghost use Rattle.mail_records.specs.Edits.{AllFit, IsSmall};
-ghost use Rattle.mail_records.specs.Histories.{Committed, content_of, edits_of, empty_history, grown};
+ghost use Rattle.mail_records.specs.Histories.{Committed, blobs_of, content_of, edits_of, empty_history, grown};
+ghost use Rattle.blob_store.specs.Blobs.{AreBlobsFew};
 ghost use Rattle.state_log.specs.Logs.{IsLogOf};
 ghost use Rattle.record_codec.specs.Sizes.{edit_bytes};
 ghost use Rattle.account_book.specs.Accounts.{IsBounded, kept_entry};
@@ -11,6 +12,7 @@ ghost use Rattle.account_book.specs.Replies.{IsWithin};
 
 use crate::blobs::push_all_ready;
 use crate::{Entry, MAX_EDIT_BYTES};
+use blob_store::BlobList;
 use jm_base::{Bytes, NoMemory};
 use mail_records::{Commit, Content, Edit, Edits, apply_all_ready};
 use record_codec::edit_bytes;
@@ -27,7 +29,7 @@ pub struct Account {
     log: Log,
     entries: Vec<Entry>,
     // The base's blobs, and then those of the entries.
-    blobs: Vec<Bytes>,
+    blobs: BlobList,
     // How many of the blobs are the base's.
     base_blobs: u64,
     // How many bytes the encoded edits of all entries take.
@@ -42,14 +44,15 @@ impl Model for Account {
     ghost Value = { Ledger };
 
     ghost view = { λ a. record {
-      history = history_of a.log a.base.content a.base_blobs a.entries.items a.blobs.items;
+      history = history_of a.log a.base.content a.base_blobs a.entries.items a.blobs.blobs;
       spare = min a.content.spare a.log.spare;
       entry_spare = vec_capacity a.entries - vec_len a.entries;
-      blob_spare = vec_capacity a.blobs - vec_len a.blobs;
+      blob_spare = a.blobs.spare;
     } };
 
-    ghost invariant = { λ a. Stands (history_of a.log a.base.content a.base_blobs a.entries.items a.blobs.items)
-        a.content.content a.log a.entries.items a.blobs.items a.base_blobs a.edit_bytes };
+    ghost invariant = { λ a. Stands (history_of a.log a.base.content a.base_blobs a.entries.items
+        a.blobs.blobs)
+        a.content.content a.log a.entries.items a.blobs.blobs a.base_blobs a.edit_bytes };
 }
 
 impl Account {
@@ -62,7 +65,7 @@ impl Account {
             content: Content::new(alloc),
             log: Log::new(alloc, 0, 0, 0, 0),
             entries: Vec::new(alloc),
-            blobs: Vec::new(alloc),
+            blobs: BlobList::new(alloc),
             base_blobs: 0,
             edit_bytes: 0,
         }
@@ -75,13 +78,22 @@ impl Account {
         &self.log
     }
 
-    /// Lends its content after all edits: in number order, each number from 1 and below its kind's next one.
+    /// Lends its content after all edits: in number order, each number from 1 and below its kind's
+    /// next one.
     pub fn content(&self) -> &Content
         ensures content { result.now.content ≡ content_of self.now.history }
         ensures tables { AreTables result.now.content }
         ensures numbered { AreNumbered result.now.content }
     {
         &self.content
+    }
+
+    /// Lends its blobs, the base's first. They are within the limits of an account.
+    pub fn blobs(&self) -> &BlobList
+        ensures blobs { result.now.blobs ≡ blobs_of self.now.history }
+        ensures few { AreBlobsFew result.now.blobs }
+    {
+        &self.blobs
     }
 
     /// Lends the content before its first entry.
@@ -105,8 +117,8 @@ impl Account {
         self.entries.len() as u64
     }
 
-    // It does nothing: its clause says that where the edits are within the limit, the last position and the next numbers are in
-    // bounds, which callers can't see.
+    // It does nothing: its clause says that where the edits are within the limit, the last position
+    // and the next numbers are in bounds, which callers can't see.
     pub(crate) fn bounds(&self)
         requires { edit_bytes (edits_of self.now.history) ≤ MAX_EDIT_BYTES }
         ensures { IsBounded self.now.history }
@@ -114,11 +126,13 @@ impl Account {
         let _log = &self.log;
     }
 
-    // Returns how many bytes the encoded edits of all entries and these edits take, or None where the account would pass
-    // its limit with them.
+    // Returns how many bytes the encoded edits of all entries and these edits take, or None where
+    // the account would pass its limit with them.
     pub(crate) fn edit_bytes_with(&self, edits: &[Edit]) -> Option<u64>
-        ensures within { MatchOption result (¬ IsWithin edit_bytes self.now.history edits.now) (λ bytes. IsWithin edit_bytes self.now.history edits.now) }
-        ensures bytes { MatchOption result ⊤ (λ bytes. bytes ≡ edit_bytes (edits_of self.now.history) + edit_bytes edits.now) }
+        ensures within { MatchOption result (¬ IsWithin edit_bytes self.now.history edits.now)
+            (λ bytes. IsWithin edit_bytes self.now.history edits.now) }
+        ensures bytes { MatchOption result ⊤ (λ bytes. bytes
+            ≡ edit_bytes (edits_of self.now.history) + edit_bytes edits.now) }
     {
         let bytes = self.edit_bytes.saturating_add(edit_bytes(edits));
         if bytes > MAX_EDIT_BYTES {
@@ -127,13 +141,13 @@ impl Account {
         Some(bytes)
     }
 
-    // Reserves memory for an entry with these edits and so many blobs. Fails if an allocation fails; all but the reserved
-    // memory is then as before.
-    pub(crate) fn reserve(&mut self, edits: &[Edit], blobs: usize) -> Result<(), NoMemory>
+    // Reserves memory for an entry with these edits and blobs. Fails if an allocation fails; all
+    // but the reserved memory is then as before.
+    pub(crate) fn reserve(&mut self, edits: &[Edit], blobs: &[Bytes]) -> Result<(), NoMemory>
         ensures same { self.new.history ≡ self.old.history }
         ensures spare { OnOk result (length edits.now ≤ self.new.spare) }
         ensures entry_spare { OnOk result (1 ≤ self.new.entry_spare) }
-        ensures blob_spare { OnOk result (blobs ≤ self.new.blob_spare) }
+        ensures blob_spare { OnOk result (length blobs.now ≤ self.new.blob_spare) }
     {
         self.content.reserve(edits)?;
         self.log.reserve(edits)?;
@@ -142,12 +156,13 @@ impl Account {
         Ok(())
     }
 
-    // Enters a commit, for which memory is reserved. Its edits are noted, and their copy is applied. With it the edits take
-    // so many bytes. It takes no memory.
+    // Enters a commit, for which memory is reserved. Its edits are noted, and their copy is
+    // applied. With it the edits take so many bytes. It takes no memory.
     pub(crate) fn commit_ready(&mut self, commit: Commit, copy: Edits, bytes: u64)
         requires spare { length commit.edits ≤ self.old.spare }
         requires entry_spare { 1 ≤ self.old.entry_spare }
         requires blob_spare { length commit.blobs ≤ self.old.blob_spare }
+        requires few { AreBlobsFew (blobs_of self.old.history ++ commit.blobs) }
         requires copy { copy ≡ commit.edits }
         requires fits { AllFit (content_of self.old.history) commit.edits }
         requires small { AllByRecursion IsSmall commit.edits }

@@ -9,9 +9,11 @@ pub enum Ask {
     Method(Invocation),
     /// To keep these bytes as a blob (RFC 8620, section 6.1).
     Upload(Bytes),
-    /// For the bytes of the blob, or of the part of a message, that has this id (RFC 8620, section 6.2).
+    /// For the bytes of the blob, or of the part of a message, that has this id (RFC 8620, section
+    /// 6.2).
     Blob(Text),
-    /// The side of an Email/copy that reads: the emails to be copied, with their blobs (RFC 8621, section 4.7).
+    /// The side of an Email/copy that reads: the emails to be copied, with their blobs (RFC 8621,
+    /// section 4.7).
     Fetch(Invocation),
     /// The side of an Email/copy that writes: to make what the other side read.
     Place(Invocation, Carried),
@@ -32,7 +34,7 @@ pub struct Carried {
 #[derive(Drop)]
 pub struct Call {
     pub ask: Ask,
-    /// What the request has made so far.
+    /// What the request has made up to here.
     pub made: Made,
     /// Whether the user may only read the account.
     pub read_only: bool,

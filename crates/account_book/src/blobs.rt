@@ -1,16 +1,20 @@
 // The blobs of an account, in the order in which its commits brought them.
-ghost use Rattle.std.specs.Prelude.{◌≡◌, ◌≤◌, ◌+◌, ◌++◌, length, vec_len, vec_capacity};
+ghost use Rattle.std.specs.Prelude.{◌≡◌, ◌≤◌, ◌++◌, length};
+ghost use Rattle.blob_store.specs.Blobs.{AreBlobsFew};
 
-use jm_base::{Blobs, Bytes};
+use blob_store::BlobList;
+use jm_base::Blobs;
 use std::collections::VecDeque;
 
-/// Puts blobs at the end, for which room stands ready.
-pub(crate) fn push_all_ready(blobs: &mut Vec<Bytes>, more: Blobs)
-    requires { vec_len blobs.old + length more ≤ vec_capacity blobs.old }
-    ensures items { blobs.new.items ≡ blobs.old.items ++ more }
+#[tactic(auto, using(crate::proofs::Few::few_with_one))]
+/// Puts blobs at the end, for which room stands ready, and with which all are within the limits.
+pub(crate) fn push_all_ready(blobs: &mut BlobList, more: Blobs)
+    requires room { length more ≤ blobs.old.spare }
+    requires few { AreBlobsFew (blobs.old.blobs ++ more) }
+    ensures items { blobs.new.blobs ≡ blobs.old.blobs ++ more }
 {
     let mut rest = VecDeque::from_vec(more.into_vec());
     while let Some(blob) = rest.pop_front() {
-        blobs.push_reserved(blob);
+        blobs.push_ready(blob);
     }
 }

@@ -1,10 +1,11 @@
 // The book of an account: its rules and its history.
-ghost use Rattle.std.specs.Prelude.{◌≡◌, ◌≤◌, ◌+◌, ◌∷◌, [], ℕ, IfOk, OnOk, OnErr, length};
+ghost use Rattle.std.specs.Prelude.{◌≡◌, ◌≤◌, ◌+◌, ◌∷◌, ◌++◌, [], ℕ, IfOk, OnOk, OnErr, length};
 ghost use Rattle.std.specs.List.{AllByRecursion};
 ghost use Rattle.mail_records.specs.Edits.{AllFit, IsSmall};
-ghost use Rattle.mail_records.specs.Histories.{Committed, account_after, content_of, edits_of, empty_history, grown};
+ghost use Rattle.mail_records.specs.Histories.{Committed, account_after, blobs_of, content_of, edits_of, empty_history, grown};
 ghost use Rattle.mail_records.specs.declared.edits.Stamp.{Stamp as TheStamp};
 ghost use Rattle.record_codec.specs.Sizes.{edit_bytes};
+ghost use Rattle.blob_store.specs.Blobs.{AreBlobsFew};
 ghost use Rattle.account_book.specs.Accounts.{IsBounded};
 ghost use Rattle.account_book.specs.Plans.{last_moment};
 ghost use Rattle.account_book.specs.Replies.{IsReply, IsWithin, commit_of};
@@ -56,10 +57,11 @@ impl<R: Rules> Book<R> {
         &self.account
     }
 
-    /// Performs a call at a moment, in seconds since the beginning of 1970. It is answered as its plan says, or, where the
-    /// plan's edits would pass the limit of 64 MiB, with `serverUnavailable`. The history grows by the plan's commit under
-    /// the stamp, where the plan changes something and is within the limit, and by nothing else. Where there is no memory
-    /// it stays as it was.
+    /// Performs a call at a moment, in seconds since the beginning of 1970. It is answered as its
+    /// plan says, or, where the plan's edits would pass the limit of 64 MiB, with
+    /// `serverUnavailable`. The history grows by the plan's commit under the stamp, where the plan
+    /// changes something and is within the limit, and by nothing else. Where there is no memory it
+    /// stays as it was.
     pub fn perform(
         &mut self,
         alloc: Global,
@@ -69,10 +71,19 @@ impl<R: Rules> Book<R> {
     ) -> Result<Done, NoMemory>
         requires moment { moment ≤ last_moment }
         ensures rules { self.new.rules ≡ self.old.rules }
-        ensures reply { IfOk result (λ done. (account : ℕ) → IsReply (R.plan_of self.old.rules) edit_bytes self.new.history (record { account = account; before = done.before; after = done.after; moment = moment }) call.now stamp done.out) }
+        ensures reply { IfOk result (λ done. (account : ℕ)
+            → IsReply (R.plan_of self.old.rules) edit_bytes self.new.history
+            (record {
+              account = account;
+              before = done.before;
+              after = done.after;
+              moment =
+                  moment;
+            }) call.now stamp done.out) }
         ensures before { IfOk result (λ done. done.before ≡ length self.old.history.entries) }
         ensures after { IfOk result (λ done. done.after ≡ length self.new.history.entries) }
-        ensures begins { IfOk result (λ done. account_after self.new.history done.before ≡ self.old.history) }
+        ensures begins { IfOk result (λ done. account_after self.new.history done.before
+            ≡ self.old.history) }
         ensures no_memory { OnErr result (self.new.history ≡ self.old.history) }
     {
         let before = self.account.count();
@@ -111,22 +122,29 @@ impl<R: Rules> Book<R> {
     // The plan of a call, with what the rules promise of it.
     fn planned(&self, alloc: Global, call: &Call, moment: u64) -> Result<Plan, NoMemory>
         requires moment { moment ≤ last_moment }
-        ensures plan { IfOk result (λ p. p ≡ R.plan_of self.now.rules self.now.history call.now moment) }
+        ensures plan { IfOk result (λ p. p ≡ R.plan_of self.now.rules self.now.history call.now
+            moment) }
         ensures fits { IfOk result (λ p. AllFit (content_of self.now.history) p.edits) }
         ensures small { IfOk result (λ p. AllByRecursion IsSmall p.edits) }
         ensures bounded { IsBounded self.now.history }
-        ensures keeps { IfOk result (λ p. IsWithin edit_bytes self.now.history p.edits → (stamp : TheStamp) → R.is_whole self.now.rules (grown self.now.history (Committed (commit_of p stamp)))) }
+        ensures few { IfOk result (λ p. IsWithin edit_bytes self.now.history p.edits
+            → AreBlobsFew (blobs_of self.now.history ++ p.blobs)) }
+        ensures keeps { IfOk result (λ p. IsWithin edit_bytes self.now.history p.edits
+            → (stamp : TheStamp) → R.is_whole self.now.rules
+            (grown self.now.history (Committed (commit_of p stamp)))) }
     {
         self.rules.plan(alloc, self.account(), call, moment)
     }
 
-    // Enters a commit, with which the edits take so many bytes. All memory that it needs is taken first.
+    // Enters a commit, with which the edits take so many bytes. All memory that it needs is taken
+    // first.
     fn enter(&mut self, alloc: Global, commit: Commit, bytes: u64) -> Result<(), NoMemory>
         requires fits { AllFit (content_of self.old.history) commit.edits }
         requires small { AllByRecursion IsSmall commit.edits }
         requires bounded { IsBounded self.old.history }
         requires within { IsWithin edit_bytes self.old.history commit.edits }
         requires bytes { bytes ≡ edit_bytes (edits_of self.old.history) + edit_bytes commit.edits }
+        requires few { AreBlobsFew (blobs_of self.old.history ++ commit.blobs) }
         requires keeps { R.is_whole self.old.rules (grown self.old.history (Committed commit)) }
         ensures rules { self.new.rules ≡ self.old.rules }
         ensures ok { OnOk result (self.new.history ≡ grown self.old.history (Committed commit)) }
@@ -134,7 +152,7 @@ impl<R: Rules> Book<R> {
     {
         let copy = copy_edits(alloc, commit.edits.as_slice())?;
         self.account
-            .reserve(commit.edits.as_slice(), commit.blobs.len())?;
+            .reserve(commit.edits.as_slice(), commit.blobs.as_slice())?;
         self.account.commit_ready(commit, copy, bytes);
         Ok(())
     }

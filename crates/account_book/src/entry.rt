@@ -1,8 +1,8 @@
 // What an account keeps of one call that changed it, or was to.
 use mail_records::{Edits, Stamp};
 
-/// An entry of an account: a commit, or the mark of a change that was refused. The blobs of a commit stand in the
-/// account's list of blobs, each once.
+/// An entry of an account: a commit, or the mark of a change that was refused. The blobs of a
+/// commit are in the account's list of blobs, each once.
 #[derive(Drop)]
 pub struct Entry {
     /// Under which pass it was made, and as which one there.

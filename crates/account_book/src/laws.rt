@@ -12,22 +12,30 @@ ghost use Rattle.account_book.specs.declared.plans.Out.{Out};
 ghost use Rattle.account_book.specs.declared.plans.Plan.{Plan};
 ghost use Rattle.account_book.specs.declared.plans.Point.{Point};
 
-/// What was the reply to a call at a point of a history is so at the same point of each history that
-/// the history grows to.
+/// What was the reply to a call at a point of a history is so at the same point of each history
+/// that the history grows to.
 pub fn reply_lasts()
-    ensures { (plan : History → Call → ℕ → Plan) (bytes : List Edit → ℕ) (h : History) (more : List Entry) (point : Point) (call : Call) (stamp : Stamp) (out : Out) → point.before ≤ length h.entries → point.after ≤ length h.entries → IsReply plan bytes h point call stamp out → IsReply plan bytes (grown_by h more) point call stamp out }
+    ensures { (plan : History → Call → ℕ → Plan) (bytes : List Edit → ℕ) (h : History)
+        (more : List Entry) (point : Point) (call : Call) (stamp : Stamp) (out : Out) → point.before
+        ≤ length h.entries → point.after ≤ length h.entries
+        → IsReply plan bytes h point call stamp out
+        → IsReply plan bytes (grown_by h more) point call stamp out }
 {}
 
 /// A history whose floor moves up to the end of its first `c` entries keeps its content, blobs and
-/// last position, and, from the new floor on, the content and the states at each position. If it was
-/// founded and sound and the new floor is at most 2^52, it still is.
+/// last position, and, from the new floor on, the content and the states at each position. If it
+/// was founded and sound and the new floor is at most 2^52, it still is.
 pub fn history_outlasts_floor()
     ensures content { (h : History) (c : ℕ) → content_of (moved_up h c) ≡ content_of h }
     ensures blobs { (h : History) (c : ℕ) → blobs_of (moved_up h c) ≡ blobs_of h }
     ensures end { (h : History) (c : ℕ) → end_of (moved_up h c) ≡ end_of h }
-    ensures content_at { (h : History) (c k : ℕ) → end_after h c ≤ k → content_at (moved_up h c) k ≡ content_at h k }
-    ensures state_at { (h : History) (kind : Kind) (c k : ℕ) → end_after h c ≤ k → state_at (moved_up h c) kind k ≡ state_at h kind k }
-    ensures state_of { (h : History) (kind : Kind) (c : ℕ) → state_of (moved_up h c) kind ≡ state_of h kind }
-    ensures founded { (h : History) (c : ℕ) → end_after h c ≤ 2 ^ 52 → IsFounded h → IsSound h → IsFounded (moved_up h c) }
+    ensures content_at { (h : History) (c k : ℕ) → end_after h c ≤ k → content_at (moved_up h c) k
+        ≡ content_at h k }
+    ensures state_at { (h : History) (kind : Kind) (c k : ℕ) → end_after h c ≤ k
+        → state_at (moved_up h c) kind k ≡ state_at h kind k }
+    ensures state_of { (h : History) (kind : Kind) (c : ℕ) → state_of (moved_up h c) kind
+        ≡ state_of h kind }
+    ensures founded { (h : History) (c : ℕ) → end_after h c ≤ 2 ^ 52 → IsFounded h → IsSound h
+        → IsFounded (moved_up h c) }
     ensures sound { (h : History) (c : ℕ) → IsSound h → IsSound (moved_up h c) }
 {}

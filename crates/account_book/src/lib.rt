@@ -1,4 +1,5 @@
-//! The account: its history of commits and refusals, with the content and the log that the history makes.
+//! The account: its history of commits and refusals, with the content and the log that the history
+//! makes.
 //!
 //! Contracts see an [`Account`] as its history (`Rattle.mail_records.specs.Histories`).
 #![tactic(auto)]

@@ -49,8 +49,8 @@ impl Plan {
     }
 }
 
-/// Where in an account's history a call stands: how many entries there were before it and after it, and its moment, in
-/// seconds since the beginning of 1970 in UTC.
+/// Where in an account's history a call stands: how many entries there were before it and after it,
+/// and its moment, in seconds since the beginning of 1970 in UTC.
 #[derive(Clone, Copy, Debug, PartialEq, Eq)]
 pub struct Point {
     /// The number of the account among those of a server.
@@ -70,7 +70,8 @@ pub struct Done {
 
 // The answer that is one response, which says an error.
 fn error_reply(alloc: Global, kind: &str, id: &Text) -> Result<Out, NoMemory>
-    ensures { IfOk result (λ out. out ≡ Out.Replies (record { responses = error_of kind.now id.now ∷ []; made = [] })) }
+    ensures { IfOk result (λ out. out ≡ Out.Replies
+        (record { responses = error_of kind.now id.now ∷ []; made = [] })) }
 {
     let mut responses = Invocations::new(alloc);
     responses.push(Invocation::error(alloc, kind, id.copy()?)?)?;

@@ -7,7 +7,8 @@ ghost use Rattle.mail_records.specs.Histories.{History, Committed, IsFounded, Is
 ghost use Rattle.mail_records.specs.declared.edits.Stamp.{Stamp};
 ghost use Rattle.mail_records.specs.Moved.{moved_up};
 ghost use Rattle.record_codec.specs.Sizes.{edit_bytes};
-ghost use Rattle.account_book.specs.Accounts.{AreBlobsFew, IsBounded, without_refusals};
+ghost use Rattle.blob_store.specs.Blobs.{AreBlobsFew};
+ghost use Rattle.account_book.specs.Accounts.{IsBounded, without_refusals};
 ghost use Rattle.account_book.specs.Plans.{IsPlanFor, last_moment};
 ghost use Rattle.account_book.specs.Replies.{IsWithin, commit_of};
 ghost use Rattle.account_book.specs.declared.limits.TheConstants.{MAX_EDIT_BYTES};
@@ -18,18 +19,20 @@ use crate::{Account, Call, Plan};
 use jm_base::NoMemory;
 use std::alloc::Global;
 
-/// The rules of an account. Their meaning is what each call plans over a history at a moment, and which histories are valid.
+/// The rules of an account. Their meaning is what each call plans over a history at a moment, and
+/// which histories are valid.
 ///
 /// What they promise holds of calls at moments up to the end of the year 9999.
 pub trait Rules: Drop + Send + Sync {
     /// What a call plans, over the history of the account at a moment.
     ghost plan_of: { Self → History → TheCall → ℕ → ThePlan };
 
-    /// Whether an account with this history is valid: founded, sound, and all that the rules want of its records.
+    /// Whether an account with this history is valid: founded, sound, and all that the rules want
+    /// of its records.
     ghost is_whole: { Self → History → Type 0 };
 
-    /// The plan of a call, over an account at a moment. The account needn't be valid: what is promised of plans from valid ones
-    /// is said below.
+    /// The plan of a call, over an account at a moment. The account needn't be valid: what is
+    /// promised of plans from valid ones is said below.
     fn plan(
         &self,
         alloc: Global,
@@ -42,19 +45,25 @@ pub trait Rules: Drop + Send + Sync {
         ensures { IfOk result (λ p. p ≡ plan_of self.now account.now.history call.now moment) };
 
     /// From a valid account the edits of a plan fit, one after the other.
-    ghost fits: { (r : Self) (h : History) (call : TheCall) (moment : ℕ) → moment ≤ last_moment → is_whole r h → AllFit (content_of h) (plan_of r h call moment).edits };
+    ghost fits: { (r : Self) (h : History) (call : TheCall) (moment : ℕ) → moment ≤ last_moment
+        → is_whole r h → AllFit (content_of h) (plan_of r h call moment).edits };
 
     /// Each email that they put has at most 64 mailboxes and 100 links.
-    ghost small: { (r : Self) (h : History) (call : TheCall) (moment : ℕ) → moment ≤ last_moment → is_whole r h → AllByRecursion IsSmall (plan_of r h call moment).edits };
+    ghost small: { (r : Self) (h : History) (call : TheCall) (moment : ℕ) → moment ≤ last_moment
+        → is_whole r h → AllByRecursion IsSmall (plan_of r h call moment).edits };
 
     /// The plan can be kept as a commit.
-    ghost formed: { (r : Self) (h : History) (call : TheCall) (moment : ℕ) (stamp : Stamp) → moment ≤ last_moment → is_whole r h → IsFormed (commit_of (plan_of r h call moment) stamp) };
+    ghost formed: { (r : Self) (h : History) (call : TheCall) (moment : ℕ) (stamp : Stamp) → moment
+        ≤ last_moment → is_whole r h → IsFormed (commit_of (plan_of r h call moment) stamp) };
 
     /// The plan's commit leaves the account valid, if it is within the limit of edits.
-    ghost keeps: { (r : Self) (h : History) (call : TheCall) (moment : ℕ) (stamp : Stamp) → moment ≤ last_moment → is_whole r h → IsWithin edit_bytes h (plan_of r h call moment).edits → is_whole r (grown h (Committed (commit_of (plan_of r h call moment) stamp))) };
+    ghost keeps: { (r : Self) (h : History) (call : TheCall) (moment : ℕ) (stamp : Stamp) → moment
+        ≤ last_moment → is_whole r h → IsWithin edit_bytes h (plan_of r h call moment).edits
+        → is_whole r (grown h (Committed (commit_of (plan_of r h call moment) stamp))) };
 
     /// What only reads changes nothing, and an upload has no edits.
-    ghost reads: { (r : Self) (h : History) (call : TheCall) (moment : ℕ) → moment ≤ last_moment → is_whole r h → IsPlanFor call.ask (plan_of r h call moment) };
+    ghost reads: { (r : Self) (h : History) (call : TheCall) (moment : ℕ) → moment ≤ last_moment
+        → is_whole r h → IsPlanFor call.ask (plan_of r h call moment) };
 
     /// The history of a valid account is sound.
     ghost sound: { (r : Self) (h : History) → is_whole r h → IsSound h };
@@ -64,7 +73,8 @@ pub trait Rules: Drop + Send + Sync {
     ghost founded: { (r : Self) (h : History) → is_whole r h → IsFounded h };
 
     /// The edits of a valid account are within the limit.
-    ghost limits: { (r : Self) (h : History) → is_whole r h → edit_bytes (edits_of h) ≤ MAX_EDIT_BYTES };
+    ghost limits: { (r : Self) (h : History) → is_whole r h → edit_bytes (edits_of h)
+        ≤ MAX_EDIT_BYTES };
 
     /// The blobs of a valid account are within the limits of their count and bytes.
     ghost blobs: { (r : Self) (h : History) → is_whole r h → AreBlobsFew (blobs_of h) };
@@ -73,7 +83,8 @@ pub trait Rules: Drop + Send + Sync {
     ghost ignores: { (r : Self) (h : History) → is_whole r (without_refusals h) ↔ is_whole r h };
 
     /// A valid account stays valid if its floor moves up to the end of some of its entries.
-    ghost moves: { (r : Self) (h : History) (c : ℕ) → end_after h c ≤ 2 ^ 52 → is_whole r h → is_whole r (moved_up h c) };
+    ghost moves: { (r : Self) (h : History) (c : ℕ) → end_after h c ≤ 2 ^ 52 → is_whole r h
+        → is_whole r (moved_up h c) };
 
     /// An account in which nothing has been yet is valid.
     ghost empty: { (r : Self) → is_whole r empty_history };

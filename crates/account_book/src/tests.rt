@@ -9,8 +9,8 @@ use mail_records::{Edit, Edits, Mailbox, Stamp};
 use std::alloc::Global;
 use std::test::Fail;
 
-// A method of a user who may write adds a mailbox that has the method's name, and is answered with its number. Nothing else
-// changes anything.
+// A method of a user who may write adds a mailbox that has the method's name, and is answered with
+// its number. Nothing else changes anything.
 #[derive(Drop)]
 struct Adding;
 
@@ -173,8 +173,8 @@ fn an_entry_has_the_stamp_of_its_call(rt: HostRuntime) -> Result<(), Fail> {
     Ok(())
 }
 
-// A name of 67,108,802 bytes, 62 less than 64 MiB, and of so many more. Each bit of that number after its first doubles what is
-// there, and a 1 adds one.
+// A name of 67,108,802 bytes, 62 less than 64 MiB, and of so many more. Each bit of that number
+// after its first doubles what is there, and a 1 adds one.
 fn long_name(alloc: Global, more: u8) -> Result<String, NoMemory> {
     let mut name = String::from_str(alloc, "x")?;
     for bit in 1..26u8 {
@@ -190,8 +190,9 @@ fn long_name(alloc: Global, more: u8) -> Result<String, NoMemory> {
     Ok(name)
 }
 
-// The edit that puts a mailbox with a name of n bytes and neither parent nor role takes 62 + n bytes: the tag, number, sort
-// order and length of the name 25, none twice 2, the truth values of the mailbox and of the edit 3, the four counts 32.
+// The edit that puts a mailbox with a name of n bytes and neither parent nor role takes 62 + n
+// bytes: the tag, number, sort order and length of the name 25, none twice 2, the truth values of
+// the mailbox and of the edit 3, the four counts 32.
 #[test]
 fn past_64_mebibytes_of_edits_an_account_is_unavailable(rt: HostRuntime) -> Result<(), Fail> {
     let alloc = rt.alloc();
