@@ -45,7 +45,7 @@ cut_end bytes line lines last cut one = record {
   open_line = tt;
 }
 
--- the open line goes on
+-- the open line continues
 pub cut_more : (bytes more : List ℕ) (lines : List (List ℕ)) (last : List ℕ) → IsCut bytes lines last → IsOneLine more → IsCut (bytes ++ more) lines (last ++ more)
 cut_more bytes more lines last cut one = record {
   is = ap (λ bs. bs ++ more) cut.is ∙ append_assoc (joined lines) last more;

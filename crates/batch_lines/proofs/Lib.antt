@@ -1,4 +1,5 @@
 pub mod Cuts
+pub mod Uploads
 pub mod Held
 pub mod Replies
 pub mod Runs

@@ -1,4 +1,5 @@
 pub mod Lines
+pub mod Uploads
 pub mod Replies
 pub mod Pieces
 pub mod Input

@@ -6,8 +6,8 @@ abbrev pub onto_first : ℕ → List (List ℕ) → List (List ℕ)
 onto_first x [] = (x ∷ []) ∷ []
 onto_first x (l ∷ ls) = (x ∷ l) ∷ ls
 
--- The bytes before, between and after the line feeds. The last line is not ended by a line feed, and may
--- be empty.
+-- The bytes before, between and after the line feeds. The last line is not ended by a line feed,
+-- and may be empty.
 abbrev pub lines_of : List ℕ → List (List ℕ)
 lines_of [] = [] ∷ []
 lines_of (x ∷ xs) = if x == 10 then [] ∷ lines_of xs else onto_first x (lines_of xs)
@@ -30,7 +30,8 @@ abbrev pub joined : List (List ℕ) → List ℕ
 joined [] = []
 joined (l ∷ ls) = l ++ 10 ∷ joined ls
 
--- the bytes are these lines, each ended by a line feed, and then the bytes of a line that is not ended
+-- the bytes are these lines, each ended by a line feed, and then the bytes of a line that is not
+-- ended
 pub record IsCut (bytes : List ℕ) (lines : List (List ℕ)) (last : List ℕ) : Type 0 where
   pub is : bytes ≡ joined lines ++ last
   pub each : AllByRecursion IsOneLine lines

@@ -8,9 +8,10 @@ use Rattle.jm_json.specs.Json.{tree_of}
 use Rattle.jm_json.specs.Call.{Call}
 use Rattle.jm_json.specs.declared.invocation.Created.{Created}
 use Rattle.jm_json.specs.declared.invocation.Replied.{Replied}
-use Rattle.method_batch.specs.Outcome.{IsAnswer, HasBegunAnswer, problem_tree}
+use Rattle.batch_lines.specs.declared.upload.Uploaded.{Uploaded}
+use Rattle.batch_lines.specs.Uploads.{HasBegunUpload, IsUploadAnswer}
+use Rattle.method_batch.specs.Outcome.{IsAnswer, HasBegunAnswer}
 use Rattle.method_batch.specs.declared.outcome.Outcome.{Outcome}
-use Rattle.method_batch.specs.declared.outcome.Problem.TheVariants.{NotJson}
 
 -- a JSON value as a line of text, with its line feed
 abbrev pub line_text : Tree → List ℕ
@@ -24,53 +25,72 @@ begins_with_plus (x ∷ xs) = x == 43
 -- ---- the reply to one line, where the port goes from the state s to s' meanwhile
 
 -- A request: its Response, or the problem for which it is rejected, as a line of text.
-abbrev pub IsRequestReply : {S : Type 0} → (S → Call → List Created → Replied → S → Type 0) → S → S → List ℕ → List ℕ → Type 0
+abbrev pub IsRequestReply : {S : Type 0} → (S → Call → List Created → Replied → S → Type 0) → S
+    → S → List ℕ → List ℕ → Type 0
 IsRequestReply answers s s' line reply =
     (o : Outcome) × IsAnswer answers s s' line o × (reply ≡ line_text (tree_of o.tree))
 
--- A line that begins with `+` is an upload. Uploads are not built: the line is answered as no JSON.
-abbrev pub IsUploadReply : {S : Type 0} → S → S → List ℕ → Type 0
-IsUploadReply s s' reply = (s' ≡ s) × (reply ≡ line_text (problem_tree NotJson))
+-- An upload, of which this is the string after the `+`: the blob, or the problem for which there is
+-- none, as a line of text.
+abbrev pub IsUploadReply : {S : Type 0} → (S → List ℕ → Uploaded → S → Type 0) → S → S → List ℕ
+    → List ℕ → Type 0
+IsUploadReply uploads s s' string reply =
+    (t : Tree) × IsUploadAnswer uploads s s' string t × (reply ≡ line_text t)
 
--- An empty line has no reply, one that begins with `+` (the byte 43) is an upload, and any other one is
--- a request.
-abbrev pub IsLineReply : {S : Type 0} → (S → Call → List Created → Replied → S → Type 0) → S → S → List ℕ → List ℕ → Type 0
-IsLineReply answers s s' [] reply = (s' ≡ s) × (reply ≡ [])
-IsLineReply answers s s' (x ∷ xs) reply =
-    cond (x == 43) (IsUploadReply s s' reply) (IsRequestReply answers s s' (x ∷ xs) reply)
+-- An empty line has no reply, one that begins with `+` (the byte 43) is an upload, and any other
+-- one is a request.
+abbrev pub IsLineReply : {S : Type 0} → (S → Call → List Created → Replied → S → Type 0) → (S
+    → List ℕ → Uploaded → S → Type 0) → S → S → List ℕ → List ℕ → Type 0
+IsLineReply answers uploads s s' [] reply = (s' ≡ s) × (reply ≡ [])
+IsLineReply answers uploads s s' (x ∷ xs) reply =
+    cond (x == 43) (IsUploadReply uploads s s' xs reply)
+    (IsRequestReply answers s s' (x ∷ xs) reply)
 
--- A line whose answer ended out of memory: of a request the first calls were performed, and no other.
-abbrev pub HasBegunLine : {S : Type 0} → (S → Call → List Created → Replied → S → Type 0) → (S → Call → List Created → S → Type 0) → S → S → List ℕ → Type 0
-HasBegunLine answers stops s s' [] = s' ≡ s
-HasBegunLine answers stops s s' (x ∷ xs) =
-    cond (x == 43) (s' ≡ s) (HasBegunAnswer answers stops s s' (x ∷ xs))
+-- A line whose answer ended out of memory: of a request the first calls were performed, and no
+-- other; an upload was performed
+-- or not.
+abbrev pub HasBegunLine : {S : Type 0} → (S → Call → List Created → Replied → S → Type 0) → (S
+    → List ℕ → Uploaded → S → Type 0) → (S → Call → List Created → S → Type 0) → (S → List ℕ → S
+    → Type 0) → S → S → List ℕ → Type 0
+HasBegunLine answers uploads stops halts s s' [] = s' ≡ s
+HasBegunLine answers uploads stops halts s s' (x ∷ xs) =
+    cond (x == 43) (HasBegunUpload uploads halts s s' xs)
+    (HasBegunAnswer answers stops s s' (x ∷ xs))
 
 -- ---- the replies to lines
 
--- The replies to all these lines, one after another. Each line is answered from the state that the one
--- before it has left, so the points of their calls go on from one another.
-abbrev pub AreReplies : {S : Type 0} → (S → Call → List Created → Replied → S → Type 0) → S → S → List (List ℕ) → List ℕ → Type 0
-AreReplies answers s s' [] written = (s' ≡ s) × (written ≡ [])
-AreReplies {S} answers s s' (l ∷ ls) written =
-    (m : S) × (reply : List ℕ) × (more : List ℕ) × IsLineReply answers s m l reply
-    × AreReplies answers m s' ls more × (written ≡ reply ++ more)
+-- The replies to all these lines, one after another. Each line is answered from the state that the
+-- one before it has left, so the points of their calls continue from one another.
+abbrev pub AreReplies : {S : Type 0} → (S → Call → List Created → Replied → S → Type 0) → (S
+    → List ℕ → Uploaded → S → Type 0) → S → S → List (List ℕ) → List ℕ → Type 0
+AreReplies answers uploads s s' [] written = (s' ≡ s) × (written ≡ [])
+AreReplies {S} answers uploads s s' (l ∷ ls) written =
+    (m : S) × (reply : List ℕ) × (more : List ℕ) × IsLineReply answers uploads s m l reply
+    × AreReplies answers uploads m s' ls more × (written ≡ reply ++ more)
 
 -- the first of these lines was begun; where there is none, the port is as it was
-abbrev pub HasBegunFirst : {S : Type 0} → (S → Call → List Created → Replied → S → Type 0) → (S → Call → List Created → S → Type 0) → S → S → List (List ℕ) → Type 0
-HasBegunFirst answers stops s s' [] = s' ≡ s
-HasBegunFirst answers stops s s' (l ∷ ls) = HasBegunLine answers stops s s' l
+abbrev pub HasBegunFirst : {S : Type 0} → (S → Call → List Created → Replied → S → Type 0) → (S
+    → List ℕ → Uploaded → S → Type 0) → (S → Call → List Created → S → Type 0) → (S → List ℕ → S
+    → Type 0) → S → S → List (List ℕ) → Type 0
+HasBegunFirst answers uploads stops halts s s' [] = s' ≡ s
+HasBegunFirst answers uploads stops halts s s' (l ∷ ls) =
+    HasBegunLine answers uploads stops halts s s' l
 
--- Of these lines the first ones were answered, of the next one perhaps the first calls were performed,
--- and no other. What was written is a prefix of the replies.
-abbrev pub HasBegunReplies : {S : Type 0} → (S → Call → List Created → Replied → S → Type 0) → (S → Call → List Created → S → Type 0) → S → S → List (List ℕ) → List ℕ → Type 0
-HasBegunReplies {S} answers stops s s' lines written =
+-- Of these lines the first ones were answered, of the next one perhaps the first calls were
+-- performed, and no other. What was written is a prefix of the replies.
+abbrev pub HasBegunReplies : {S : Type 0} → (S → Call → List Created → Replied → S → Type 0) → (S
+    → List ℕ → Uploaded → S → Type 0) → (S → Call → List Created → S → Type 0) → (S → List ℕ → S
+    → Type 0) → S → S → List (List ℕ) → List ℕ → Type 0
+HasBegunReplies {S} answers uploads stops halts s s' lines written =
     (answered : List (List ℕ)) × (more : List (List ℕ)) × (unwritten : List ℕ) × (m : S)
-    × (lines ≡ answered ++ more) × AreReplies answers s m answered (written ++ unwritten)
-    × HasBegunFirst answers stops m s' more
+    × (lines ≡ answered ++ more) × AreReplies answers uploads s m answered (written ++ unwritten)
+    × HasBegunFirst answers uploads stops halts m s' more
 
 -- A line whose answer ended out of memory, and what was kept of its reply: it was begun and nothing
 -- kept, or it was answered and a prefix of the reply kept.
-abbrev pub StopsInLine : {S : Type 0} → (S → Call → List Created → Replied → S → Type 0) → (S → Call → List Created → S → Type 0) → S → S → List ℕ → List ℕ → Type 0
-StopsInLine answers stops s s' line part =
-    (HasBegunLine answers stops s s' line × (part ≡ []))
-    ⊎ ((rest : List ℕ) × IsLineReply answers s s' line (part ++ rest))
+abbrev pub StopsInLine : {S : Type 0} → (S → Call → List Created → Replied → S → Type 0) → (S
+    → List ℕ → Uploaded → S → Type 0) → (S → Call → List Created → S → Type 0) → (S → List ℕ → S
+    → Type 0) → S → S → List ℕ → List ℕ → Type 0
+StopsInLine answers uploads stops halts s s' line part =
+    (HasBegunLine answers uploads stops halts s s' line × (part ≡ []))
+    ⊎ ((rest : List ℕ) × IsLineReply answers uploads s s' line (part ++ rest))

@@ -3,9 +3,20 @@
 /// The most bytes that an input of lines may have: 1 GiB.
 pub const MAX_INPUT_BYTES: u64 = 1073741824;
 
-/// The most bytes of an unfinished line that are held: one more than a request may have, so the answer
-/// to a longer line is settled.
-pub(crate) const MAX_HELD_LINE_BYTES: usize = 10000001;
+/// The most bytes that an upload may have (RFC 8620, section 6.1: maxSizeUpload).
+pub const MAX_UPLOAD_BYTES: u64 = 50_000_000;
+
+/// The characters of the base64 of an upload of the most bytes: four for each three bytes that are
+/// begun.
+pub const MAX_UPLOAD_CHARACTERS: u64 = 66_666_668;
+
+/// The most bytes of an unfinished request that are held: one more than a request may have, so the
+/// answer to a longer line is settled.
+pub(crate) const MAX_HELD_REQUEST_BYTES: usize = 10_000_001;
+
+/// The most bytes of an unfinished upload that are held: the `+`, and one character more than an
+/// upload may have.
+pub(crate) const MAX_HELD_UPLOAD_BYTES: usize = 66_666_670;
 
 /// The bytes that are read at once.
 pub(crate) const READ_BUFFER_BYTES: usize = 65536;

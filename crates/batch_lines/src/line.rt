@@ -3,13 +3,14 @@ ghost use Rattle.std.specs.Prelude.{◌≡◌, ◌≢◌, ◌-◌, ℕ, [], ◌�
 ghost use Rattle.jm_json.specs.Json.{tree_of};
 ghost use Rattle.batch_lines.specs.Lines.{IsOneLine};
 ghost use Rattle.batch_lines.specs.Replies.{HasBegunLine, IsLineReply, begins_with_plus, line_text};
-ghost use Rattle.batch_lines.specs.Pieces.{HasAnsweredLine, HasStopped};
+ghost use Rattle.batch_lines.specs.Pieces.{HasAnsweredLine, HasStopped, most_held};
 
-use crate::limits::MAX_HELD_LINE_BYTES;
+use crate::limits::{MAX_HELD_REQUEST_BYTES, MAX_HELD_UPLOAD_BYTES};
+use crate::upload::{UploadPort, answer_upload};
 use jm_base::{Bytes, NoMemory};
 use jm_json::{Json, Scratch, write_after};
 use memchr::memchr;
-use method_batch::{Outcome, Port, Problem, answer_request_with};
+use method_batch::answer_request_with;
 use std::alloc::Global;
 
 /// The line that ends first, and what follows its line feed.
@@ -38,18 +39,39 @@ pub(crate) fn cut_line(bytes: &[u8]) -> Option<Cut<'_>>
 
 /// Appends bytes to a held line, as far as they count.
 pub(crate) fn hold(line: &mut Bytes, more: &[u8]) -> Result<(), NoMemory>
-    ensures ok { OnOk result (line.new ≡ line.old ++ take (MAX_HELD_LINE_BYTES - length line.old) more.now) }
+    ensures ok { OnOk result (line.new ≡ line.old
+        ++ take (most_held (line.old ++ more.now) - length line.old) more.now) }
     ensures err { OnErr result (line.new ≡ line.old) }
 {
-    let count = more
-        .len()
-        .min(MAX_HELD_LINE_BYTES.saturating_sub(line.len()));
+    let most = most_held_of(line.as_slice(), more);
+    let count = more.len().min(most.saturating_sub(line.len()));
     line.append(&more[..count])
 }
 
-/// Answers the line that is held and ends with these bytes, and begins the next line. If memory runs
-/// out, the first calls of the line were performed, or all, and a prefix of the reply was appended.
-pub(crate) fn end_line<P: Port>(
+// Returns how many bytes of a line are held, by its first bytes.
+fn most_held(line: &[u8]) -> usize
+    ensures { result ≡ most_held line.now }
+{
+    if begins_with_plus(line) {
+        return MAX_HELD_UPLOAD_BYTES;
+    }
+    MAX_HELD_REQUEST_BYTES
+}
+
+// Returns how many bytes are held of a line of which these are, and more.
+fn most_held_of(line: &[u8], more: &[u8]) -> usize
+    ensures { result ≡ most_held (line.now ++ more.now) }
+{
+    if line.is_empty() {
+        return most_held(more);
+    }
+    most_held(line)
+}
+
+/// Answers the line that is held and ends with these bytes, and begins the next line. If memory
+/// runs out, the first calls of the line were performed, or all, and a prefix of the reply was
+/// appended.
+pub(crate) fn end_line<P: UploadPort>(
     alloc: Global,
     scratch: &mut Scratch,
     port: &mut P,
@@ -57,9 +79,11 @@ pub(crate) fn end_line<P: Port>(
     last: &[u8],
     replies: &mut Bytes,
 ) -> Result<(), NoMemory>
-    ensures ok { OnOk result (HasAnsweredLine P.answers port.old port.new (line.old ++ last.now) replies.old replies.new) }
+    ensures ok { OnOk result (HasAnsweredLine P.answers
+        P.uploads port.old port.new (line.old ++ last.now) replies.old replies.new) }
     ensures begun { OnOk result (line.new ≡ []) }
-    ensures err { OnErr result (HasStopped P.answers P.stops port.old port.new (line.old ++ last.now) replies.old replies.new) }
+    ensures err { OnErr result (HasStopped P.answers P.uploads P.stops
+        P.halts port.old port.new (line.old ++ last.now) replies.old replies.new) }
 {
     if line.is_empty() {
         return answer_line(alloc, scratch, port, last, replies);
@@ -70,16 +94,18 @@ pub(crate) fn end_line<P: Port>(
     }
 }
 
-fn answer_held<P: Port>(
+fn answer_held<P: UploadPort>(
     alloc: Global,
     scratch: &mut Scratch,
     port: &mut P,
     line: &mut Bytes,
     replies: &mut Bytes,
 ) -> Result<(), NoMemory>
-    ensures ok { OnOk result (HasAnsweredLine P.answers port.old port.new line.old replies.old replies.new) }
+    ensures ok { OnOk result (HasAnsweredLine P.answers
+        P.uploads port.old port.new line.old replies.old replies.new) }
     ensures begun { OnOk result (line.new ≡ []) }
-    ensures err { OnErr result (HasStopped P.answers P.stops port.old port.new line.old replies.old replies.new) }
+    ensures err { OnErr result (HasStopped P.answers P.uploads P.stops
+        P.halts port.old port.new line.old replies.old replies.new) }
 {
     match answer_line(alloc, scratch, port, line.as_slice(), replies) {
         Ok(()) => {
@@ -90,29 +116,33 @@ fn answer_held<P: Port>(
     }
 }
 
-fn answer_line<P: Port>(
+fn answer_line<P: UploadPort>(
     alloc: Global,
     scratch: &mut Scratch,
     port: &mut P,
     line: &[u8],
     replies: &mut Bytes,
 ) -> Result<(), NoMemory>
-    ensures ok { OnOk result (HasAnsweredLine P.answers port.old port.new line.now replies.old replies.new) }
-    ensures err { OnErr result (HasStopped P.answers P.stops port.old port.new line.now replies.old replies.new) }
+    ensures ok { OnOk result (HasAnsweredLine P.answers
+        P.uploads port.old port.new line.now replies.old replies.new) }
+    ensures err { OnErr result (HasStopped P.answers P.uploads P.stops
+        P.halts port.old port.new line.now replies.old replies.new) }
 {
     if line.is_empty() {
         return Ok(());
     }
     match answer_some(alloc, scratch, port, line) {
-        Ok(outcome) => append_line(alloc, &outcome.tree, replies),
+        Ok(tree) => append_line(alloc, &tree, replies),
         Err(refused) => Err(refused),
     }
 }
 
-/// Appends the text of a JSON value and a line feed. If memory runs out, a prefix of them is appended.
+/// Appends the text of a JSON value and a line feed. If memory runs out, a prefix of them is
+/// appended.
 pub fn append_line(alloc: Global, tree: &Json, line: &mut Bytes) -> Result<(), NoMemory>
     ensures ok { OnOk result (line.new ≡ line.old ++ line_text (tree_of tree.now)) }
-    ensures err { OnErr result ((n : ℕ) × (line.new ≡ line.old ++ take n (line_text (tree_of tree.now)))) }
+    ensures err { OnErr result ((n : ℕ)
+        × (line.new ≡ line.old ++ take n (line_text (tree_of tree.now)))) }
 {
     match write_after(alloc, line, tree) {
         Ok(()) => line.append(b"\n"),
@@ -121,20 +151,25 @@ pub fn append_line(alloc: Global, tree: &Json, line: &mut Bytes) -> Result<(), N
 }
 
 // Answers a line that isn't empty.
-fn answer_some<P: Port>(
+fn answer_some<P: UploadPort>(
     alloc: Global,
     scratch: &mut Scratch,
     port: &mut P,
     line: &[u8],
-) -> Result<Outcome, NoMemory>
+) -> Result<Json, NoMemory>
     requires some { line.now ≢ [] }
-    ensures ok { IfOk result (λ o. IsLineReply P.answers port.old port.new line.now (line_text (tree_of o.tree))) }
-    ensures err { OnErr result (HasBegunLine P.answers P.stops port.old port.new line.now) }
+    ensures ok { IfOk result (λ t. IsLineReply P.answers
+        P.uploads port.old port.new line.now (line_text (tree_of t))) }
+    ensures err { OnErr result (HasBegunLine P.answers P.uploads P.stops
+        P.halts port.old port.new line.now) }
 {
     if begins_with_plus(line) {
-        return Outcome::refusal(alloc, Problem::NotJson);
+        return answer_upload(alloc, port, &line[1..]);
     }
-    answer_request_with(alloc, scratch, port, line)
+    match answer_request_with(alloc, scratch, port, line) {
+        Ok(outcome) => Ok(outcome.tree),
+        Err(refused) => Err(refused),
+    }
 }
 
 fn begins_with_plus(line: &[u8]) -> bool

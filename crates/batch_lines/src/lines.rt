@@ -8,26 +8,29 @@ ghost use Rattle.batch_lines.specs.Faults.{ExplainsFault, StopsFor};
 use crate::fault::LinesFault;
 use crate::limits::{MAX_INPUT_BYTES, READ_BUFFER_BYTES, REPLY_BUFFER_BYTES};
 use crate::line::{cut_line, end_line, hold};
+use crate::upload::UploadPort;
 use jm_base::{Bytes, NoMemory};
 use jm_edge::{Sink, Source, put_all};
 use jm_json::Scratch;
-use method_batch::Port;
 use std::alloc::Global;
 
-/// Answers the lines of an input until its end, over a port: each with a line, except empty ones, which
-/// have none. The replies to all lines that were read are written before the next read.
+/// Answers the lines of an input until its end, over a port: each with a line, except empty ones,
+/// which have none. The replies to all lines that were read are written before the next read.
 ///
 /// If reading or writing fails, memory runs out or the input goes past `MAX_INPUT_BYTES`, the first
 /// lines are answered, and what is written is a prefix of the replies.
-pub fn answer_lines<P: Port, S: Source, O: Sink>(
+pub fn answer_lines<P: UploadPort, S: Source, O: Sink>(
     alloc: Global,
     port: &mut P,
     source: &mut S,
     out: &mut O,
 ) -> Result<(), LinesFault>
-    ensures ok { OnOk result (HasAnsweredInput P.answers port.old port.new (seen S.left S.faults source.old source.new O.held O.faults out.old out.new)) }
-    ensures cause { IfErr result (λ f. ExplainsFault P.answers port.old port.new f (seen S.left S.faults source.old source.new O.held O.faults out.old out.new)) }
-    ensures begun { HasBegunInput P.answers P.stops port.old port.new (seen S.left S.faults source.old source.new O.held O.faults out.old out.new) }
+    ensures ok { OnOk result (HasAnsweredInput P.answers P.uploads port.old port.new
+        (seen S.left S.faults source.old source.new O.held O.faults out.old out.new)) }
+    ensures cause { IfErr result (λ f. ExplainsFault P.answers P.uploads port.old port.new f
+        (seen S.left S.faults source.old source.new O.held O.faults out.old out.new)) }
+    ensures begun { HasBegunInput P.answers P.uploads P.stops P.halts port.old port.new
+        (seen S.left S.faults source.old source.new O.held O.faults out.old out.new) }
 {
     match vec![in alloc; 0u8; READ_BUFFER_BYTES] {
         Ok(mut room) => answer_reads(alloc, port, source, room.as_mut_slice(), out),
@@ -35,9 +38,9 @@ pub fn answer_lines<P: Port, S: Source, O: Sink>(
     }
 }
 
-// Answers what is read, piece by piece. All replies to a piece are written before the next read. Of a
-// piece that goes past the limit, the part within it is answered.
-fn answer_reads<P: Port, S: Source, O: Sink>(
+// Answers what is read, piece by piece. All replies to a piece are written before the next read. Of
+// a piece that goes past the limit, the part within it is answered.
+fn answer_reads<P: UploadPort, S: Source, O: Sink>(
     alloc: Global,
     port: &mut P,
     source: &mut S,
@@ -45,9 +48,12 @@ fn answer_reads<P: Port, S: Source, O: Sink>(
     out: &mut O,
 ) -> Result<(), LinesFault>
     requires { 0 < length room.old }
-    ensures ok { OnOk result (HasAnsweredInput P.answers port.old port.new (seen S.left S.faults source.old source.new O.held O.faults out.old out.new)) }
-    ensures cause { IfErr result (λ f. ExplainsFault P.answers port.old port.new f (seen S.left S.faults source.old source.new O.held O.faults out.old out.new)) }
-    ensures begun { HasBegunInput P.answers P.stops port.old port.new (seen S.left S.faults source.old source.new O.held O.faults out.old out.new) }
+    ensures ok { OnOk result (HasAnsweredInput P.answers P.uploads port.old port.new
+        (seen S.left S.faults source.old source.new O.held O.faults out.old out.new)) }
+    ensures cause { IfErr result (λ f. ExplainsFault P.answers P.uploads port.old port.new f
+        (seen S.left S.faults source.old source.new O.held O.faults out.old out.new)) }
+    ensures begun { HasBegunInput P.answers P.uploads P.stops P.halts port.old port.new
+        (seen S.left S.faults source.old source.new O.held O.faults out.old out.new) }
 {
     let mut scratch = Scratch::new(alloc);
     let mut line = Bytes::new(alloc);
@@ -97,7 +103,7 @@ fn answer_reads<P: Port, S: Source, O: Sink>(
 }
 
 // Answers the lines that end in a piece, and writes their replies.
-fn answer_piece<P: Port, O: Sink>(
+fn answer_piece<P: UploadPort, O: Sink>(
     alloc: Global,
     scratch: &mut Scratch,
     port: &mut P,
@@ -106,8 +112,10 @@ fn answer_piece<P: Port, O: Sink>(
     replies: &mut Bytes,
     out: &mut O,
 ) -> Result<(), LinesFault>
-    ensures ok { OnOk result (HasTakenPiece P.answers port.old port.new line.old line.new piece.now (O.held out.old) (O.held out.new)) }
-    ensures err { OnErr result (HasBegunPiece P.answers P.stops port.old port.new line.old piece.now (O.held out.old) (O.held out.new)) }
+    ensures ok { OnOk result (HasTakenPiece P.answers
+        P.uploads port.old port.new line.old line.new piece.now (O.held out.old) (O.held out.new)) }
+    ensures err { OnErr result (HasBegunPiece P.answers P.uploads P.stops
+        P.halts port.old port.new line.old piece.now (O.held out.old) (O.held out.new)) }
     ensures later { O.faults out.old ≤ O.faults out.new }
     ensures reason { IfErr result (λ e. StopsFor e (O.faults out.old) (O.faults out.new)) }
 {
@@ -123,8 +131,9 @@ fn answer_piece<P: Port, O: Sink>(
     settle(held, replies, out)
 }
 
-// Answers the line that is held and ends with these bytes. Its reply waits, until enough of them do.
-fn answer_ended_line<P: Port, O: Sink>(
+// Answers the line that is held and ends with these bytes. Its reply waits, until enough of them
+// do.
+fn answer_ended_line<P: UploadPort, O: Sink>(
     alloc: Global,
     scratch: &mut Scratch,
     port: &mut P,
@@ -133,9 +142,11 @@ fn answer_ended_line<P: Port, O: Sink>(
     replies: &mut Bytes,
     out: &mut O,
 ) -> Result<(), LinesFault>
-    ensures ok { OnOk result (HasAnsweredAndPut P.answers port.old port.new (line.old ++ last.now) replies.old replies.new (O.held out.old) (O.held out.new)) }
+    ensures ok { OnOk result (HasAnsweredAndPut P.answers
+        P.uploads port.old port.new (line.old ++ last.now) replies.old replies.new (O.held out.old) (O.held out.new)) }
     ensures begun { OnOk result (line.new ≡ []) }
-    ensures err { OnErr result (HasStoppedAndPut P.answers P.stops port.old port.new (line.old ++ last.now) replies.old (O.held out.old) (O.held out.new)) }
+    ensures err { OnErr result (HasStoppedAndPut P.answers P.uploads P.stops
+        P.halts port.old port.new (line.old ++ last.now) replies.old (O.held out.old) (O.held out.new)) }
     ensures later { O.faults out.old ≤ O.faults out.new }
     ensures reason { IfErr result (λ e. StopsFor e (O.faults out.old) (O.faults out.new)) }
 {
@@ -146,7 +157,7 @@ fn answer_ended_line<P: Port, O: Sink>(
 }
 
 // Answers the line that the input's end ends, and writes its reply.
-fn answer_last_line<P: Port, O: Sink>(
+fn answer_last_line<P: UploadPort, O: Sink>(
     alloc: Global,
     scratch: &mut Scratch,
     port: &mut P,
@@ -154,8 +165,10 @@ fn answer_last_line<P: Port, O: Sink>(
     replies: &mut Bytes,
     out: &mut O,
 ) -> Result<(), LinesFault>
-    ensures ok { OnOk result (HasAnsweredAndPut P.answers port.old port.new line.old [] [] (O.held out.old) (O.held out.new)) }
-    ensures err { OnErr result (HasStoppedAndPut P.answers P.stops port.old port.new line.old [] (O.held out.old) (O.held out.new)) }
+    ensures ok { OnOk result (HasAnsweredAndPut P.answers
+        P.uploads port.old port.new line.old [] [] (O.held out.old) (O.held out.new)) }
+    ensures err { OnErr result (HasStoppedAndPut P.answers P.uploads P.stops
+        P.halts port.old port.new line.old [] (O.held out.old) (O.held out.new)) }
     ensures later { O.faults out.old ≤ O.faults out.new }
     ensures reason { IfErr result (λ e. StopsFor e (O.faults out.old) (O.faults out.new)) }
 {
@@ -168,7 +181,8 @@ fn answer_last_line<P: Port, O: Sink>(
 fn put_if_full<O: Sink>(replies: &mut Bytes, out: &mut O) -> Result<(), LinesFault>
     ensures ok { OnOk result (HasPut replies.old replies.new (O.held out.old) (O.held out.new)) }
     ensures few { OnOk result (length replies.new < REPLY_BUFFER_BYTES) }
-    ensures err { OnErr result ((lost : List ℕ) × HasPut replies.old lost (O.held out.old) (O.held out.new)) }
+    ensures err { OnErr result ((lost : List ℕ)
+        × HasPut replies.old lost (O.held out.old) (O.held out.new)) }
     ensures later { O.faults out.old ≤ O.faults out.new }
     ensures reason { IfErr result (λ e. StopsFor e (O.faults out.old) (O.faults out.new)) }
 {
@@ -190,8 +204,10 @@ fn settle<O: Sink>(
     replies: &Bytes,
     out: &mut O,
 ) -> Result<(), LinesFault>
-    ensures ok { OnOk result ((fed ≡ Ok tt) × Appends (O.held out.old) (O.held out.new) replies.now) }
-    ensures err { OnErr result ((lost : List ℕ) × HasPut replies.now lost (O.held out.old) (O.held out.new)) }
+    ensures ok { OnOk result ((fed ≡ Ok tt)
+        × Appends (O.held out.old) (O.held out.new) replies.now) }
+    ensures err { OnErr result ((lost : List ℕ)
+        × HasPut replies.now lost (O.held out.old) (O.held out.new)) }
     ensures later { O.faults out.old ≤ O.faults out.new }
     ensures reason { IfErr result (λ e. StopsFor e (O.faults out.old) (O.faults out.new)) }
 {

@@ -6,7 +6,7 @@ use Rattle.batch_lines.specs.Input.{Seen, HasAnsweredInput}
 use Rattle.batch_lines.specs.Faults.{ExplainsFault}
 use Rattle.batch_lines.specs.declared.fault.LinesFault.{LinesFault}
 use Rattle.batch_lines.specs.declared.fault.LinesFault.TheVariants as lines
-use Rattle.jmap_main.specs.Served.{account_answers}
+use Rattle.jmap_main.specs.Served.{account_answers, account_uploads}
 use Rattle.jmap_main.specs.Run.{HasAnsweredBy, HasAnsweredBeforeFaultBy, HasAnsweredBeforeLimitBy}
 use Rattle.jmap_main.specs.Status.{status_of}
 use Rattle.jmap_main.specs.Ended.{Explains, ExplainsBy, ending_of, ending_of_fault}
@@ -71,16 +71,16 @@ usage_of (Some c) TooLong v n is h = (λ two. absurd (omega arith), λ other. cc
 
 -- the run over the account of `batch`
 
-batch_fault : (f : LinesFault) (v : Seen) (h : History) → ExplainsFault account_answers empty_history h f v → Explains Batch (ending_of_fault f) v
+batch_fault : (f : LinesFault) (v : Seen) (h : History) → ExplainsFault account_answers account_uploads empty_history h f v → Explains Batch (ending_of_fault f) v
 batch_fault lines.ReadFault v h is = (is.0, (h, is.1))
 batch_fault lines.WriteFault v h is = is
 batch_fault lines.NoMemory v h is = tt
 batch_fault lines.TooLong v h is = (h, is)
 
-batch_ending : (r : Result (Unit {0}) LinesFault) (v : Seen) (h : History) → OnOk r (HasAnsweredInput account_answers empty_history h v) → IfErr r (λ f. ExplainsFault account_answers empty_history h f v) → Explains Batch (ending_of r) v
+batch_ending : (r : Result (Unit {0}) LinesFault) (v : Seen) (h : History) → OnOk r (HasAnsweredInput account_answers account_uploads empty_history h v) → IfErr r (λ f. ExplainsFault account_answers account_uploads empty_history h f v) → Explains Batch (ending_of r) v
 batch_ending (Ok u) v h ok err = (h, ok)
 batch_ending (Err f) v h ok err = batch_fault f v h err
 
-pub batch_cause : (r : Result (Unit {0}) LinesFault) (e : Ending) (v : Seen) (h : History) → e ≡ ending_of r → OnOk r (HasAnsweredInput account_answers empty_history h v) → IfErr r (λ f. ExplainsFault account_answers empty_history h f v)
+pub batch_cause : (r : Result (Unit {0}) LinesFault) (e : Ending) (v : Seen) (h : History) → e ≡ ending_of r → OnOk r (HasAnsweredInput account_answers account_uploads empty_history h v) → IfErr r (λ f. ExplainsFault account_answers account_uploads empty_history h f v)
     → Explains Batch e v
 batch_cause r e v h same ok err = subst (λ (x : Ending). Explains Batch x v) (sym same) (batch_ending r v h ok err)

@@ -9,14 +9,14 @@ use Rattle.jm_json.specs.Tree.{Tree}
 use Rattle.jm_json.specs.declared.invocation.Invocation.{Invocation}
 use Rattle.jm_json.specs.declared.invocation.Created.{Created}
 use Rattle.jm_json.specs.declared.invocation.Replied.{Replied}
-use Rattle.mail_records.specs.Histories.{History, Entry, Committed, Refused, account_after, edits_in, edits_of, entry_edits, grown, empty_history}
+use Rattle.mail_records.specs.Histories.{History, Entry, Committed, Refused, blobs_in, blobs_of, edits_in, edits_of, entry_blobs, entry_edits, grown, empty_history}
 use Rattle.mail_records.specs.declared.edits.Edit.{Edit}
 use Rattle.mail_records.specs.declared.edits.Stamp.{Stamp}
 use Rattle.method_batch.specs.Method.{core_capability, mail_capability}
 use Rattle.method_batch.specs.Request.{request_of, problem_in, uses}
 use Rattle.method_batch.specs.Prepared.{Preparation, refused, ready, preparation}
 use Rattle.method_batch.specs.Answer.{Asked, Runs, RepliesPrepared, RepliesAlone, Answers, after_reply, is_echo}
-use Rattle.method_batch.specs.Outcome.{IsAnswer, IsAnswerBy, IsRefusal, IsOutcomeBy, IsOutcomeUnless, beginning, response_tree}
+use Rattle.method_batch.specs.Outcome.{IsAnswer, IsAnswerBy, IsRefusal, IsOutcomeBy, IsOutcomeUnless, beginning, problem_tree, response_tree}
 use Rattle.method_batch.specs.declared.request.Request.{Request}
 use Rattle.method_batch.specs.declared.progress.Progress.{Progress}
 use Rattle.method_batch.specs.declared.outcome.Outcome.{Outcome}
@@ -25,22 +25,27 @@ use Rattle.method_batch.specs.declared.outcome.Problem.TheVariants.{TooLarge, No
 use Rattle.record_codec.specs.Sizes.{edit_bytes}
 use Rattle.account_book.specs.declared.limits.TheConstants.{MAX_EDIT_BYTES}
 use Rattle.account_book.specs.Replies.{IsReplyTo, IsWithin, commit_of, refusal}
-use Rattle.account_book.specs.declared.asks.Ask.TheVariants.{Method}
+use Rattle.account_book.specs.declared.asks.Ask.{Ask}
+use Rattle.account_book.specs.declared.asks.Call.{Call as TheCall}
 use Rattle.account_book.specs.declared.plans.Out.{Out}
 use Rattle.account_book.specs.declared.plans.Plan.{Plan}
 use Rattle.account_book.specs.declared.plans.Point.{Point}
+use Rattle.mail_calls.specs.BlobPlans.{has_room, upload_if, upload_plan}
 use Rattle.mail_calls.specs.Plans.{call_plan, method_plan, plan_by}
 use Rattle.mail_calls.specs.Methods.{method_named}
 use Rattle.mail_calls.specs.declared.methods.Method.{Method as MailMethod}
 use Rattle.mail_calls.specs.declared.methods.Method.TheVariants.{MailboxGet, MailboxSet}
 use Rattle.batch_lines.specs.Lines.{lines_of}
 use Rattle.batch_lines.specs.Replies.{AreReplies, IsLineReply, IsRequestReply, IsUploadReply, line_text}
-use Rattle.jmap_main.specs.Served.{AnswersUnless, error_alone, account_answers, account_error, asked, point_between, replied_of}
+use Rattle.batch_lines.specs.Uploads.{IsAnswerToBytes, IsRejected, IsUploaded, base64_bytes, limit_tree, upload_tree}
+use Rattle.batch_lines.specs.declared.upload.Uploaded.{Uploaded}
+use Rattle.jmap_main.specs.Served.{AnswersUnless, IsAccountAnswer, error_alone, account_answers, account_error, account_uploads, asked, asked_upload, point_between, replied_of, uploaded_of}
 use Rattle.jmap_main.specs.Stamps.{AreAlike, unstamped, unstamped_entry}
-use Rattle.jmap_main.proofs.Performed.{all_of, at_ends}
+use Rattle.jmap_main.proofs.Performed.{at_ends, unchanged}
 
-module _ {S : Type 0} (answers : S → Call → List Created → Replied → S → Type 0) (Alike : S → S → Type 0)
-    (one : (s t : S) (c : Call) (made : List Created) (r q : Replied) (s' t' : S) → Alike s t → answers s c made r s' → answers t c made q t' → (q ≡ r) × Alike s' t') where
+module _ {S : Type 0} (answers : S → Call → List Created → Replied → S → Type 0) (uploads : S → List ℕ → Uploaded → S → Type 0) (Alike : S → S → Type 0)
+    (one : (s t : S) (c : Call) (made : List Created) (r q : Replied) (s' t' : S) → Alike s t → answers s c made r s' → answers t c made q t' → (q ≡ r) × Alike s' t')
+    (one_upload : (s t : S) (bytes : List ℕ) (u v : Uploaded) (s' t' : S) → Alike s t → uploads s bytes u s' → uploads t bytes v t' → (v ≡ u) × Alike s' t') where
   runs_parts : (s : S) (xs ys : List Asked) (t : S) → Runs answers s (xs ++ ys) t → (m : S) × Runs answers s xs m × Runs answers m ys t
   runs_parts s [] ys t h = (s, refl, h)
   runs_parts s (x ∷ xs) ys t h = let r = runs_parts h.0 xs ys t h.2 in (r.0, (h.0, h.1, r.1), r.2)
@@ -107,18 +112,42 @@ module _ {S : Type 0} (answers : S → Call → List Created → Replied → S �
   answer_one true r s t m n o p alike h k = refused_one TooLarge s t m n o p alike h k
   answer_one false r s t m n o p alike h k = reading_one r s t m n o p alike h k
 
-  line_by : (plus : Bool) (line : List ℕ) (s t m n : S) (reply other : List ℕ) → Alike s t → cond plus (IsUploadReply s m reply) (IsRequestReply answers s m line reply) → cond plus (IsUploadReply t n other) (IsRequestReply answers t n line other)
+  rejected_one : (problem : Tree) (s t m n : S) (x y : Tree) → Alike s t → IsRejected s m problem x → IsRejected t n problem y → (y ≡ x) × Alike m n
+  rejected_one problem s t m n x y alike h k = (k.1 ∙ sym h.1, alike_same s t m n alike h.0 k.0)
+
+  uploaded_one : (bytes : List ℕ) (s t m n : S) (x y : Tree) → Alike s t → IsUploaded uploads s m bytes x → IsUploaded uploads t n bytes y → (y ≡ x) × Alike m n
+  uploaded_one bytes s t m n x y alike (u, did, is) (v, did', is') =
+      let both = one_upload s t bytes u v m n alike did did' in
+      (is' ∙ ap (upload_tree (length bytes)) both.0 ∙ sym is, both.1)
+
+  sized_one : (long : Bool) (bytes : List ℕ) (s t m n : S) (x y : Tree) → Alike s t
+      → cond long (IsRejected s m (limit_tree (codes "maxSizeUpload")) x) (IsUploaded uploads s m bytes x) → cond long (IsRejected t n (limit_tree (codes "maxSizeUpload")) y) (IsUploaded uploads t n bytes y) → (y ≡ x) × Alike m n
+  sized_one true bytes s t m n x y alike h k = rejected_one (limit_tree (codes "maxSizeUpload")) s t m n x y alike h k
+  sized_one false bytes s t m n x y alike h k = uploaded_one bytes s t m n x y alike h k
+
+  bytes_one : (o : Option (List ℕ)) (s t m n : S) (x y : Tree) → Alike s t → IsAnswerToBytes uploads s m o x → IsAnswerToBytes uploads t n o y → (y ≡ x) × Alike m n
+  bytes_one None s t m n x y alike h k = rejected_one (problem_tree NotRequest) s t m n x y alike h k
+  bytes_one (Some bytes) s t m n x y alike h k = sized_one (nat_lt 50000000 (length bytes)) bytes s t m n x y alike h k
+
+  string_one : (long : Bool) (string : List ℕ) (s t m n : S) (x y : Tree) → Alike s t
+      → cond long (IsRejected s m (limit_tree (codes "maxSizeUpload")) x) (IsAnswerToBytes uploads s m (base64_bytes string) x) → cond long (IsRejected t n (limit_tree (codes "maxSizeUpload")) y) (IsAnswerToBytes uploads t n (base64_bytes string) y) → (y ≡ x) × Alike m n
+  string_one true string s t m n x y alike h k = rejected_one (limit_tree (codes "maxSizeUpload")) s t m n x y alike h k
+  string_one false string s t m n x y alike h k = bytes_one (base64_bytes string) s t m n x y alike h k
+
+  line_by : (plus : Bool) (string line : List ℕ) (s t m n : S) (reply other : List ℕ) → Alike s t → cond plus (IsUploadReply uploads s m string reply) (IsRequestReply answers s m line reply) → cond plus (IsUploadReply uploads t n string other) (IsRequestReply answers t n line other)
       → (other ≡ reply) × Alike m n
-  line_by true line s t m n reply other alike h k = (k.1 ∙ sym h.1, alike_same s t m n alike h.0 k.0)
-  line_by false line s t m n reply other alike (o, did, is) (p, did', is') =
+  line_by true string line s t m n reply other alike (x, did, is) (y, did', is') =
+      let both = string_one (nat_lt 66666668 (length string)) string s t m n x y alike did did' in
+      (is' ∙ ap line_text both.0 ∙ sym is, both.1)
+  line_by false string line s t m n reply other alike (o, did, is) (p, did', is') =
       let both = answer_one (nat_lt 10000000 (length line)) (reading_of line) s t m n o p alike did did' in
       (is' ∙ ap line_text both.0 ∙ sym is, both.1)
 
-  line_one : (line : List ℕ) (s t m n : S) (reply other : List ℕ) → Alike s t → IsLineReply answers s m line reply → IsLineReply answers t n line other → (other ≡ reply) × Alike m n
+  line_one : (line : List ℕ) (s t m n : S) (reply other : List ℕ) → Alike s t → IsLineReply answers uploads s m line reply → IsLineReply answers uploads t n line other → (other ≡ reply) × Alike m n
   line_one [] s t m n reply other alike h k = (k.1 ∙ sym h.1, alike_same s t m n alike h.0 k.0)
-  line_one (x ∷ xs) s t m n reply other alike h k = line_by (x == 43) (x ∷ xs) s t m n reply other alike h k
+  line_one (x ∷ xs) s t m n reply other alike h k = line_by (x == 43) xs (x ∷ xs) s t m n reply other alike h k
 
-  pub lines_one : (lines : List (List ℕ)) (s t m n : S) (out other : List ℕ) → Alike s t → AreReplies answers s m lines out → AreReplies answers t n lines other → (other ≡ out) × Alike m n
+  pub lines_one : (lines : List (List ℕ)) (s t m n : S) (out other : List ℕ) → Alike s t → AreReplies answers uploads s m lines out → AreReplies answers uploads t n lines other → (other ≡ out) × Alike m n
   lines_one [] s t m n out other alike h k = (k.1 ∙ sym h.1, alike_same s t m n alike h.0 k.0)
   lines_one (l ∷ ls) s t m n out other alike (u, reply, more, did, rest, e) (v, reply', more', did', rest', f) =
       let first = line_one l s t u v reply reply' alike did did' in
@@ -135,6 +164,14 @@ edits_unstamped : (es : List Entry) → edits_in (map unstamped_entry es) ≡ ed
 edits_unstamped [] = refl
 edits_unstamped (e ∷ es) = ap₂ (λ (a b : List Edit). a ++ b) (edits_of_entry e) (edits_unstamped es)
 
+blobs_of_entry : (e : Entry) → entry_blobs (unstamped_entry e) ≡ entry_blobs e
+blobs_of_entry (Committed commit) = refl
+blobs_of_entry (Refused stamp) = refl
+
+blobs_unstamped : (es : List Entry) → blobs_in (map unstamped_entry es) ≡ blobs_in es
+blobs_unstamped [] = refl
+blobs_unstamped (e ∷ es) = ap₂ (λ (a b : List (List ℕ)). a ++ b) (blobs_of_entry e) (blobs_unstamped es)
+
 plan_by_unstamped : (h : History) (c : Call) (made : List Created) (read_only : Bool) (method : Option MailMethod)
     → plan_by (unstamped h) c made read_only 0 method ≡ plan_by h c made read_only 0 method
 plan_by_unstamped h c made read_only None = refl
@@ -149,6 +186,15 @@ plan_alike h k c made alike = sym (plan_unstamped k c made false) ∙ ap (λ (x 
 
 edits_alike : (h k : History) → AreAlike h k → edits_of k ≡ edits_of h
 edits_alike h k alike = sym (edits_unstamped k.entries) ∙ ap edits_of alike ∙ edits_unstamped h.entries
+
+blobs_alike : (h k : History) → AreAlike h k → blobs_of k ≡ blobs_of h
+blobs_alike h k alike =
+    let left : blobs_of (unstamped k) ≡ blobs_of k = ap (λ (bs : List (List ℕ)). k.base_blobs ++ bs) (blobs_unstamped k.entries) in
+    let right : blobs_of (unstamped h) ≡ blobs_of h = ap (λ (bs : List (List ℕ)). h.base_blobs ++ bs) (blobs_unstamped h.entries) in
+    sym left ∙ ap blobs_of alike ∙ right
+
+upload_alike : (h k : History) (bytes : List ℕ) → AreAlike h k → upload_plan k bytes ≡ upload_plan h bytes
+upload_alike h k bytes alike = ap (λ (bs : List (List ℕ)). upload_if (has_room (length bytes) bs) (length bs + 1) bytes) (blobs_alike h k alike)
 
 within_alike : (h k : History) (edits : List Edit) → AreAlike h k → IsWithin edit_bytes h edits → IsWithin edit_bytes k edits
 within_alike h k edits alike within = subst (λ (es : List Edit). edit_bytes es + edit_bytes edits ≤ MAX_EDIT_BYTES) (sym (edits_alike h k alike)) within
@@ -170,38 +216,53 @@ grown_alike h k p stamp other alike =
 alike_so : (h k h' k' : History) → AreAlike h k → h' ≡ h → k' ≡ k → AreAlike h' k'
 alike_so h k h' k' alike e f = ap unstamped f ∙ alike ∙ sym (ap unstamped e)
 
-plans_one : (p : Plan) (h k h' k' : History) (c : Call) (i j : Invocation) (point there : Point) (stamp other : Stamp) (out out' : Out) → AreAlike h k → call_of i ≡ c → call_of j ≡ c
+-- what is shown of the answers to two asks with one plan, if what is shown of their refusals is the same
+plans_one : {R : Type 0} (show : Out → R) (p : Plan) (h k h' k' : History) (x y : Ask) (point there : Point) (stamp other : Stamp) (out out' : Out) → AreAlike h k
+    → show (refusal (codes "serverUnavailable") y) ≡ show (refusal (codes "serverUnavailable") x)
     → (point.after ≡ point.before → h' ≡ h) → (there.after ≡ there.before → k' ≡ k)
-    → IsReplyTo p edit_bytes h h' point (Method i) stamp out → IsReplyTo p edit_bytes k k' there (Method j) other out' → (replied_of out' ≡ replied_of out) × AreAlike h' k'
-plans_one p h k h' k' c i j point there stamp other out out' alike is js stays halts (inl a) (inl b) = (ap replied_of (b.reply ∙ sym a.reply), alike_so h k h' k' alike (stays a.same) (halts b.same))
-plans_one p h k h' k' c i j point there stamp other out out' alike is js stays halts (inl a) (inr (inl b)) = absurd (b.some a.idle)
-plans_one p h k h' k' c i j point there stamp other out out' alike is js stays halts (inl a) (inr (inr b)) = absurd (b.some a.idle)
-plans_one p h k h' k' c i j point there stamp other out out' alike is js stays halts (inr (inl a)) (inl b) = absurd (a.some b.idle)
-plans_one p h k h' k' c i j point there stamp other out out' alike is js stays halts (inr (inl a)) (inr (inl b)) =
-    let same : call_of j ≡ call_of i = js ∙ sym is in
-    (ap replied_of b.reply ∙ ap (λ (x : Call). error_alone (codes "serverUnavailable") x) same ∙ sym (ap replied_of a.reply), alike_so h k h' k' alike (stays a.same) (halts b.same))
-plans_one p h k h' k' c i j point there stamp other out out' alike is js stays halts (inr (inl a)) (inr (inr b)) = absurd (a.past (within_alike k h p.edits (turned h k alike) b.within))
-plans_one p h k h' k' c i j point there stamp other out out' alike is js stays halts (inr (inr a)) (inl b) = absurd (a.some b.idle)
-plans_one p h k h' k' c i j point there stamp other out out' alike is js stays halts (inr (inr a)) (inr (inl b)) = absurd (b.past (within_alike h k p.edits alike a.within))
-plans_one p h k h' k' c i j point there stamp other out out' alike is js stays halts (inr (inr a)) (inr (inr b)) =
-    (ap replied_of (b.reply ∙ sym a.reply), ap unstamped b.grows ∙ grown_alike h k p stamp other alike ∙ sym (ap unstamped a.grows))
+    → IsReplyTo p edit_bytes h h' point x stamp out → IsReplyTo p edit_bytes k k' there y other out' → (show out' ≡ show out) × AreAlike h' k'
+plans_one show p h k h' k' x y point there stamp other out out' alike same stays halts (inl a) (inl b) = (ap show (b.reply ∙ sym a.reply), alike_so h k h' k' alike (stays a.same) (halts b.same))
+plans_one show p h k h' k' x y point there stamp other out out' alike same stays halts (inl a) (inr (inl b)) = absurd (b.some a.idle)
+plans_one show p h k h' k' x y point there stamp other out out' alike same stays halts (inl a) (inr (inr b)) = absurd (b.some a.idle)
+plans_one show p h k h' k' x y point there stamp other out out' alike same stays halts (inr (inl a)) (inl b) = absurd (a.some b.idle)
+plans_one show p h k h' k' x y point there stamp other out out' alike same stays halts (inr (inl a)) (inr (inl b)) =
+    (ap show b.reply ∙ same ∙ sym (ap show a.reply), alike_so h k h' k' alike (stays a.same) (halts b.same))
+plans_one show p h k h' k' x y point there stamp other out out' alike same stays halts (inr (inl a)) (inr (inr b)) = absurd (a.past (within_alike k h p.edits (turned h k alike) b.within))
+plans_one show p h k h' k' x y point there stamp other out out' alike same stays halts (inr (inr a)) (inl b) = absurd (a.some b.idle)
+plans_one show p h k h' k' x y point there stamp other out out' alike same stays halts (inr (inr a)) (inr (inl b)) = absurd (b.past (within_alike h k p.edits alike a.within))
+plans_one show p h k h' k' x y point there stamp other out out' alike same stays halts (inr (inr a)) (inr (inr b)) =
+    (ap show (b.reply ∙ sym a.reply), ap unstamped b.grows ∙ grown_alike h k p stamp other alike ∙ sym (ap unstamped a.grows))
+
+-- the answers to two calls whose plans are one
+answers_one : {R : Type 0} (show : Out → R) (h k h' k' : History) (x y : TheCall) (out out' : Out) → AreAlike h k → call_plan k y 0 ≡ call_plan h x 0
+    → show (refusal (codes "serverUnavailable") y.ask) ≡ show (refusal (codes "serverUnavailable") x.ask)
+    → IsAccountAnswer h x out h' → IsAccountAnswer k y out' k' → (show out' ≡ show out) × AreAlike h' k'
+answers_one show h k h' k' x y out out' alike plans same a b =
+    let p = call_plan h x 0 in
+    let first : IsReplyTo p edit_bytes h h' (point_between h h') x.ask a.stamp out = at_ends h h' x a.stamp out a.begins a.reply in
+    let second : IsReplyTo p edit_bytes k k' (point_between k k') y.ask b.stamp out' =
+    subst (λ (z : Plan). IsReplyTo z edit_bytes k k' (point_between k k') y.ask b.stamp out') plans (at_ends k k' y b.stamp out' b.begins b.reply) in
+    plans_one show p h k h' k' x.ask y.ask (point_between h h') (point_between k k') a.stamp b.stamp out out' alike same (unchanged h h' a.begins) (unchanged k k' b.begins) first second
 
 by_error : (e : Option (List ℕ)) (h k : History) (c : Call) (made : List Created) (r q : Replied) (h' k' : History) → AreAlike h k → AnswersUnless e h c made r h' → AnswersUnless e k c made q k' → (q ≡ r) × AreAlike h' k'
 by_error (Some kind) h k c made r q h' k' alike a b = (b.1 ∙ sym a.1, alike_so h k h' k' alike a.0 b.0)
 by_error None h k c made r q h' k' alike a b =
-    let p = method_plan h c made false 0 in
-    let first : IsReplyTo p edit_bytes h h' (point_between h h') (Method a.call) a.stamp a.out = subst (λ (x : Call). IsReplyTo (method_plan h x made false 0) edit_bytes h h' (point_between h h') (Method a.call) a.stamp a.out) a.same (at_ends h h' a.call made a.stamp a.out a.begins a.reply) in
-    let then : IsReplyTo (method_plan k c made false 0) edit_bytes k k' (point_between k k') (Method b.call) b.stamp b.out = subst (λ (x : Call). IsReplyTo (method_plan k x made false 0) edit_bytes k k' (point_between k k') (Method b.call) b.stamp b.out) b.same (at_ends k k' b.call made b.stamp b.out b.begins b.reply) in
-    let second : IsReplyTo p edit_bytes k k' (point_between k k') (Method b.call) b.stamp b.out = subst (λ (x : Plan). IsReplyTo x edit_bytes k k' (point_between k k') (Method b.call) b.stamp b.out) (plan_alike h k c made alike) then in
-    let both = plans_one p h k h' k' c a.call b.call (point_between h h') (point_between k k') a.stamp b.stamp a.out b.out alike a.same b.same
-    (λ same. sym (all_of h' (length h'.entries) refl) ∙ ap (account_after h') same ∙ a.begins) (λ same. sym (all_of k' (length k'.entries) refl) ∙ ap (account_after k') same ∙ b.begins) first second in
+    let calls : call_of b.call ≡ call_of a.call = b.same ∙ sym a.same in
+    let plans : method_plan k (call_of b.call) made false 0 ≡ method_plan h (call_of a.call) made false 0 =
+    ap (λ (x : Call). method_plan k x made false 0) calls ∙ plan_alike h k (call_of a.call) made alike in
+    let both = answers_one replied_of h k h' k' (asked a.call made) (asked b.call made) a.out b.out alike plans (ap (λ (x : Call). error_alone (codes "serverUnavailable") x) calls) a.answer b.answer in
+    (b.shown ∙ both.0 ∙ sym a.shown, both.1)
+
+upload_one : (h k : History) (bytes : List ℕ) (u v : Uploaded) (h' k' : History) → AreAlike h k → account_uploads h bytes u h' → account_uploads k bytes v k' → (v ≡ u) × AreAlike h' k'
+upload_one h k bytes u v h' k' alike a b =
+    let both = answers_one uploaded_of h k h' k' (asked_upload bytes) (asked_upload bytes) a.out b.out alike (upload_alike h k bytes alike) refl a.answer b.answer in
     (b.shown ∙ both.0 ∙ sym a.shown, both.1)
 
 account_one : (h k : History) (c : Call) (made : List Created) (r q : Replied) (h' k' : History) → AreAlike h k → account_answers h c made r h' → account_answers k c made q k' → (q ≡ r) × AreAlike h' k'
 account_one h k c made r q h' k' alike a b = by_error (account_error c) h k c made r q h' k' alike a b
 
-pub account_lines : (lines : List (List ℕ)) (out other : List ℕ) (h h' k k' : History) → AreAlike h k → AreReplies account_answers h h' lines out → AreReplies account_answers k k' lines other → (other ≡ out) × AreAlike h' k'
-account_lines lines out other h h' k k' alike a b = lines_one account_answers AreAlike account_one lines h k h' k' out other alike a b
+pub account_lines : (lines : List (List ℕ)) (out other : List ℕ) (h h' k k' : History) → AreAlike h k → AreReplies account_answers account_uploads h h' lines out → AreReplies account_answers account_uploads k k' lines other → (other ≡ out) × AreAlike h' k'
+account_lines lines out other h h' k k' alike a b = lines_one account_answers account_uploads AreAlike account_one upload_one lines h k h' k' out other alike a b
 
-pub account_output : (input out other : List ℕ) (h k : History) → AreReplies account_answers empty_history h (lines_of input) out → AreReplies account_answers empty_history k (lines_of input) other → other ≡ out
+pub account_output : (input out other : List ℕ) (h k : History) → AreReplies account_answers account_uploads empty_history h (lines_of input) out → AreReplies account_answers account_uploads empty_history k (lines_of input) other → other ≡ out
 account_output input out other h k a b = (account_lines (lines_of input) out other empty_history h empty_history k refl a b).0

@@ -1,11 +1,11 @@
 -- What `read` writes for the message that it reads: the line of what a client is shown of it.
 use Rattle.std.specs.Prelude.{ℕ, List, true, None, codes}
 use Rattle.jm_json.specs.Tree.{Tree, null}
-use Rattle.mail_view.specs.Arguments.{Reading, invalid, asked, read_arguments, wanted_in}
+use Rattle.get_args.specs.Wanted.{Reading, invalid, asked, read_arguments, wanted_in}
 use Rattle.mail_view.specs.View.{view_tree}
 use Rattle.batch_lines.specs.Replies.{line_text}
 
--- A message is shown as the blob b1, and as no email. The arguments have their form (`arguments_of_read_are_taken` of mail_view).
+-- A message is shown as the blob b1, and as no email. The arguments have their form (`arguments_of_read_are_taken` of get_args).
 abbrev pub shown_by : List ℕ → Reading → Tree
 shown_by bytes (invalid name) = null
 shown_by bytes (asked wanted) = view_tree bytes (codes "b1") None wanted

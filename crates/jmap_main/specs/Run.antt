@@ -3,7 +3,7 @@ use Rattle.std.specs.Prelude.{◌≡◌, ◌⊎◌, ℕ, ◌<◌, ◌≤◌, Lis
 use Rattle.mail_records.specs.Histories.{History, empty_history}
 use Rattle.batch_lines.specs.Input.{Seen, HasRead, HasWritten, HasReadAll, HasAnsweredInput, HasAnsweredEnded, HasAnsweredWithin, HasBegunInput}
 use Rattle.jmap_main.specs.Read.{read_out}
-use Rattle.jmap_main.specs.Served.{account_answers, account_stops}
+use Rattle.jmap_main.specs.Served.{account_answers, account_halts, account_stops, account_uploads}
 use Rattle.jmap_main.specs.declared.read.TheConstants.{MAX_MESSAGE_BYTES}
 use Rattle.jmap_main.specs.declared.words.Command.{Command}
 use Rattle.jmap_main.specs.declared.words.Command.TheVariants.{Batch, Read}
@@ -35,19 +35,19 @@ HasBegunMessage v =
 -- the end
 
 abbrev pub HasAnswered : Command → Seen → Type 0
-HasAnswered Batch v = (h : History) × HasAnsweredInput account_answers empty_history h v
+HasAnswered Batch v = (h : History) × HasAnsweredInput account_answers account_uploads empty_history h v
 HasAnswered Read v = HasShownMessage v
 
 abbrev pub HasAnsweredBeforeFault : Command → Seen → Type 0
-HasAnsweredBeforeFault Batch v = (h : History) × HasAnsweredEnded account_answers empty_history h v
+HasAnsweredBeforeFault Batch v = (h : History) × HasAnsweredEnded account_answers account_uploads empty_history h v
 HasAnsweredBeforeFault Read v = HasShownNothing v
 
 abbrev pub HasAnsweredBeforeLimit : Command → Seen → Type 0
-HasAnsweredBeforeLimit Batch v = (h : History) × HasAnsweredWithin account_answers empty_history h v
+HasAnsweredBeforeLimit Batch v = (h : History) × HasAnsweredWithin account_answers account_uploads empty_history h v
 HasAnsweredBeforeLimit Read v = HasShownNone v
 
 abbrev pub HasBegun : Command → Seen → Type 0
-HasBegun Batch v = (h : History) × HasBegunInput account_answers account_stops empty_history h v
+HasBegun Batch v = (h : History) × HasBegunInput account_answers account_uploads account_stops account_halts empty_history h v
 HasBegun Read v = HasBegunMessage v
 
 -- ---- by the arguments of the command line: where they name no command, nothing is read or written

@@ -4,10 +4,11 @@ ghost use Rattle.jm_json.specs.Json.{tree_of};
 ghost use Rattle.jm_json.specs.Invoked.{call_of};
 ghost use Rattle.jm_json.specs.Call.{error_of};
 ghost use Rattle.mail_records.specs.Histories.{empty_history};
-ghost use Rattle.jmap_main.specs.Served.{IsPerformed, account_error, from_error, is_account, is_copy, replied_of, text_in, to_error};
+ghost use Rattle.jmap_main.specs.Served.{IsAccountAnswer, IsPerformed, IsUploaded, account_error, account_id, from_error, is_account, is_copy, replied_of, text_in, to_error, uploaded_of};
 
 use account_book::{Ask, Book, Call, Out};
-use jm_base::{NoMemory, Sequence};
+use batch_lines::{UploadPort, Uploaded};
+use jm_base::{Bytes, NoMemory, Sequence, Text};
 use jm_json::{Created, Invocation, Invocations, Json, Made, Replied};
 use mail_calls::MailRules;
 use mail_records::Stamp;
@@ -50,20 +51,62 @@ impl AccountPort {
         }
     }
 
-    // Performs a call on the account.
+    // Asks the account.
+    fn ask(&mut self, alloc: Global, call: &Call) -> Result<Out, NoMemory>
+        ensures answered { IfOk result (λ out. IsAccountAnswer self.old call.now out self.new) }
+        ensures same { OnErr result (self.new ≡ self.old) }
+    {
+        let stamp = self.stamp();
+        match self.book.perform(alloc, call, stamp, 0) {
+            Ok(done) => return Ok(done.out),
+            Err(refused) => return Err(refused),
+        }
+    }
+
+    // Performs a method on the account.
     fn perform(&mut self, alloc: Global, call: Invocation, made: Made) -> Result<Replied, NoMemory>
         ensures performed { IfOk result (λ r. IsPerformed self.old (call_of call) made r self.new) }
         ensures same { OnErr result (self.new ≡ self.old) }
     {
-        let stamp = self.stamp();
         let call = Call {
             ask: Ask::Method(call),
             made,
             read_only: false,
         };
-        match self.book.perform(alloc, &call, stamp, 0) {
-            Ok(done) => Ok(replied_of(alloc, done.out)),
+        match self.ask(alloc, &call) {
+            Ok(out) => Ok(replied_of(alloc, out)),
             Err(refused) => Err(refused),
+        }
+    }
+
+    // Uploads bytes to the account, whose identifier is given.
+    fn keep(&mut self, alloc: Global, account: Text, bytes: Bytes) -> Result<Uploaded, NoMemory>
+        requires account { account ≡ account_id }
+        ensures uploaded { IfOk result (λ u. IsUploaded self.old bytes u self.new) }
+        ensures same { OnErr result (self.new ≡ self.old) }
+    {
+        let call = Call {
+            ask: Ask::Upload(bytes),
+            made: Made::new(alloc),
+            read_only: false,
+        };
+        match self.ask(alloc, &call) {
+            Ok(out) => Ok(uploaded_of(account, out)),
+            Err(refused) => Err(refused),
+        }
+    }
+}
+
+// What is answered where an upload is asked: the blob is that of the account with this identifier.
+fn uploaded_of(account: Text, out: Out) -> Uploaded
+    requires account { account ≡ account_id }
+    ensures { result ≡ uploaded_of out }
+{
+    match out {
+        Out::Uploaded(blob) => Uploaded::Kept { account, blob },
+        Out::Full => Uploaded::Full,
+        Out::Replies(_) | Out::Failed | Out::Blob(_) | Out::Carried(_) | Out::States { .. } => {
+            Uploaded::Failed
         }
     }
 }
@@ -144,7 +187,8 @@ fn from_error(from: Option<&str>) -> &'static str
 }
 
 fn to_error(copies: bool, from: Option<&str>, to: Option<&str>) -> Option<&'static str>
-    ensures { option_map (λ t. t.now) result ≡ to_error copies (option_map (λ t. t.now) from.entry) (option_map (λ t. t.now) to.entry) }
+    ensures { option_map (λ t. t.now) result ≡ to_error copies (option_map
+        (λ t. t.now) from.entry) (option_map (λ t. t.now) to.entry) }
 {
     match to {
         None => Some("invalidArguments"),
@@ -171,7 +215,8 @@ fn account_error(call: &Invocation) -> Option<&'static str>
 
 // The reply that is one error.
 fn error_reply(alloc: Global, kind: &str, call: &Invocation) -> Result<Replied, NoMemory>
-    ensures { IfOk result (λ r. r ≡ record { responses = error_of kind.now call.now.id ∷ []; made = [] }) }
+    ensures { IfOk result
+        (λ r. r ≡ record { responses = error_of kind.now call.now.id ∷ []; made = [] }) }
 {
     let mut responses = Invocations::new(alloc);
     responses.push(Invocation::error(alloc, kind, call.id.copy()?)?)?;
@@ -196,5 +241,21 @@ impl Port for AccountPort {
             Some(kind) => error_reply(alloc, kind, call),
             None => self.perform(alloc, call.copy(alloc)?, copy_made(alloc, made)?),
         }
+    }
+}
+
+impl UploadPort for AccountPort {
+    ghost use Rattle.std.specs.Prelude.{refl};
+    ghost use Rattle.jmap_main.specs.Served.{account_halts, account_uploads};
+
+    ghost uploads = { account_uploads };
+
+    ghost halts = { account_halts };
+
+    ghost rests = { λ s bytes. refl };
+
+    fn upload(&mut self, alloc: Global, bytes: Bytes) -> Result<Uploaded, NoMemory> {
+        let account = Text::from_str(alloc, ACCOUNT)?;
+        self.keep(alloc, account, bytes)
     }
 }

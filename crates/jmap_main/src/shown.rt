@@ -5,9 +5,10 @@ ghost use Rattle.batch_lines.specs.Replies.{line_text};
 ghost use Rattle.jmap_main.specs.Read.{read_tree, read_out};
 
 use batch_lines::append_line;
+use get_args::wanted_for_read;
 use jm_base::{Bytes, NoMemory};
 use jm_json::Json;
-use mail_view::{view, wanted_for_read};
+use mail_view::view;
 use std::alloc::Global;
 
 /// The line of a message: what a client is shown of it where it asks for no properties, its structure, and the texts that are

@@ -1,10 +1,13 @@
--- What the methods of mail plan (RFC 8621). Mailbox/get and creating by Mailbox/set are built.
+-- What calls on a mail account plan (RFC 8620, 6; RFC 8621). Of the methods Mailbox/get and
+-- creating by Mailbox/set are built.
 use Rattle.std.specs.Prelude.{ℕ, List, [], ◌∷◌, Bool, codes, Option, Some, None}
 use Rattle.jm_json.specs.Call.{Call as Invocation, error_of}
 use Rattle.jm_json.specs.Invoked.{call_of}
 use Rattle.jm_json.specs.Tree.{Tree}
 use Rattle.jm_json.specs.declared.invocation.Created.{Created}
-use Rattle.mail_records.specs.Histories.{History}
+use Rattle.jm_base.specs.declared.identifiers.Kind.TheVariants.{Mailbox as OfMailbox, Email as OfEmail, Thread as OfThread}
+use Rattle.mail_records.specs.Histories.{History, blobs_of}
+use Rattle.mail_records.specs.States.{state_of}
 use Rattle.mail_view.specs.Gets.{Got, invalid, too_large, got, get_in}
 use Rattle.mail_counts.specs.Plans.{Ground, ground_of_history}
 use Rattle.mailbox_set.specs.Plans.{Outcome, set_outcome}
@@ -12,8 +15,11 @@ use Rattle.mailbox_set.specs.Plans as sets
 use Rattle.account_book.specs.declared.asks.Ask.{Ask}
 use Rattle.account_book.specs.declared.asks.Ask.TheVariants.{Method, Upload, Blob, Fetch, Place, States}
 use Rattle.account_book.specs.declared.asks.Call.{Call}
+use Rattle.account_book.specs.declared.plans.Out.{Out}
 use Rattle.account_book.specs.declared.plans.Out.TheVariants.{Replies}
+use Rattle.account_book.specs.declared.plans.Out.TheVariants as out
 use Rattle.account_book.specs.declared.plans.Plan.{Plan}
+use Rattle.mail_calls.specs.BlobPlans.{bytes_named, upload_plan}
 use Rattle.mail_calls.specs.Methods.{method_named}
 use Rattle.mail_calls.specs.declared.methods.Method.{Method as MailMethod}
 use Rattle.mail_calls.specs.declared.methods.Method.TheVariants.{MailboxGet, MailboxSet}
@@ -21,6 +27,10 @@ use Rattle.mail_calls.specs.declared.methods.Method.TheVariants.{MailboxGet, Mai
 -- nothing is answered, and nothing changed
 abbrev pub silent : Plan
 silent = record { out = Replies (record { responses = []; made = [] }); blobs = []; edits = [] }
+
+-- this is answered, and nothing changed
+abbrev pub reading : Out → Plan
+reading answer = record { out = answer; blobs = []; edits = [] }
 
 -- one response, and nothing made or changed
 abbrev pub answered : Invocation → Plan
@@ -51,8 +61,9 @@ set_plan c (sets.planned p) = record { out = Replies (record { responses = respo
 abbrev pub ground_in : History → Ground
 ground_in h = ground_of_history h
 
--- The plan of a method of mail, or of a name that is none's: over an account with this history, with
--- what the request has made so far, of a user to whom the account is read-only or not, at a moment.
+-- The plan of a method of mail, or of a name that is none's: over an account with this history,
+-- with what the request has made so far, of a user to whom the account is read-only or not, at a
+-- moment.
 abbrev pub plan_by : History → Invocation → List Created → Bool → ℕ → Option MailMethod → Plan
 plan_by h c made read_only moment None = refused c (codes "unknownMethod")
 plan_by h c made read_only moment (Some MailboxGet) = get_plan c (get_in h c.args read_only)
@@ -64,14 +75,15 @@ abbrev pub method_plan : History → Invocation → List Created → Bool → �
 method_plan h c made read_only moment =
     plan_by h c made read_only moment (method_named c.name)
 
--- of what is asked, methods alone are built
+-- The plan of what is asked. Both sides of an Email/copy are not built.
 abbrev pub ask_plan : History → Ask → List Created → Bool → ℕ → Plan
 ask_plan h (Method c) made read_only moment = method_plan h (call_of c) made read_only moment
-ask_plan h (Upload bytes) made read_only moment = silent
-ask_plan h (Blob name) made read_only moment = silent
+ask_plan h (Upload bytes) made read_only moment = upload_plan h bytes
+ask_plan h (Blob name) made read_only moment = reading (out.Blob (bytes_named (blobs_of h) name))
 ask_plan h (Fetch c) made read_only moment = silent
 ask_plan h (Place c carried) made read_only moment = silent
-ask_plan h States made read_only moment = silent
+ask_plan h States made read_only moment =
+    reading (out.States (state_of h OfMailbox) (state_of h OfEmail) (state_of h OfThread))
 
 -- what a call plans at a moment, in seconds since the beginning of 1970
 abbrev pub call_plan : History → Call → ℕ → Plan

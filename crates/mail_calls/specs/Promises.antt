@@ -22,7 +22,8 @@ use Rattle.mail_counts.proofs.Growth.{IsTidy-empty}
 use Rattle.mail_counts.proofs.Kept.{emails-after_edits}
 use Rattle.record_codec.specs.Sizes.{edit_bytes}
 use Rattle.record_codec.proofs.Lengths.{edit_bytes-append}
-use Rattle.account_book.specs.Accounts.{AreBlobsFew, without_refusals}
+use Rattle.blob_store.specs.Blobs.{AreBlobsFew}
+use Rattle.account_book.specs.Accounts.{without_refusals}
 use Rattle.account_book.specs.Laws.{IsFounded-without_refusals, IsFounded-with_refusals, edits_of-without_refusals, blobs_of-without_refusals, edit_bytes-moved_up}
 use Rattle.account_book.specs.Plans.{IsPlanFor}
 use Rattle.account_book.specs.Replies.{IsWithin, commit_of}
@@ -31,92 +32,50 @@ use Rattle.account_book.specs.declared.asks.Ask.{Ask}
 use Rattle.account_book.specs.declared.asks.Ask.TheVariants.{Method, Upload, Blob, Fetch, Place, States}
 use Rattle.account_book.specs.declared.asks.Call.{Call}
 use Rattle.account_book.specs.declared.plans.Plan.{Plan}
+use Rattle.mail_calls.specs.BlobPlans.{has_room, upload_if}
 use Rattle.mail_calls.specs.Plans.{call_plan, ask_plan}
-use Rattle.mail_calls.specs.Whole.{IsWhole, HasMessage}
-use Rattle.mail_calls.specs.Kept.{IsNew, Keeps, call_keeps}
-
--- valid, with the summaries that messages have
-abbrev pub IsWholeMail : History → Type 0
-IsWholeMail h = IsWhole summary h
-
-plan_keeps_tidy : (h : History) (call : Call) (moment : ℕ) → IsWholeMail h → Keeps (content_of h) (call_plan h call moment)
-plan_keeps_tidy h call moment whole = call_keeps h call moment whole.tidy
+use Rattle.mail_calls.specs.Whole.{IsWhole}
+use Rattle.mail_calls.specs.Keeping.{IsWholeMail, Keeps, grown_whole}
+use Rattle.mail_calls.specs.Kept.{call_keeps}
+use Rattle.plan_promises.specs.Messages.{HasMessage}
 
 -- ---- of a plan
 
-pub plan_fits : (h : History) (call : Call) (moment : ℕ) → IsWholeMail h → AllFit (content_of h) (call_plan h call moment).edits
-plan_fits h call moment whole = (plan_keeps_tidy h call moment whole).fits
+pub plan_fits : (h : History) (call : Call) (moment : ℕ) → IsWholeMail h
+    → AllFit (content_of h) (call_plan h call moment).edits
+plan_fits h call moment whole = (call_keeps h call moment whole).fits
 
-small_new : (e : Edit) → IsNew e → IsSmall e
-small_new e new = subst IsSmall (sym new.1) tt
+pub plan_small : (h : History) (call : Call) (moment : ℕ) → IsWholeMail h
+    → AllByRecursion IsSmall (call_plan h call moment).edits
+plan_small h call moment whole = (call_keeps h call moment whole).small
 
-pub plan_small : (h : History) (call : Call) (moment : ℕ) → IsWholeMail h → AllByRecursion IsSmall (call_plan h call moment).edits
-plan_small h call moment whole = all_map IsNew IsSmall (call_plan h call moment).edits small_new (plan_keeps_tidy h call moment whole).new
+pub plan_formed : (h : History) (call : Call) (moment : ℕ) (stamp : Stamp) → IsWholeMail h
+    → IsFormed (commit_of (call_plan h call moment) stamp)
+plan_formed h call moment stamp whole = (call_keeps h call moment whole).formed
 
-formed_new : (e : Edit) → IsNew e → IsFormedEdit e
-formed_new e new = subst IsFormedEdit (sym new.1) tt
+pub plan_keeps : (h : History) (call : Call) (moment : ℕ) (stamp : Stamp) → IsWholeMail h
+    → IsWithin edit_bytes h (call_plan h call moment).edits
+    → IsWholeMail (grown h (Committed (commit_of (call_plan h call moment) stamp)))
+plan_keeps h call moment stamp whole within = grown_whole h (call_plan h call moment) stamp whole (call_keeps h call moment whole) within
 
-pub plan_formed : (h : History) (call : Call) (moment : ℕ) (stamp : Stamp) → IsWholeMail h → IsFormed (commit_of (call_plan h call moment) stamp)
-plan_formed h call moment stamp whole = all_map IsNew IsFormedEdit (call_plan h call moment).edits formed_new (plan_keeps_tidy h call moment whole).new
+upload_reads : (b : Bool) (number : ℕ) (bytes : List ℕ) → (upload_if b number bytes).edits ≡ []
+upload_reads true number bytes = refl
+upload_reads false number bytes = refl
 
-ask_reads : (h : History) (ask : Ask) (call : Call) (moment : ℕ) → IsPlanFor ask (ask_plan h ask call.made call.read_only moment)
+ask_reads : (h : History) (ask : Ask) (call : Call) (moment : ℕ)
+    → IsPlanFor ask (ask_plan h ask call.made call.read_only moment)
 ask_reads h (Method c) call moment = tt
-ask_reads h (Upload bytes) call moment = refl
+ask_reads h (Upload bytes) call moment = upload_reads (has_room (length bytes) (blobs_of h)) (length (blobs_of h) + 1) bytes
 ask_reads h (Blob name) call moment = (refl, refl)
 ask_reads h (Fetch c) call moment = (refl, refl)
 ask_reads h (Place c carried) call moment = tt
 ask_reads h States call moment = (refl, refl)
 
-pub plan_reads : (h : History) (call : Call) (moment : ℕ) → IsPlanFor call.ask (call_plan h call moment)
+pub plan_reads : (h : History) (call : Call) (moment : ℕ)
+    → IsPlanFor call.ask (call_plan h call moment)
 plan_reads h call moment = ask_reads h call.ask call moment
 
 -- ---- of an account that grows by a plan's commit
-
-names_new : (thread_of : ℕ → ℕ) (e : Edit) → IsNew e → NamesThread thread_of e
-names_new thread_of e new = subst (NamesThread thread_of) (sym new.1) tt
-
-leaves_new : (e : Edit) → IsNew e → LeavesEmails e
-leaves_new e new = subst LeavesEmails (sym new.1) refl
-
-all_append : {A : Type 0} (P : A → Type 0) (xs ys : List A) → AllByRecursion P xs → AllByRecursion P ys → AllByRecursion P (xs ++ ys)
-all_append P [] ys h k = k
-all_append P (x ∷ xs) ys h k = (h.0, all_append P xs ys h.1 k)
-
-sound_grown : (h : History) (c : Commit) → IsSound h → AllFit (content_of h) c.edits → AllByRecursion IsNew c.edits → IsSound (grown h (Committed c))
-sound_grown h c sound fit new =
-    let all : edits_of h ++ c.edits ≡ edits_of (grown h (Committed c)) = sym (edits_of-grown h (Committed c)) in
-    let one = sound.one_thread in
-    let named : AllByRecursion (NamesThread one.0) (edits_of h ++ c.edits) =
-    all_append (NamesThread one.0) (edits_of h) c.edits one.1.in_edits (all_map IsNew (NamesThread one.0) c.edits (names_new one.0) new) in
-    record {
-      fits = subst (AllFit h.base) all (AllFit-append (edits_of h) c.edits h.base sound.fits fit);
-      one_thread = (one.0, record { in_base = one.1.in_base; in_edits = subst (AllByRecursion (NamesThread one.0)) all named });
-    }
-
-grown_whole : (summary : List ℕ → Summary) (h : History) (p : Plan) (stamp : Stamp) → IsWhole summary h → Keeps (content_of h) p → IsWithin edit_bytes h p.edits
-    → IsWhole summary (grown h (Committed (commit_of p stamp)))
-grown_whole summary h p stamp w keep within =
-    let g = grown h (Committed (commit_of p stamp)) in
-    let content : content_of g ≡ after_edits (content_of h) p.edits = content_of-grown h (Committed (commit_of p stamp)) in
-    let blobs : blobs_of g ≡ blobs_of h = blobs_of-grown h (Committed (commit_of p stamp)) ∙ ap (λ bs. blobs_of h ++ bs) keep.blobs ∙ append-nil (blobs_of h) in
-    let emails : (content_of g).emails ≡ (content_of h).emails =
-    ap (λ (c : Content). c.emails) content ∙ emails-after_edits p.edits (content_of h) (all_map IsNew LeavesEmails p.edits leaves_new keep.new) in
-    let edits : edit_bytes (edits_of g) ≡ edit_bytes (edits_of h) + edit_bytes p.edits = ap edit_bytes (edits_of-grown h (Committed (commit_of p stamp))) ∙ edit_bytes-append (edits_of h) p.edits in
-    let last : end_of g ≡ end_of h + length p.edits = end_of-grown h (Committed (commit_of p stamp)) in
-    let next : NextAtMost ((end_of h + 1) + length p.edits) (after_edits (content_of h) p.edits) = NextAtMost-after_edits p.edits (end_of h + 1) (content_of h) keep.fits w.next in
-    let same : (end_of h + 1) + length p.edits ≡ end_of g + 1 = omega (arith, last) in
-    record {
-      founded = IsFounded-grown_by h (Committed (commit_of p stamp) ∷ []) w.founded;
-      sound = sound_grown h (commit_of p stamp) w.sound keep.fits keep.new;
-      tidy = subst IsTidy (sym content) keep.tidy;
-      messages = subst (λ (bs : List (List ℕ)). AllByRecursion (HasMessage summary bs) (content_of g).emails) (sym blobs) (subst (AllByRecursion (HasMessage summary (blobs_of h))) (sym emails) w.messages);
-      blobs = subst AreBlobsFew (sym blobs) w.blobs;
-      limit = omega (arith, edits, within);
-      next = subst (λ (c : Content). NextAtMost (end_of g + 1) c) (sym content) (subst (λ n. NextAtMost n (after_edits (content_of h) p.edits)) same next);
-    }
-
-pub plan_keeps : (h : History) (call : Call) (moment : ℕ) (stamp : Stamp) → IsWholeMail h → IsWithin edit_bytes h (call_plan h call moment).edits → IsWholeMail (grown h (Committed (commit_of (call_plan h call moment) stamp)))
-plan_keeps h call moment stamp whole within = grown_whole summary h (call_plan h call moment) stamp whole (plan_keeps_tidy h call moment whole) within
 
 -- ---- of each valid account
 
@@ -134,7 +93,8 @@ whole_blobs h whole = whole.blobs
 
 -- ---- a floor that moves up
 
-pub whole_moves : (h : History) (c : ℕ) → end_after h c ≤ 2 ^ 52 → IsWholeMail h → IsWholeMail (moved_up h c)
+pub whole_moves : (h : History) (c : ℕ) → end_after h c ≤ 2 ^ 52 → IsWholeMail h
+    → IsWholeMail (moved_up h c)
 whole_moves h c low w =
     let content : content_of h ≡ content_of (moved_up h c) = sym (content_of-moved_up h c) in
     let blobs : blobs_of h ≡ blobs_of (moved_up h c) = sym (blobs_of-moved_up h c) in
@@ -154,7 +114,9 @@ whole_moves h c low w =
 -- ---- refusals have no part
 
 -- two histories with one floor, one base, the same edits and the same blobs
-same_whole : (summary : List ℕ → Summary) (h g : History) → IsFounded g → h.floor ≡ g.floor → h.base ≡ g.base → edits_of h ≡ edits_of g → blobs_of h ≡ blobs_of g → IsWhole summary h → IsWhole summary g
+same_whole : (summary : List ℕ → Summary) (h g : History) → IsFounded g → h.floor ≡ g.floor
+    → h.base ≡ g.base → edits_of h ≡ edits_of g → blobs_of h ≡ blobs_of g → IsWhole summary h
+    → IsWhole summary g
 same_whole summary h g founded floor base edits blobs w =
     let one = w.sound.one_thread in
     let content : content_of h ≡ content_of g = ap₂ after_edits base edits in

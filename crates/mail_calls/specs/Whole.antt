@@ -1,26 +1,15 @@
 -- When an account is valid: its history is founded and sound, its records are tidy, its emails are those of its blobs, and it
 -- is within the limits. What is kept of a message besides its bytes is a parameter.
-use Rattle.std.specs.Prelude.{◌≡◌, ℕ, ◌+◌, ◌-◌, ◌≤◌, List, [], length, slice_index_or}
+use Rattle.std.specs.Prelude.{ℕ, ◌+◌, ◌≤◌, List}
 use Rattle.std.specs.List.{AllByRecursion}
-use Rattle.mail_records.specs.Contents.{Content, NextAtMost}
+use Rattle.mail_records.specs.Contents.{NextAtMost}
 use Rattle.mail_records.specs.Histories.{History, IsFounded, IsSound, edits_of, content_of, blobs_of, end_of}
-use Rattle.mail_records.specs.declared.records.Email.{Email}
 use Rattle.mail_records.specs.declared.records.Summary.{Summary}
 use Rattle.mail_counts.specs.Tidy.{IsTidy}
 use Rattle.record_codec.specs.Sizes.{edit_bytes}
-use Rattle.account_book.specs.Accounts.{AreBlobsFew}
+use Rattle.blob_store.specs.Blobs.{AreBlobsFew}
 use Rattle.account_book.specs.declared.limits.TheConstants.{MAX_EDIT_BYTES}
-
--- the bytes are the email's message: it has their size and their summary
-pub record IsMessageOf (summary : List ℕ → Summary) (e : Email) (bytes : List ℕ) : Type 0 where
-  pub size : e.size ≡ length bytes
-  pub summary_is : e.summary ≡ summary bytes
-
--- an email names a blob, which is its message; blobs are counted from 1
-pub record HasMessage (summary : List ℕ → Summary) (blobs : List (List ℕ)) (e : Email) : Type 0 where
-  pub from_one : 1 ≤ e.blob
-  pub there : e.blob ≤ length blobs
-  pub message : IsMessageOf summary e (slice_index_or blobs (e.blob - 1) [])
+use Rattle.plan_promises.specs.Messages.{HasMessage}
 
 -- an account with this history is valid
 pub record IsWhole (summary : List ℕ → Summary) (h : History) : Type 0 where

@@ -1,6 +1,7 @@
 //! The rules of a mail account: what each method plans over its history (RFC 8621), and when the account is valid.
 #![tactic(auto)]
 
+mod blobs;
 mod methods;
 mod plans;
 mod rules;

@@ -7,6 +7,7 @@ ghost use Rattle.mailbox_set.specs.Plans.{set_outcome};
 ghost use Rattle.mail_calls.specs.Plans.{answered, get_plan, ground_in, method_plan, refused, response_to, set_plan, silent};
 ghost use Rattle.account_book.specs.Accounts.{IsBounded};
 
+use crate::blobs::plan_reading;
 use crate::methods::{Method, read_method};
 use account_book::{Account, Out, Plan};
 use get_calls::{GetFault, get};
@@ -21,14 +22,13 @@ use std::alloc::Global;
 pub(crate) fn plan_nothing(alloc: Global) -> Plan
     ensures { result ≡ silent }
 {
-    Plan {
-        out: Out::Replies(Replied {
+    plan_reading(
+        alloc,
+        Out::Replies(Replied {
             responses: Invocations::new(alloc),
             made: Made::new(alloc),
         }),
-        blobs: Blobs::new(alloc),
-        edits: Edits::new(alloc),
-    }
+    )
 }
 
 // Returns the plan that answers one response, with what was created and the edits.
@@ -38,7 +38,12 @@ fn plan_with(
     made: Made,
     edits: Edits,
 ) -> Result<Plan, NoMemory>
-    ensures { IfOk result (λ p. p ≡ record { out = Out.Replies (record { responses = call_of response ∷ []; made = made }); blobs = []; edits = edits }) }
+    ensures { IfOk result (λ p. p ≡ record {
+      out = Out.Replies
+          (record { responses = call_of response ∷ []; made = made });
+      blobs = [];
+      edits = edits;
+    }) }
 {
     let mut responses = Invocations::new(alloc);
     responses.push(response)?;
@@ -83,7 +88,8 @@ fn plan_get(
     call: &Invocation,
     read_only: bool,
 ) -> Result<Plan, NoMemory>
-    ensures { IfOk result (λ p. p ≡ get_plan (call_of call.now) (get_in account.now.history (tree_of call.now.args) read_only)) }
+    ensures { IfOk result
+        (λ p. p ≡ get_plan (call_of call.now) (get_in account.now.history (tree_of call.now.args) read_only)) }
 {
     match get(alloc, Kind::Mailbox, account, &call.args, read_only) {
         Ok(args) => plan_response(alloc, call, args),
@@ -101,7 +107,8 @@ fn plan_set(
     made: &Made,
 ) -> Result<Plan, NoMemory>
     requires { IsBounded account.now.history }
-    ensures { IfOk result (λ p. p ≡ set_plan (call_of call.now) (set_outcome (ground_in account.now.history) (tree_of call.now.args) made.now)) }
+    ensures { IfOk result
+        (λ p. p ≡ set_plan (call_of call.now) (set_outcome (ground_in account.now.history) (tree_of call.now.args) made.now)) }
 {
     match plan_mailbox_set(alloc, account.content(), account.log(), &call.args, made) {
         Ok(plan) => {
@@ -115,9 +122,9 @@ fn plan_set(
     }
 }
 
-/// Returns the plan of a method over an account, with what the request has made so far, of a user to
-/// whom the account is read-only or not, at a moment in seconds since the beginning of 1970. A name
-/// that no method has is answered with `unknownMethod` (RFC 8620, section 3.6.2).
+/// Returns the plan of a method over an account, with what the request has made so far, of a user
+/// to whom the account is read-only or not, at a moment in seconds since the beginning of 1970. A
+/// name that no method has is answered with `unknownMethod` (RFC 8620, section 3.6.2).
 pub(crate) fn plan_method(
     alloc: Global,
     account: &Account,
@@ -127,7 +134,8 @@ pub(crate) fn plan_method(
     _moment: u64,
 ) -> Result<Plan, NoMemory>
     requires { IsBounded account.now.history }
-    ensures { IfOk result (λ p. p ≡ method_plan account.now.history (call_of call.now) made.now read_only _moment) }
+    ensures { IfOk result
+        (λ p. p ≡ method_plan account.now.history (call_of call.now) made.now read_only _moment) }
 {
     match read_method(call.name.as_str()) {
         None => plan_error(alloc, call, "unknownMethod"),

@@ -1,6 +1,7 @@
 // The rules of mail accounts.
 ghost use Rattle.std.specs.Prelude.{◌≡◌};
 
+use crate::blobs::{plan_bytes, plan_states, plan_upload};
 use crate::plans::{plan_method, plan_nothing};
 use account_book::{Account, Ask, Call, Plan, Rules};
 use jm_base::NoMemory;
@@ -32,9 +33,10 @@ impl Rules for MailRules {
             Ask::Method(method) => {
                 plan_method(alloc, account, method, &call.made, call.read_only, moment)
             }
-            Ask::Upload(_) | Ask::Blob(_) | Ask::Fetch(_) | Ask::Place(_, _) | Ask::States => Ok(
-                plan_nothing(alloc),
-            ),
+            Ask::Upload(bytes) => plan_upload(alloc, account, bytes.as_slice()),
+            Ask::Blob(name) => plan_bytes(alloc, account, name.as_str()),
+            Ask::States => Ok(plan_states(alloc, account)),
+            Ask::Fetch(_) | Ask::Place(_, _) => Ok(plan_nothing(alloc)),
         }
     }
 

@@ -1,26 +1,38 @@
-// Calls on a book by the rules of mail. The expected arguments are those of RFC 8620, sections 3.6.2, 5.1 and 5.3.
+// Calls on a book by the rules of mail. The expected answers are those of RFC 8620, sections 3.6.2, 5.1, 5.3, 6.1 and 6.2.
 use crate::MailRules;
+use crate::blobs::has_room;
 use account_book::{Ask, Book, Call, Out};
+use blob_store::{BlobList, MAX_BLOB_BYTES_PER_ACCOUNT};
 use jm_base::{Bytes, NoMemory, Text};
 use jm_json::{Invocation, Json, Made, read, write};
 use mail_records::Stamp;
 use std::alloc::Global;
 use std::test::Fail;
 
-// The arguments of the first response, and nothing where there is none.
+// The arguments of the first response, the bytes of a blob, or what else is answered in words.
 fn shown(alloc: Global, out: Out) -> Result<Bytes, NoMemory> {
     match out {
         Out::Replies(replied) => match replied.responses.as_slice() {
             [first, ..] => write(alloc, &first.args),
             [] => Ok(Bytes::new(alloc)),
         },
-        Out::Uploaded(_)
-        | Out::Full
-        | Out::Failed
-        | Out::Blob(_)
-        | Out::Carried(_)
-        | Out::States { .. } => Bytes::from_slice(alloc, b"no response"),
+        Out::Blob(Some(bytes)) => Ok(bytes),
+        Out::Uploaded(number) => words(alloc, number),
+        Out::States {
+            mailbox,
+            email,
+            thread,
+        } => words(alloc, mailbox.saturating_add(email).saturating_add(thread)),
+        Out::Blob(None) | Out::Full | Out::Failed | Out::Carried(_) => {
+            Bytes::from_slice(alloc, b"none")
+        }
     }
+}
+
+// A number in decimal.
+fn words(alloc: Global, number: u64) -> Result<Bytes, NoMemory> {
+    let text = format!(in alloc; "{number}")?;
+    Bytes::from_slice(alloc, text.as_bytes())
 }
 
 // What is asked of the book, and the arguments of its answer.
@@ -131,11 +143,57 @@ fn refuses_calls_that_name_too_many(rt: HostRuntime) -> Result<(), Fail> {
     Ok(())
 }
 
+// The message of two leaves. Its first leaf is base64 (RFC 2045, section 6.8), and its second one is `two`.
+const MESSAGE: &[u8] =
+    b"Content-Type: multipart/mixed; boundary=a\n\n--a\nContent-Transfer-Encoding: base64\n\nb25l\n--a\n\ntwo\n--a--\n";
+
 #[test]
-fn answers_nothing_else_yet(rt: HostRuntime) -> Result<(), Fail> {
+fn uploads_are_blobs_with_leaves(rt: HostRuntime) -> Result<(), Fail> {
     let alloc = rt.alloc();
     let mut book = Book::begin(alloc, MailRules)?;
-    let answer = asked(alloc, &mut book, Ask::States)?;
-    assert!(rt; answer.is_empty());
+    for (bytes, number) in [
+        (b"".as_slice(), b"1".as_slice()),
+        (MESSAGE, b"2".as_slice()),
+    ] {
+        let ask = Ask::Upload(Bytes::from_slice(alloc, bytes)?);
+        assert!(rt; asked(alloc, &mut book, ask)?.as_slice() == number);
+    }
+    let rows = [
+        ("b1", b"".as_slice()),
+        ("b2", MESSAGE),
+        ("b2-1", b"one".as_slice()),
+        ("b2-2", b"two".as_slice()),
+        ("b2-3", b"none".as_slice()),
+        ("b2-0", b"none".as_slice()),
+        ("b3", b"none".as_slice()),
+        ("b0", b"none".as_slice()),
+        ("M1", b"none".as_slice()),
+    ];
+    for (name, bytes) in rows {
+        let ask = Ask::Blob(Text::from_str(alloc, name)?);
+        assert!(rt; asked(alloc, &mut book, ask)?.as_slice() == bytes, "{name}");
+    }
+    Ok(())
+}
+
+#[test]
+fn an_account_has_room_up_to_its_limit(rt: HostRuntime) -> Result<(), Fail> {
+    let mut blobs = BlobList::new(rt.alloc());
+    assert!(rt; has_room(&blobs, MAX_BLOB_BYTES_PER_ACCOUNT));
+    assert!(rt; !has_room(&blobs, MAX_BLOB_BYTES_PER_ACCOUNT + 1));
+    assert!(rt; blobs.push(Bytes::from_slice(rt.alloc(), b"12345")?).is_ok());
+    assert!(rt; has_room(&blobs, MAX_BLOB_BYTES_PER_ACCOUNT - 5));
+    assert!(rt; !has_room(&blobs, MAX_BLOB_BYTES_PER_ACCOUNT - 4));
+    Ok(())
+}
+
+#[test]
+fn states_are_those_of_the_last_edits(rt: HostRuntime) -> Result<(), Fail> {
+    let alloc = rt.alloc();
+    let mut book = Book::begin(alloc, MailRules)?;
+    assert!(rt; asked(alloc, &mut book, Ask::States)?.as_slice() == b"0".as_slice());
+    let args = "{\"accountId\":\"A\",\"create\":{\"a\":{\"name\":\"A\"},\"b\":{\"name\":\"B\"}}}";
+    let _ = answers(alloc, &mut book, "Mailbox/set", args, "")?;
+    assert!(rt; asked(alloc, &mut book, Ask::States)?.as_slice() == b"2".as_slice());
     Ok(())
 }

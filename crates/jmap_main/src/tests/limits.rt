@@ -67,6 +67,14 @@ const NOT_JSON: &str = "{\"status\":400,\"type\":\"urn:ietf:params:jmap:error:no
 const TOO_LARGE: &str =
     "{\"limit\":\"maxSizeRequest\",\"status\":413,\"type\":\"urn:ietf:params:jmap:error:limit\"}\n";
 
+const NOT_REQUEST: &str = "{\"status\":400,\"type\":\"urn:ietf:params:jmap:error:notRequest\"}\n";
+
+const LONG_BLOB: &str =
+    "{\"accountId\":\"A1\",\"blobId\":\"b1\",\"size\":7500000,\"type\":\"application/octet-stream\"}\n";
+
+const UPLOAD_TOO_LARGE: &str =
+    "{\"limit\":\"maxSizeUpload\",\"status\":413,\"type\":\"urn:ietf:params:jmap:error:limit\"}\n";
+
 // The arguments, the byte, how often it comes, the status, and the output. A byte of 0 is left as it is in
 // the room.
 const ROWS: &[(&str, u8, u64, u8, &str)] = &[
@@ -74,7 +82,11 @@ const ROWS: &[(&str, u8, u64, u8, &str)] = &[
     ("read", 0, 50000001, 14, ""),
     ("batch", b' ', 10000000, 0, NOT_JSON),
     ("batch", b' ', 10000001, 0, TOO_LARGE),
-    ("batch", b'+', 10000001, 0, NOT_JSON),
+    // The `+` of an upload, and more of them as base64: four of these characters are three bytes.
+    ("batch", b'+', 10000001, 0, LONG_BLOB),
+    ("batch", b'+', 66666668, 0, NOT_REQUEST),
+    ("batch", b'+', 66666669, 0, UPLOAD_TOO_LARGE),
+    ("batch", b'+', 66666670, 0, UPLOAD_TOO_LARGE),
 ];
 
 #[test]

@@ -25,7 +25,25 @@ const ANSWERED: &[(&str, &str)] = &[
     ("{\"using\":[", NOT_JSON),
     ("", ""),
     ("\r", NOT_JSON),
-    ("+U3ViamVjdDogaGkNCg0Kb2s=", NOT_JSON),
+    // Uploads: 17 bytes, none, two that are numbered one after the other, and strings that are no base64.
+    (
+        "+U3ViamVjdDogaGkNCg0Kb2s=",
+        "{\"accountId\":\"A1\",\"blobId\":\"b1\",\"size\":17,\"type\":\"application/octet-stream\"}\n",
+    ),
+    (
+        "+",
+        "{\"accountId\":\"A1\",\"blobId\":\"b1\",\"size\":0,\"type\":\"application/octet-stream\"}\n",
+    ),
+    (
+        "+AA==\n\n+/+8=\n",
+        "{\"accountId\":\"A1\",\"blobId\":\"b1\",\"size\":1,\"type\":\"application/octet-stream\"}\n{\"accountId\":\"A1\",\"blobId\":\"b2\",\"size\":2,\"type\":\"application/octet-stream\"}\n",
+    ),
+    ("+U3ViamVjdDogaGkNCg0Kb2s", NOT_REQUEST),
+    ("+AB==", NOT_REQUEST),
+    ("+AA==\r", NOT_REQUEST),
+    ("+AA= =", NOT_REQUEST),
+    ("+A_-8", NOT_REQUEST),
+    ("+{}", NOT_REQUEST),
     ("[]", NOT_REQUEST),
     ("{\"methodCalls\":[]}", NOT_REQUEST),
     ("{\"using\":[1],\"methodCalls\":[]}", NOT_REQUEST),

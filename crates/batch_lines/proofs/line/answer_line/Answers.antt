@@ -6,12 +6,12 @@ use Rattle.batch_lines.proofs.line.answer_line.Goals as goal
 
 pub returns-in-Ok-clause-ok : goal.returns-in-Ok-clause-ok
 returns-in-Ok-clause-ok g c =
-    written_ok g.P.Port.answers g.P.Port.stops c.args.port.now c.answer_some.new.port c.append_line.result c.args.line.now c.args.replies.now c.append_line.new.line (line_text (tree_of c.in-Ok.outcome.tree)) c.in-Ok.ensures.ok c.append_line.ensures.ok
+    written_ok g.P.Port.answers g.P.UploadPort.uploads g.P.Port.stops g.P.UploadPort.halts c.args.port.now c.answer_some.new.port c.append_line.result c.args.line.now c.args.replies.now c.append_line.new.line (line_text (tree_of c.in-Ok.tree)) c.in-Ok.ensures.ok c.append_line.ensures.ok
 
 pub returns-in-Ok-clause-err : goal.returns-in-Ok-clause-err
 returns-in-Ok-clause-err g c =
-    written_err g.P.Port.answers g.P.Port.stops c.args.port.now c.answer_some.new.port c.append_line.result c.args.line.now c.args.replies.now c.append_line.new.line (line_text (tree_of c.in-Ok.outcome.tree)) c.in-Ok.ensures.ok c.append_line.ensures.err
+    written_err g.P.Port.answers g.P.UploadPort.uploads g.P.Port.stops g.P.UploadPort.halts c.args.port.now c.answer_some.new.port c.append_line.result c.args.line.now c.args.replies.now c.append_line.new.line (line_text (tree_of c.in-Ok.tree)) c.in-Ok.ensures.ok c.append_line.ensures.err
 
 pub returns-in-Err-clause-err : goal.returns-in-Err-clause-err
 returns-in-Err-clause-err g c =
-    begun_err g.P.Port.answers g.P.Port.stops c.args.port.now c.answer_some.new.port c.args.line.now c.args.replies.now c.args.replies.now c.in-Err.ensures.err refl
+    begun_err g.P.Port.answers g.P.UploadPort.uploads g.P.Port.stops g.P.UploadPort.halts c.args.port.now c.answer_some.new.port c.args.line.now c.args.replies.now c.args.replies.now c.in-Err.ensures.err refl

@@ -4,7 +4,7 @@ use Rattle.batch_lines.proofs.lines.answer_reads.Given as goal
 
 abbrev pub invariant-turns : goal.invariant-turns
 invariant-turns g l = record {
-  way : IsUnderWay g.P.Port.answers l.fn.port l.port (g.S.Source.left l.fn.source) (g.S.Source.left l.source) (g.O.Sink.held l.fn.out) (g.O.Sink.held l.out) l.line l.total;
+  way : IsUnderWay g.P.Port.answers g.P.UploadPort.uploads l.fn.port l.port (g.S.Source.left l.fn.source) (g.S.Source.left l.source) (g.O.Sink.held l.fn.out) (g.O.Sink.held l.out) l.line l.total;
   small : l.total ≤ 1073741824;
   turns : l._turn ≤ l.total;
   reads : g.S.Source.faults l.fn.source ≤ g.S.Source.faults l.source;

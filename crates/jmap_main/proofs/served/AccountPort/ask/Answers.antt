@@ -1,0 +1,11 @@
+use Rattle.std.proofs.Common.{◌∙◌, ap, length}
+use Rattle.mail_records.specs.Histories.{History}
+use Rattle.jmap_main.proofs.Performed.{answered}
+use Rattle.jmap_main.proofs.served.AccountPort.ask.Goals as goal
+
+pub returns-in-Ok-clause-answered : goal.returns-in-Ok-clause-answered
+returns-in-Ok-clause-answered c =
+    let old = c.args.self.now in
+    let new = c.perform.new.self.history in
+    let done = c.in-Ok.done in
+    answered old new c.args.call.now c.stamp-stamp.result done.before done.after done.out (c.in-Ok.ensures.before ∙ ap (λ (h : History). length h.entries) c.self.view_is) c.in-Ok.ensures.after (c.in-Ok.ensures.begins ∙ c.self.view_is) (c.in-Ok.ensures.reply 0)

@@ -1,0 +1,41 @@
+-- Room for one more blob, and the bytes that identifiers name.
+use Rattle.std.proofs.Common.{◌≡◌, ◌↔◌, ℕ, ◌+◌, ◌<◌, ◌≤◌, Bool, true, false, not, ◌&&◌, nat_lt, nat_le, List, length, Option, IsTrue, refl, sym, ap, ap₂, ◌∙◌, subst, arith, ltb-true, leb-true}
+use Rattle.std.proofs.lemmas.Bool.{false≢true, ltb-false, leb-false}
+use Rattle.mail_records.specs.Histories.{History, blobs_of}
+use Rattle.blob_ids.specs.BlobIds.{blob_id_in}
+use Rattle.blob_ids.specs.declared.ids.BlobId.{BlobId}
+use Rattle.blob_store.specs.Blobs.{HasRoomFor, byte_count}
+use Rattle.mail_calls.specs.BlobPlans.{bytes_by, bytes_named, has_room, upload_if, upload_plan}
+
+-- what a list of blobs says of its room
+pub room_is : (full : Bool) (size : ℕ) (blobs : List (List ℕ)) → (IsTrue full ↔ ¬ (HasRoomFor size blobs)) → not full ≡ has_room size blobs
+room_is full size blobs told = by_tests full (nat_lt (length blobs) 1000000) (nat_le (byte_count blobs + size) 134217728) refl refl told
+  where
+    some_room : nat_lt (length blobs) 1000000 ≡ true → nat_le (byte_count blobs + size) 134217728 ≡ true → HasRoomFor size blobs
+    some_room p q =
+        let less = ltb-true (length blobs) 1000000 p in
+        let most = leb-true (byte_count blobs + size) 134217728 q in
+        record { count = omega arith; bytes = omega arith }
+
+    many : nat_lt (length blobs) 1000000 ≡ false → HasRoomFor size blobs → ⊥
+    many p room = let past = ltb-false (length blobs) 1000000 p in let count = room.count in omega arith
+
+    big : nat_le (byte_count blobs + size) 134217728 ≡ false → HasRoomFor size blobs → ⊥
+    big q room = let past = leb-false (byte_count blobs + size) 134217728 q in let bytes = room.bytes in omega arith
+
+    by_tests : (f a b : Bool) → nat_lt (length blobs) 1000000 ≡ a → nat_le (byte_count blobs + size) 134217728 ≡ b → (IsTrue f ↔ ¬ (HasRoomFor size blobs)) → not f ≡ (a && b)
+    by_tests true true true p q told = absurd (told.0 refl (some_room p q))
+    by_tests true true false p q told = refl
+    by_tests true false b p q told = refl
+    by_tests false true true p q told = refl
+    by_tests false true false p q told = absurd (false≢true (told.1 (big q)))
+    by_tests false false b p q told = absurd (false≢true (told.1 (many p)))
+
+-- the plan of an upload over the blobs of an account
+pub upload_is : (h : History) (bytes : List ℕ) (blobs : List (List ℕ)) (size number : ℕ) (room : Bool) → room ≡ has_room size blobs → size ≡ length bytes → number ≡ length blobs + 1 → blobs ≡ blobs_of h → upload_if room number bytes ≡ upload_plan h bytes
+upload_is h bytes blobs size number room told sized numbered are =
+    ap₂ (λ (b : Bool) (n : ℕ). upload_if b n bytes) (told ∙ ap₂ has_room sized are) (numbered ∙ ap (λ (bs : List (List ℕ)). length bs + 1) are)
+
+-- the bytes that a text names among the blobs of an account
+pub bytes_are : (h : History) (blobs : List (List ℕ)) (name : List ℕ) (id : Option BlobId) → id ≡ blob_id_in name → blobs ≡ blobs_of h → bytes_by blobs id ≡ bytes_named (blobs_of h) name
+bytes_are h blobs name id told are = ap₂ bytes_by are told

@@ -1,0 +1,146 @@
+// Plans of uploads, and the bytes that identifiers name (RFC 8620, sections 6.1 and 6.2).
+ghost use Rattle.std.specs.Prelude.{◌≡◌, ◌+◌, IfOk, option_map, length};
+ghost use Rattle.blob_store.specs.Blobs.{blob_numbered};
+ghost use Rattle.mail_records.specs.Histories.{blobs_of};
+ghost use Rattle.mail_records.specs.States.{state_of};
+ghost use Rattle.jm_base.specs.declared.identifiers.Kind.TheVariants as kind;
+ghost use Rattle.mail_calls.specs.BlobPlans.{bytes_by, bytes_in, bytes_named, has_room, upload_if, upload_plan, uploaded};
+ghost use Rattle.mail_calls.specs.Plans.{reading};
+
+use account_book::{Account, Out, Plan};
+use blob_ids::{BlobId, read_blob_id};
+use blob_store::BlobList;
+use jm_base::{Blobs, Bytes, Kind, NoMemory};
+use mail_records::Edits;
+use mail_summary::part_bytes;
+use std::alloc::Global;
+
+/// Returns the plan that answers this and changes nothing.
+pub(crate) fn plan_reading(alloc: Global, out: Out) -> Plan
+    ensures { result ≡ reading out }
+{
+    Plan {
+        out,
+        blobs: Blobs::new(alloc),
+        edits: Edits::new(alloc),
+    }
+}
+
+/// Returns whether one more blob of this many bytes is within the limits of an account.
+#[tactic(auto, using(crate::proofs::Rooms::room_is))]
+pub(crate) fn has_room(blobs: &BlobList, size: u64) -> bool
+    ensures { result ≡ has_room size blobs.now.blobs }
+{
+    !blobs.is_full_for(size)
+}
+
+// Returns the plan that brings bytes as the blob of this number.
+fn plan_blob(alloc: Global, number: u64, bytes: &[u8]) -> Result<Plan, NoMemory>
+    ensures { IfOk result (λ p. p ≡ uploaded number bytes.now) }
+{
+    let mut blobs = Blobs::new(alloc);
+    blobs.push(Bytes::from_slice(alloc, bytes)?)?;
+    Ok(Plan {
+        out: Out::Uploaded(number),
+        blobs,
+        edits: Edits::new(alloc),
+    })
+}
+
+// Returns the plan of an upload, if there is room for it as the blob of this number.
+fn plan_upload_if(alloc: Global, room: bool, number: u64, bytes: &[u8]) -> Result<Plan, NoMemory>
+    ensures { IfOk result (λ p. p ≡ upload_if room number bytes.now) }
+{
+    if room {
+        return plan_blob(alloc, number, bytes);
+    }
+    Ok(plan_reading(alloc, Out::Full))
+}
+
+/// Returns the plan of an upload of these bytes: the blob with the next number, or nothing if there
+/// is no room for it.
+#[tactic(auto, using(crate::proofs::Rooms::upload_is))]
+pub(crate) fn plan_upload(alloc: Global, account: &Account, bytes: &[u8]) -> Result<Plan, NoMemory>
+    ensures { IfOk result (λ p. p ≡ upload_plan account.now.history bytes.now) }
+{
+    let blobs = account.blobs();
+    let room = has_room(blobs, bytes.len() as u64);
+    plan_upload_if(alloc, room, blobs.all().len() as u64 + 1, bytes)
+}
+
+// Lends the blob of this number.
+fn blob_with(blobs: &BlobList, number: u64) -> Option<&[u8]>
+    ensures { option_map (λ b. b.now) result ≡ blob_numbered number blobs.now.blobs }
+{
+    match blobs.get(number) {
+        Ok(blob) => Some(blob),
+        Err(_) => None,
+    }
+}
+
+// Returns the bytes of a blob, or of a leaf of the message that the blob holds.
+fn read_bytes(
+    alloc: Global,
+    blob: Option<&[u8]>,
+    leaf: Option<u64>,
+) -> Result<Option<Bytes>, NoMemory>
+    ensures { IfOk result (λ b. b ≡ bytes_in (option_map (λ x. x.now) blob.entry) leaf) }
+{
+    match blob {
+        Some(bytes) => match leaf {
+            Some(number) => part_bytes(alloc, bytes, number),
+            None => Ok(Some(Bytes::from_slice(alloc, bytes)?)),
+        },
+        None => Ok(None),
+    }
+}
+
+// Returns the bytes that an identifier names.
+fn read_named(
+    alloc: Global,
+    blobs: &BlobList,
+    id: Option<BlobId>,
+) -> Result<Option<Bytes>, NoMemory>
+    ensures { IfOk result (λ b. b ≡ bytes_by blobs.now.blobs id) }
+{
+    match id {
+        Some(id) => read_bytes(alloc, blob_with(blobs, id.blob), id.leaf),
+        None => Ok(None),
+    }
+}
+
+/// Returns the plan that answers the bytes which a text names: those of a blob, or the decoded
+/// bytes of a leaf of the message that a
+/// blob holds (RFC 8620, section 6.2; RFC 8621, section 4.1.4).
+#[tactic(auto, using(crate::proofs::Rooms::bytes_are))]
+pub(crate) fn plan_bytes(alloc: Global, account: &Account, name: &str) -> Result<Plan, NoMemory>
+    ensures { IfOk result
+        (λ p. p ≡ reading (Out.Blob (bytes_named (blobs_of account.now.history) name.now))) }
+{
+    let bytes = read_named(alloc, account.blobs(), read_blob_id(name.as_bytes()))?;
+    Ok(plan_reading(alloc, Out::Blob(bytes)))
+}
+
+// Returns the state of a kind of record.
+fn state_in(account: &Account, kind: Kind) -> u64
+    ensures { result ≡ state_of account.now.history kind }
+{
+    account.log().state_of(kind)
+}
+
+/// Returns the plan that answers the state of each kind of record (RFC 8620, section 5.1).
+pub(crate) fn plan_states(alloc: Global, account: &Account) -> Plan
+    ensures { result ≡ reading (Out.States (state_of account.now.history kind.Mailbox) (state_of account.now.history kind.Email) (state_of account.now.history kind.Thread)) }
+{
+    let mailbox = state_in(account, Kind::Mailbox);
+    let email = state_in(account, Kind::Email);
+    let thread = state_in(account, Kind::Thread);
+    plan_reading(
+        alloc,
+        Out::States {
+            mailbox,
+            email,
+            thread,
+        },
+    )
+}
