@@ -1,3 +1,5 @@
-pub mod LeftOut
-pub mod Mentions
+pub mod FirstMentions
+pub mod HiddenMembers
+pub mod Named
 pub mod Answered
+pub mod Parsed

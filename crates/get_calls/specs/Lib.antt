@@ -1,2 +1,2 @@
-pub mod Explained
-pub mod Parts
+pub mod Faults
+pub mod Members

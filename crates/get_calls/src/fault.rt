@@ -1,16 +1,15 @@
-// Why a get is refused (RFC 8620, section 5.1).
-ghost use Rattle.std.specs.Prelude.{⊤};
-ghost use Rattle.get_calls.specs.Explained.{Blames};
+// Why a get fails (RFC 8620, section 5.1).
 
+use get_args::WantedFault;
 use jm_base::{NoMemory, Text};
-use std::alloc::Global;
 
-/// A get is refused.
+/// A get fails.
 #[derive(Debug, Drop)]
 pub enum GetFault {
-    /// The argument of this name is missing or has a wrong form; with an empty name the arguments are no object.
+    /// The argument of this name is missing or has a wrong form (RFC 8620, section 3.6.2:
+    /// `invalidArguments`). The name is empty if the arguments are no object.
     Invalid(Text),
-    /// It asks for more than 500 objects.
+    /// It asks for more than 500 objects (`requestTooLarge`).
     TooLarge,
     NoMemory,
 }
@@ -26,12 +25,16 @@ impl From<NoMemory> for GetFault {
     }
 }
 
-// The fault of an argument, or want of memory for its name.
-pub(crate) fn invalid(alloc: Global, name: &str) -> GetFault
-    ensures { Blames name.now ⊤ result }
-{
-    match Text::from_str(alloc, name) {
-        Ok(name) => GetFault::Invalid(name),
-        Err(_) => GetFault::NoMemory,
+impl From<WantedFault> for GetFault {
+    ghost use Rattle.std.specs.Prelude.{◌≡◌};
+    ghost use Rattle.get_calls.specs.Faults.{fault_of};
+
+    ghost from_gives = { λ fault e. e ≡ fault_of fault };
+
+    fn from(fault: WantedFault) -> GetFault {
+        match fault {
+            WantedFault::Invalid(name) => GetFault::Invalid(name),
+            WantedFault::NoMemory => GetFault::NoMemory,
+        }
     }
 }

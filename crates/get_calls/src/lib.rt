@@ -1,15 +1,23 @@
-//! What a get of records is answered (RFC 8620, section 5.1). Mailboxes are built.
+//! Answers the gets of an account (RFC 8620, section 5.1; RFC 8621, sections 2.1, 3.1 and 4.2).
 //!
-//! The answer of an account to any arguments stands in `specs/Get.antt`. A get that is refused answers a [`GetFault`].
+//! The answer to any arguments is defined in `specs/Gets.antt` of `mail_view`. A get that fails
+//! returns a [`GetFault`].
 #![tactic(auto)]
 
-mod answers;
-mod arguments;
+mod emails;
 mod fault;
-mod objects;
-mod properties;
+mod gets;
+mod mailboxes;
+mod members;
+mod mentions;
+mod parses;
+#[cfg(test)]
+mod record_tests;
+mod records;
 #[cfg(test)]
 mod tests;
+mod threads;
 
-pub use answers::{get, get_mailboxes};
 pub use fault::GetFault;
+pub use gets::{get, get_emails, get_mailboxes, get_threads};
+pub use parses::{parse, parse_emails};

@@ -3,19 +3,19 @@ use Rattle.std.proofs.Common.{◌≡◌, ℕ, zero, suc, ◌<◌, ◌≤◌, Lis
 use Rattle.std.specs.Prelude.{find, IfSome}
 use denote.Ref.{Bor}
 use Rattle.mime_type.specs.Node.{Node}
-use Rattle.mime_type.specs.Forest.{Forest, none, part, forest_size}
+use Rattle.mime_type.specs.PartTrees.{PartTrees, none, part, part_count}
 use Rattle.mime_type.specs.Joined.{tree_of, joined, node_of}
 use Rattle.mime_type.specs.declared.part.Part.{Part}
 use Rattle.mime_tree.specs.Kept.{walked}
 use Rattle.mime_tree.specs.Places.{AllPlaced, IsPlaced}
-use Rattle.mail_view.specs.Split.{ArePlaced, nodes_of}
+use Rattle.mail_view.specs.Views.{ArePlaced, nodes_of}
 
 -- a part before others
-pub walked-tree_of : (p : Part) (later : Forest) → walked (tree_of p later) ≡ walked (tree_of p none) ++ walked later
+pub walked-tree_of : (p : Part) (later : PartTrees) → walked (tree_of p later) ≡ walked (tree_of p none) ++ walked later
 walked-tree_of p later =
     ap (λ (xs : List Node). node_of p ∷ (xs ++ walked later)) (sym (append-nil (walked p.parts)))
 
-pub part_size : (ps : List Part) (i : ℕ) (d : Part) → i < length ps → forest_size (tree_of (get_or ps i d) none) ≤ forest_size (joined ps none)
+pub part_size : (ps : List Part) (i : ℕ) (d : Part) → i < length ps → part_count (tree_of (get_or ps i d) none) ≤ part_count (joined ps none)
 part_size [] i d h = absurd (omega arith)
 part_size (p ∷ ps) zero d h = omega arith
 part_size (p ∷ ps) (suc i) d h = omega (arith, part_size ps i d (omega arith))
@@ -30,7 +30,7 @@ placed_both n [] ys h k = k
 placed_both n (x ∷ xs) ys h k = (h.0, placed_both n xs ys h.1 k)
 
 -- the places of the parts in walk order
-pub walked_placed : (n : ℕ) (f : Forest) → AllPlaced n f → ArePlaced n (walked f)
+pub walked_placed : (n : ℕ) (f : PartTrees) → AllPlaced n f → ArePlaced n (walked f)
 walked_placed n none h = tt
 walked_placed n (part x inner later) h = (h.0, placed_both n (walked inner) (walked later) (walked_placed n inner h.1) (walked_placed n later h.2))
 

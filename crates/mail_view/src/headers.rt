@@ -1,4 +1,4 @@
-// The fields of a header as they are shown (RFC 8621, sections 4.1.2 and 4.1.3).
+// The JSON view of header fields (RFC 8621, sections 4.1.2 and 4.1.3).
 ghost use Rattle.std.specs.Prelude.{◌≡◌, All, IfOk, map};
 ghost use Rattle.jm_json.specs.Json.{tree_of};
 ghost use Rattle.mime_lines.specs.Fields.{fields_of};
@@ -6,7 +6,7 @@ ghost use Rattle.mime_lines.specs.Named.{IsWithin, last_value_of};
 ghost use Rattle.header_forms.specs.Forms.{form_tree};
 ghost use Rattle.mail_view.specs.Headers.{field_tree, header_among, header_tree, headers_tree, value_or_null, values_of};
 
-use crate::property::HeaderAsked;
+use get_args::HeaderProperty;
 use header_forms::{Form, form_of};
 use jm_base::{NoMemory, Text};
 use jm_json::{Items, Json, Members};
@@ -14,7 +14,7 @@ use mime_lines::{Field, FieldSpans, last_value};
 use std::alloc::Global;
 
 // The values of all fields of this name, in a form.
-fn all_values(
+fn write_all_values(
     alloc: Global,
     bytes: &[u8],
     fields: &[Field],
@@ -22,7 +22,8 @@ fn all_values(
     form: Form,
 ) -> Result<Items, NoMemory>
     requires { All (IsWithin bytes.now) fields.now }
-    ensures { IfOk result (λ ts. ts ≡ map (form_tree form) (values_of bytes.now name.now fields.now)) }
+    ensures { IfOk result (λ ts.
+        ts ≡ map (form_tree form) (values_of bytes.now name.now fields.now)) }
 {
     let mut values = Items::new(alloc);
     for field in fields {
@@ -35,7 +36,7 @@ fn all_values(
 }
 
 // The value of the last field of this name, in a form, or null.
-fn last_in_form(
+fn write_last_value(
     alloc: Global,
     bytes: &[u8],
     fields: &FieldSpans,
@@ -43,7 +44,8 @@ fn last_in_form(
     form: Form,
 ) -> Result<Json, NoMemory>
     requires { All (IsWithin bytes.now) fields.now }
-    ensures { IfOk result (λ t. tree_of t ≡ value_or_null form (last_value_of bytes.now name.now fields.now)) }
+    ensures { IfOk result (λ t. tree_of t
+        ≡ value_or_null form (last_value_of bytes.now name.now fields.now)) }
 {
     match last_value(bytes, fields, name) {
         Some(value) => form_of(alloc, value, form),
@@ -52,39 +54,39 @@ fn last_in_form(
 }
 
 // A field that is asked for, of these fields.
-fn header_among(
+fn write_header_among(
     alloc: Global,
     bytes: &[u8],
     fields: &FieldSpans,
-    asked: &HeaderAsked,
+    asked: &HeaderProperty,
 ) -> Result<Json, NoMemory>
     requires { All (IsWithin bytes.now) fields.now }
     ensures { IfOk result (λ t. tree_of t ≡ header_among bytes.now fields.now asked.now) }
 {
     let name = asked.field.as_bytes();
     if asked.all {
-        let values = all_values(alloc, bytes, fields.as_slice(), name, asked.form)?;
+        let values = write_all_values(alloc, bytes, fields.as_slice(), name, asked.form)?;
         return Ok(Json::List(values));
     }
-    last_in_form(alloc, bytes, fields, name, asked.form)
+    write_last_value(alloc, bytes, fields, name, asked.form)
 }
 
-/// A field that is asked for, of a message or a part with these bytes, whose fields were found.
-pub(crate) fn header(
+/// Returns a header field that is asked for, of a message or a part with these bytes and fields.
+pub(crate) fn write_header(
     alloc: Global,
     bytes: &[u8],
     fields: &FieldSpans,
-    asked: &HeaderAsked,
+    asked: &HeaderProperty,
 ) -> Result<Json, NoMemory>
     requires found { fields.now ≡ fields_of bytes.now }
     requires within { All (IsWithin bytes.now) fields.now }
     ensures { IfOk result (λ t. tree_of t ≡ header_tree bytes.now asked.now) }
 {
-    header_among(alloc, bytes, fields, asked)
+    write_header_among(alloc, bytes, fields, asked)
 }
 
-// A field with its name and its value as it stands.
-fn field_object(alloc: Global, bytes: &[u8], field: &Field) -> Result<Json, NoMemory>
+// A field with its name and its raw value.
+fn write_field(alloc: Global, bytes: &[u8], field: &Field) -> Result<Json, NoMemory>
     requires { IsWithin bytes.now field.now }
     ensures { IfOk result (λ t. tree_of t ≡ field_tree bytes.now field.now) }
 {
@@ -96,22 +98,26 @@ fn field_object(alloc: Global, bytes: &[u8], field: &Field) -> Result<Json, NoMe
     Ok(Json::Object(object))
 }
 
-fn field_objects(alloc: Global, bytes: &[u8], fields: &[Field]) -> Result<Items, NoMemory>
+fn write_fields(alloc: Global, bytes: &[u8], fields: &[Field]) -> Result<Items, NoMemory>
     requires { All (IsWithin bytes.now) fields.now }
     ensures { IfOk result (λ ts. ts ≡ map (field_tree bytes.now) fields.now) }
 {
     let mut objects = Items::with_room(alloc, fields.len())?;
     for field in fields {
-        objects.push(field_object(alloc, bytes, field)?)?;
+        objects.push(write_field(alloc, bytes, field)?)?;
     }
     Ok(objects)
 }
 
-/// All fields of a message or a part with these bytes, whose fields were found.
-pub(crate) fn headers(alloc: Global, bytes: &[u8], fields: &FieldSpans) -> Result<Json, NoMemory>
+/// Returns all header fields of a message or a part with these bytes and fields.
+pub(crate) fn write_headers(
+    alloc: Global,
+    bytes: &[u8],
+    fields: &FieldSpans,
+) -> Result<Json, NoMemory>
     requires found { fields.now ≡ fields_of bytes.now }
     requires within { All (IsWithin bytes.now) fields.now }
     ensures { IfOk result (λ t. tree_of t ≡ headers_tree bytes.now) }
 {
-    Ok(Json::List(field_objects(alloc, bytes, fields.as_slice())?))
+    Ok(Json::List(write_fields(alloc, bytes, fields.as_slice())?))
 }

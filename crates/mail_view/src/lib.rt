@@ -1,25 +1,19 @@
-//! What a client is shown of a message (RFC 8621, sections 4.1, 4.2 and 4.9).
+//! The JSON view of a message, and what gets of an account are answered (RFC 8620, section 5.1;
+//! RFC 8621, sections 2, 4.1, 4.2 and 4.9).
+//!
+//! The view of a message is defined in `specs/View.antt`, that of a mailbox in
+//! `specs/Mailboxes.antt`, and the answer of a get in `specs/Gets.antt`.
 #![tactic(auto)]
 
-mod fault;
-mod fields;
 mod headers;
-mod known;
-mod laws;
 mod message;
-mod names;
+mod message_view;
+mod metadata;
 mod part;
-mod property;
-mod shown;
+mod part_list;
 mod structure;
 #[cfg(test)]
 mod tests;
 mod values;
-mod walk;
-mod wanted;
 
-pub use fault::WantedFault;
-pub use laws::arguments_of_read_are_taken;
-pub use property::{AskedPart, AskedProperty, HeaderAsked, KnownProperty, PartProperty, Property};
-pub use shown::view;
-pub use wanted::{Wanted, read_wanted, wanted_for_read};
+pub use message_view::view;

@@ -1,17 +1,15 @@
-// A message once it is read, and what is shown of its parts (RFC 8621, section 4.1.4).
+// A message once it is read, and the views of its parts (RFC 8621, section 4.1.4).
 ghost use Rattle.std.specs.Prelude.{◌≡◌, IfOk, length};
 ghost use Rattle.jm_json.specs.Json.{tree_of as json_of};
 ghost use Rattle.jm_json.specs.Tree.{boolean, text as text_tree};
 ghost use Rattle.mime_tree.specs.Kept.{parts_of};
-ghost use Rattle.body_lists.specs.Lists.{lists_in};
 ghost use Rattle.mail_summary.specs.Leaves.{has_attachment_in};
 ghost use Rattle.mail_summary.specs.Texts;
-ghost use Rattle.mail_view.specs.Parts.{leaves_tree, structure_tree};
-ghost use Rattle.mail_view.specs.Read.{IsRead};
+ghost use Rattle.mail_view.specs.Messages.{IsRead, message_leaves, message_lists, message_structure};
 
 use crate::part::Showing;
-use crate::structure::structure;
-use crate::walk::leaves;
+use crate::part_list::write_leaves;
+use crate::structure::write_structure;
 use body_lists::BodyLists;
 use jm_base::{NoMemory, Numbers};
 use jm_json::Json;
@@ -20,7 +18,8 @@ use mime_lines::FieldSpans;
 use mime_type::Part;
 use std::alloc::Global;
 
-/// A message that was read once: its fields, its parts as a tree and in walk order, and their lists.
+/// A message that was read once: its header fields, its parts as a tree and in walk order, and the
+/// three lists of its leaves.
 #[derive(Clone, Copy)]
 pub(crate) struct Message<'a> {
     pub showing: Showing<'a>,
@@ -31,58 +30,67 @@ pub(crate) struct Message<'a> {
 }
 
 // The leaves of these numbers.
-fn leaf_list(alloc: Global, message: &Message<'_>, numbers: &Numbers) -> Result<Json, NoMemory>
+fn write_leaf_list(
+    alloc: Global,
+    message: &Message<'_>,
+    numbers: &Numbers,
+) -> Result<Json, NoMemory>
     requires { IsRead message.now }
-    ensures { IfOk result (λ t. json_of t ≡ leaves_tree message.now.showing.bytes.now message.now.showing.blob.now message.now.showing.asked.now (parts_of message.now.showing.bytes.now) numbers.now) }
+    ensures { IfOk result (λ t. json_of t ≡ message_leaves message.now numbers.now) }
 {
-    let items = leaves(alloc, &message.showing, message.parts, numbers.as_slice())?;
+    let items = write_leaves(alloc, &message.showing, message.parts, numbers.as_slice())?;
     Ok(Json::List(items))
 }
 
-/// The parts to show as plain text.
-pub(crate) fn text_body(alloc: Global, message: &Message<'_>) -> Result<Json, NoMemory>
+/// Returns textBody: the parts to show as plain text.
+pub(crate) fn write_text_body(alloc: Global, message: &Message<'_>) -> Result<Json, NoMemory>
     requires { IsRead message.now }
-    ensures { IfOk result (λ t. json_of t ≡ leaves_tree message.now.showing.bytes.now message.now.showing.blob.now message.now.showing.asked.now (parts_of message.now.showing.bytes.now) (lists_in (parts_of message.now.showing.bytes.now)).text) }
+    ensures { IfOk result (λ t.
+        json_of t ≡ message_leaves message.now (message_lists message.now).text) }
 {
-    leaf_list(alloc, message, &message.lists.text)
+    write_leaf_list(alloc, message, &message.lists.text)
 }
 
-/// The parts to show as HTML.
-pub(crate) fn html_body(alloc: Global, message: &Message<'_>) -> Result<Json, NoMemory>
+/// Returns htmlBody: the parts to show as HTML.
+pub(crate) fn write_html_body(alloc: Global, message: &Message<'_>) -> Result<Json, NoMemory>
     requires { IsRead message.now }
-    ensures { IfOk result (λ t. json_of t ≡ leaves_tree message.now.showing.bytes.now message.now.showing.blob.now message.now.showing.asked.now (parts_of message.now.showing.bytes.now) (lists_in (parts_of message.now.showing.bytes.now)).html) }
+    ensures { IfOk result (λ t.
+        json_of t ≡ message_leaves message.now (message_lists message.now).html) }
 {
-    leaf_list(alloc, message, &message.lists.html)
+    write_leaf_list(alloc, message, &message.lists.html)
 }
 
-/// The parts that are in neither, and media that only one of the two shows.
-pub(crate) fn attachments(alloc: Global, message: &Message<'_>) -> Result<Json, NoMemory>
+/// Returns attachments: the parts that are in neither, and media that only one of the two shows.
+pub(crate) fn write_attachments(alloc: Global, message: &Message<'_>) -> Result<Json, NoMemory>
     requires { IsRead message.now }
-    ensures { IfOk result (λ t. json_of t ≡ leaves_tree message.now.showing.bytes.now message.now.showing.blob.now message.now.showing.asked.now (parts_of message.now.showing.bytes.now) (lists_in (parts_of message.now.showing.bytes.now)).attachments) }
+    ensures { IfOk result (λ t.
+        json_of t ≡ message_leaves message.now (message_lists message.now).attachments) }
 {
-    leaf_list(alloc, message, &message.lists.attachments)
+    write_leaf_list(alloc, message, &message.lists.attachments)
 }
 
-/// The parts as a tree.
-pub(crate) fn body_structure(alloc: Global, message: &Message<'_>) -> Result<Json, NoMemory>
+/// Returns bodyStructure: the parts as a tree.
+pub(crate) fn write_body_structure(alloc: Global, message: &Message<'_>) -> Result<Json, NoMemory>
     requires { IsRead message.now }
-    ensures { IfOk result (λ t. json_of t ≡ structure_tree message.now.showing.bytes.now message.now.showing.blob.now message.now.showing.asked.now (parts_of message.now.showing.bytes.now)) }
+    ensures { IfOk result (λ t. json_of t ≡ message_structure message.now) }
 {
-    structure(alloc, &message.showing, message.root)
+    write_structure(alloc, &message.showing, message.root)
 }
 
-/// Whether an attachment isn't shown inline.
-pub(crate) fn attached(alloc: Global, message: &Message<'_>) -> Result<Json, NoMemory>
+/// Returns hasAttachment: whether an attachment is not to be shown inline.
+pub(crate) fn write_has_attachment(alloc: Global, message: &Message<'_>) -> Result<Json, NoMemory>
     requires { IsRead message.now }
-    ensures { IfOk result (λ t. json_of t ≡ boolean (has_attachment_in (parts_of message.now.showing.bytes.now))) }
+    ensures { IfOk result (λ t.
+        json_of t ≡ boolean (has_attachment_in (parts_of message.now.showing.bytes.now))) }
 {
     Ok(Json::Bool(has_attachment(alloc, message.root)?))
 }
 
-/// The beginning of its text.
-pub(crate) fn first_words(alloc: Global, message: &Message<'_>) -> Result<Json, NoMemory>
+/// Returns preview: the first characters of the text body.
+pub(crate) fn write_preview(alloc: Global, message: &Message<'_>) -> Result<Json, NoMemory>
     requires { IsRead message.now }
-    ensures { IfOk result (λ t. json_of t ≡ text_tree (Texts.preview message.now.showing.bytes.now)) }
+    ensures { IfOk result (λ t.
+        json_of t ≡ text_tree (Texts.preview message.now.showing.bytes.now)) }
 {
     let numbers = message.lists.text.as_slice();
     let words = preview_of(alloc, message.showing.bytes, message.root, numbers)?;

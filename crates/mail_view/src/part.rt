@@ -1,4 +1,4 @@
-// Body parts as they are shown (RFC 8621, section 4.1.4).
+// The JSON view of a body part (RFC 8621, section 4.1.4).
 ghost use Rattle.std.specs.Prelude.{◌≡◌, All, IfOk, length, map, option_map};
 ghost use Rattle.jm_json.specs.Json.{tree_of};
 ghost use Rattle.jm_json.specs.Tree.{text};
@@ -12,8 +12,8 @@ ghost use Rattle.mail_view.specs.Objects;
 ghost use Rattle.mail_view.specs.Parts;
 ghost use Rattle.mail_view.specs.Parts.{leaf_tree, bytes_with_header, part_tree, size_tree};
 
-use crate::headers::{header, headers};
-use crate::property::{AskedPart, PartProperty};
+use crate::headers::{write_header, write_headers};
+use get_args::{NamedPartProperty, PartProperty};
 use jm_base::{NoMemory, Text, Texts};
 use jm_json::{Items, Json, Members};
 use mime_codec::decoded_size;
@@ -22,17 +22,17 @@ use mime_type::Part;
 use mime_words::decode_words;
 use std::alloc::Global;
 
-/// How the parts of a message are shown: its bytes, the identifier of the blob that holds them, and the properties that are
-/// asked for.
+/// What the view of a part needs: the bytes of the message, its blob id, and the properties that
+/// are asked for.
 #[derive(Clone, Copy)]
 pub(crate) struct Showing<'a> {
     pub bytes: &'a [u8],
     pub blob: &'a str,
-    pub asked: &'a [AskedPart],
+    pub asked: &'a [NamedPartProperty],
 }
 
-/// A text, or null.
-pub(crate) fn text_or_null(text: &Option<Text>) -> Result<Json, NoMemory>
+/// Returns a string, or null.
+pub(crate) fn write_text(text: &Option<Text>) -> Result<Json, NoMemory>
     ensures { IfOk result (λ t. tree_of t ≡ Forms.text_or_null text.now) }
 {
     match text {
@@ -41,8 +41,8 @@ pub(crate) fn text_or_null(text: &Option<Text>) -> Result<Json, NoMemory>
     }
 }
 
-/// A list of texts.
-pub(crate) fn text_items(alloc: Global, texts: &[Text]) -> Result<Items, NoMemory>
+/// Returns a list of strings.
+pub(crate) fn write_text_items(alloc: Global, texts: &[Text]) -> Result<Items, NoMemory>
     ensures { IfOk result (λ ts. ts ≡ map text texts.now) }
 {
     let mut items = Items::with_room(alloc, texts.len())?;
@@ -52,16 +52,16 @@ pub(crate) fn text_items(alloc: Global, texts: &[Text]) -> Result<Items, NoMemor
     Ok(items)
 }
 
-fn texts_or_null(alloc: Global, texts: &Option<Texts>) -> Result<Json, NoMemory>
+fn write_texts(alloc: Global, texts: &Option<Texts>) -> Result<Json, NoMemory>
     ensures { IfOk result (λ t. tree_of t ≡ Objects.texts_or_null texts.now) }
 {
     match texts {
-        Some(texts) => Ok(Json::List(text_items(alloc, texts.as_slice())?)),
+        Some(texts) => Ok(Json::List(write_text_items(alloc, texts.as_slice())?)),
         None => Ok(Json::Null),
     }
 }
 
-fn decimal_or_null(alloc: Global, number: Option<u64>) -> Result<Json, NoMemory>
+fn write_decimal(alloc: Global, number: Option<u64>) -> Result<Json, NoMemory>
     ensures { IfOk result (λ t. tree_of t ≡ Objects.decimal_or_null number) }
 {
     match number {
@@ -73,8 +73,8 @@ fn decimal_or_null(alloc: Global, number: Option<u64>) -> Result<Json, NoMemory>
     }
 }
 
-// The identifier of a leaf's bytes.
-fn leaf_blob(alloc: Global, blob: &str, number: Option<u64>) -> Result<Json, NoMemory>
+// The blob id of a leaf's decoded body.
+fn write_leaf_blob_id(alloc: Global, blob: &str, number: Option<u64>) -> Result<Json, NoMemory>
     ensures { IfOk result (λ t. tree_of t ≡ Parts.leaf_blob blob.now number) }
 {
     match number {
@@ -86,9 +86,10 @@ fn leaf_blob(alloc: Global, blob: &str, number: Option<u64>) -> Result<Json, NoM
     }
 }
 
-// The name of a file, with its encoded words decoded.
-fn decoded_name(alloc: Global, name: &Option<Text>) -> Result<Json, NoMemory>
-    ensures { IfOk result (λ t. tree_of t ≡ Forms.text_or_null (option_map decoded_words name.now)) }
+// A file name, with its encoded-words decoded (RFC 2047).
+fn write_name(alloc: Global, name: &Option<Text>) -> Result<Json, NoMemory>
+    ensures { IfOk result (λ t.
+        tree_of t ≡ Forms.text_or_null (option_map decoded_words name.now)) }
 {
     match name {
         Some(name) => Ok(Json::Text(decode_words(alloc, name.as_bytes())?)),
@@ -96,8 +97,8 @@ fn decoded_name(alloc: Global, name: &Option<Text>) -> Result<Json, NoMemory>
     }
 }
 
-// How many bytes the body of a part stands for.
-fn size(bytes: &[u8], part: &Part) -> Json
+// The number of bytes of the decoded body of a part.
+fn write_size(bytes: &[u8], part: &Part) -> Json
     requires { IsPlaced (length bytes.now) (node_of part.now) }
     ensures { tree_of result ≡ size_tree bytes.now (node_of part.now) }
 {
@@ -105,8 +106,8 @@ fn size(bytes: &[u8], part: &Part) -> Json
     Json::Int(decoded_size(part.coding, body) as i64)
 }
 
-// A property of a part; `own` are its bytes, whose fields were found.
-fn part_property(
+// A property of a part with these bytes, `own`, and these header fields.
+fn write_part_property(
     alloc: Global,
     showing: &Showing<'_>,
     part: &Part,
@@ -118,48 +119,57 @@ fn part_property(
     requires own { own.now ≡ bytes_with_header showing.now.bytes.now (node_of part.now) }
     requires found { fields.now ≡ fields_of own.now }
     requires within { All (IsWithin own.now) fields.now }
-    ensures { IfOk result (λ t. tree_of t ≡ part_tree showing.now.bytes.now showing.now.blob.now (node_of part.now) property.now) }
+    ensures { IfOk result (λ t. tree_of t
+        ≡ part_tree showing.now.bytes.now showing.now.blob.now (node_of part.now) property.now) }
 {
     match property {
-        PartProperty::PartId => decimal_or_null(alloc, part.number),
-        PartProperty::BlobId => leaf_blob(alloc, showing.blob, part.number),
-        PartProperty::Size => Ok(size(showing.bytes, part)),
-        PartProperty::Header(asked) => header(alloc, own, fields, asked),
-        PartProperty::Headers => headers(alloc, own, fields),
-        PartProperty::Name => decoded_name(alloc, &part.name),
+        PartProperty::PartId => write_decimal(alloc, part.number),
+        PartProperty::BlobId => write_leaf_blob_id(alloc, showing.blob, part.number),
+        PartProperty::Size => Ok(write_size(showing.bytes, part)),
+        PartProperty::Header(asked) => write_header(alloc, own, fields, asked),
+        PartProperty::Headers => write_headers(alloc, own, fields),
+        PartProperty::Name => write_name(alloc, &part.name),
         PartProperty::MediaType => Ok(Json::Text(part.media.copy()?)),
-        PartProperty::Charset => text_or_null(&part.charset),
-        PartProperty::Disposition => text_or_null(&part.disposition),
-        PartProperty::Cid => text_or_null(&part.cid),
-        PartProperty::Language => texts_or_null(alloc, &part.language),
-        PartProperty::Location => text_or_null(&part.location),
+        PartProperty::Charset => write_text(&part.charset),
+        PartProperty::Disposition => write_text(&part.disposition),
+        PartProperty::Cid => write_text(&part.cid),
+        PartProperty::Language => write_texts(alloc, &part.language),
+        PartProperty::Location => write_text(&part.location),
         PartProperty::SubParts => Ok(Json::Null),
     }
 }
 
-/// The properties of a part that are asked for.
-pub(crate) fn part_members(
+/// Returns the properties of a part that are asked for.
+pub(crate) fn write_part_members(
     alloc: Global,
     showing: &Showing<'_>,
     part: &Part,
 ) -> Result<Members, NoMemory>
     requires { IsPlaced (length showing.now.bytes.now) (node_of part.now) }
-    ensures { IfOk result (λ ms. ms ≡ Parts.part_members showing.now.bytes.now showing.now.blob.now showing.now.asked.now (node_of part.now)) }
+    ensures { IfOk result (λ ms. ms
+        ≡ Parts.part_members showing.now.bytes.now showing.now.blob.now showing.now.asked.now
+        (node_of part.now)) }
 {
     let own = &showing.bytes[part.start as usize..part.end as usize];
     let head = fields(alloc, own)?;
     let mut members = Members::with_room(alloc, showing.asked.len())?;
     for asked in showing.asked {
-        let value = part_property(alloc, showing, part, own, &head.fields, &asked.property)?;
+        let value = write_part_property(alloc, showing, part, own, &head.fields, &asked.property)?;
         members.put(asked.name.copy()?, value)?;
     }
     Ok(members)
 }
 
-/// A leaf in a list of parts.
-pub(crate) fn leaf(alloc: Global, showing: &Showing<'_>, part: &Part) -> Result<Json, NoMemory>
+/// Returns the view of a leaf in a list of parts.
+pub(crate) fn write_leaf(
+    alloc: Global,
+    showing: &Showing<'_>,
+    part: &Part,
+) -> Result<Json, NoMemory>
     requires { IsPlaced (length showing.now.bytes.now) (node_of part.now) }
-    ensures { IfOk result (λ t. tree_of t ≡ leaf_tree showing.now.bytes.now showing.now.blob.now showing.now.asked.now (node_of part.now)) }
+    ensures { IfOk result (λ t. tree_of t
+        ≡ leaf_tree showing.now.bytes.now showing.now.blob.now showing.now.asked.now
+        (node_of part.now)) }
 {
-    Ok(Json::Object(part_members(alloc, showing, part)?))
+    Ok(Json::Object(write_part_members(alloc, showing, part)?))
 }

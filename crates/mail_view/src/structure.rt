@@ -1,19 +1,19 @@
-// The parts of a message as a tree (RFC 8621, section 4.1.4: bodyStructure).
+// bodyStructure: the parts of a message as a tree (RFC 8621, section 4.1.4).
 ghost use Rattle.std.specs.Prelude.{◌≡◌, ◌∷◌, [], IfOk, length};
 ghost use Rattle.jm_json.specs.Json.{tree_of as json_of};
 ghost use Rattle.mime_tree.specs.Places.{AllPlaced};
-ghost use Rattle.mime_type.specs.Forest.{none};
+ghost use Rattle.mime_type.specs.PartTrees.{none};
 ghost use Rattle.mime_type.specs.Joined.{joined, node_of, tree_of};
 ghost use Rattle.mail_view.specs.Parts;
 
-use crate::part::{Showing, part_members};
+use crate::part::{Showing, write_part_members};
 use jm_base::NoMemory;
 use jm_json::{Items, Json, Members};
 use mime_type::Part;
 use std::alloc::Global;
 
 // The members of a part, of a multipart with the parts within it.
-fn with_parts(
+fn add_sub_parts(
     alloc: Global,
     part: &Part,
     inner: Items,
@@ -29,25 +29,33 @@ fn with_parts(
     Ok(members)
 }
 
-/// A part with those within it. Multiparts nest at most 32 deep.
+/// Returns the view of a part with those within it. Multiparts nest at most 32 deep.
 #[cycle(structure)]
-pub(crate) fn structure(alloc: Global, showing: &Showing<'_>, part: &Part) -> Result<Json, NoMemory>
+pub(crate) fn write_structure(
+    alloc: Global,
+    showing: &Showing<'_>,
+    part: &Part,
+) -> Result<Json, NoMemory>
     requires { AllPlaced (length showing.now.bytes.now) (tree_of part.now none) }
-    ensures { IfOk result (λ t. Parts.structures showing.now.bytes.now showing.now.blob.now showing.now.asked.now (tree_of part.now none) ≡ json_of t ∷ []) }
+    ensures { IfOk result (λ t.
+        Parts.structures showing.now.bytes.now showing.now.blob.now showing.now.asked.now
+        (tree_of part.now none) ≡ json_of t ∷ []) }
 {
-    let inner = structures(alloc, showing, part.parts.as_slice())?;
-    let members = part_members(alloc, showing, part)?;
-    Ok(Json::Object(with_parts(alloc, part, inner, members)?))
+    let inner = write_structures(alloc, showing, part.parts.as_slice())?;
+    let members = write_part_members(alloc, showing, part)?;
+    Ok(Json::Object(add_sub_parts(alloc, part, inner, members)?))
 }
 
 #[cycle(structure)]
-fn structures(alloc: Global, showing: &Showing<'_>, parts: &[Part]) -> Result<Items, NoMemory>
+fn write_structures(alloc: Global, showing: &Showing<'_>, parts: &[Part]) -> Result<Items, NoMemory>
     requires { AllPlaced (length showing.now.bytes.now) (joined parts.now none) }
-    ensures { IfOk result (λ ts. ts ≡ Parts.structures showing.now.bytes.now showing.now.blob.now showing.now.asked.now (joined parts.now none)) }
+    ensures { IfOk result (λ ts. ts
+        ≡ Parts.structures showing.now.bytes.now showing.now.blob.now showing.now.asked.now
+        (joined parts.now none)) }
 {
     let mut items = Items::with_room(alloc, parts.len())?;
     for part in parts {
-        items.push(structure(alloc, showing, part)?)?;
+        items.push(write_structure(alloc, showing, part)?)?;
     }
     Ok(items)
 }

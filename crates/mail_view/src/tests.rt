@@ -1,5 +1,6 @@
-// Messages as they are shown, and arguments of a wrong form.
-use crate::{Wanted, WantedFault, read_wanted, view, wanted_for_read};
+// Views of messages.
+use crate::view;
+use get_args::{Wanted, WantedFault, read_wanted, wanted_for_read};
 use jm_base::{NoMemory, Numbers, Sequence, Text, UtcDate};
 use jm_json::{read, write};
 use mail_records::{Email, Summary};
@@ -141,7 +142,8 @@ fn fields_are_shown_by_their_names(rt: HostRuntime) -> Result<(), Fail> {
     check(&rt, rt.alloc(), "A: 1\nB: 2\nA: 3\n\n", &rows)
 }
 
-// What is shown of the email below where no properties are named (RFC 8621, section 4.2), and the one part for which `PART` stands.
+// What is shown of the email below where no properties are named (RFC 8621, section 4.2), and the
+// one part for which `PART` stands.
 const ALL: &str =
     "{\"attachments\":[],\"bcc\":null,\"blobId\":\"b1\",\"bodyValues\":{},\"cc\":null,\"from\":null,\"hasAttachment\":false,\"htmlBody\":[PART],\"id\":\"E7\",\"inReplyTo\":null,\"keywords\":{\"$seen\":true},\"mailboxIds\":{\"M10\":true,\"M2\":true},\"messageId\":null,\"preview\":\"\",\"receivedAt\":\"1970-01-01T00:00:09Z\",\"references\":null,\"replyTo\":null,\"sender\":null,\"sentAt\":null,\"size\":5,\"subject\":null,\"textBody\":[PART],\"threadId\":\"T3\",\"to\":null}";
 
@@ -204,101 +206,6 @@ fn an_email_is_shown_with_what_is_known_of_it(rt: HostRuntime) -> Result<(), Fai
     Ok(())
 }
 
-// Whether the argument of this name, or none, is the one that is blamed.
-fn blames(alloc: Global, args: &str, name: &str) -> Result<bool, Fail> {
-    match asked(alloc, args, true)? {
-        Ok(_) => Ok(false),
-        Err(blamed) => Ok(blamed.as_str() == name),
-    }
-}
-
-// No truth value, no list of names, and no unsigned number.
-const NO_FLAGS: [&str; 5] = ["null", "1", "\"true\"", "[]", "{}"];
-
-const NO_LISTS: [&str; 8] = [
-    "true",
-    "1",
-    "\"id\"",
-    "{}",
-    "[1]",
-    "[null]",
-    "[[]]",
-    "[\"none\"]",
-];
-
-const NO_COUNTS: [&str; 6] = ["null", "true", "-1", "\"1\"", "[]", "{}"];
-
-// Whether the argument of this name is blamed for each of these values.
-fn all_blamed(alloc: Global, name: &str, values: &[&str]) -> Result<bool, Fail> {
-    for value in values {
-        let args = format!(in alloc; "{{\"{name}\":{value}}}")?;
-        if !blames(alloc, args.as_str(), name)? {
-            return Ok(false);
-        }
-    }
-    Ok(true)
-}
-
-#[test]
-fn an_argument_of_a_wrong_form_is_named(rt: HostRuntime) -> Result<(), Fail> {
-    let alloc = rt.alloc();
-    for name in [
-        "fetchAllBodyValues",
-        "fetchHTMLBodyValues",
-        "fetchTextBodyValues",
-    ] {
-        assert!(rt; all_blamed(alloc, name, &NO_FLAGS)?, "{name}");
-    }
-    assert!(rt; all_blamed(alloc, "bodyProperties", &NO_LISTS)?);
-    assert!(rt; all_blamed(alloc, "properties", &NO_LISTS)?);
-    assert!(rt; all_blamed(alloc, "maxBodyValueBytes", &NO_COUNTS)?);
-    let rows = [
-        ("null", ""),
-        ("true", ""),
-        ("1", ""),
-        ("\"\"", ""),
-        ("[]", ""),
-        ("{\"bodyProperties\":null}", "bodyProperties"),
-        // A property of a part is none of an email, and the other way round.
-        ("{\"bodyProperties\":[\"preview\"]}", "bodyProperties"),
-        ("{\"properties\":[\"partId\"]}", "properties"),
-    ];
-    for (args, name) in &rows {
-        assert!(rt; blames(alloc, args, name)?, "{args}");
-    }
-    Ok(())
-}
-
-#[test]
-fn the_first_argument_of_a_wrong_form_is_named(rt: HostRuntime) -> Result<(), Fail> {
-    let rows = [
-        (
-            "{\"maxBodyValueBytes\":{},\"properties\":{}}",
-            "maxBodyValueBytes",
-        ),
-        (
-            "{\"fetchTextBodyValues\":{},\"maxBodyValueBytes\":{}}",
-            "fetchTextBodyValues",
-        ),
-        (
-            "{\"fetchHTMLBodyValues\":{},\"fetchTextBodyValues\":{}}",
-            "fetchHTMLBodyValues",
-        ),
-        (
-            "{\"fetchAllBodyValues\":{},\"fetchHTMLBodyValues\":{}}",
-            "fetchAllBodyValues",
-        ),
-        (
-            "{\"bodyProperties\":{},\"fetchAllBodyValues\":{}}",
-            "bodyProperties",
-        ),
-    ];
-    for (args, name) in &rows {
-        assert!(rt; blames(rt.alloc(), args, name)?, "{args}");
-    }
-    Ok(())
-}
-
 #[test]
 fn long_lists_are_shown(rt: HostRuntime) -> Result<(), Fail> {
     let alloc = rt.alloc();
@@ -332,39 +239,4 @@ fn a_part_is_shown_with_what_its_head_says(rt: HostRuntime) -> Result<(), Fail> 
         "{\"bodyStructure\":{\"blobId\":\"b1-1\",\"charset\":null,\"cid\":\"x@y\",\"disposition\":\"inline\",\"language\":[\"en\",\"de\"],\"location\":\"http://x/y\",\"name\":\"a b\",\"partId\":\"1\",\"size\":3,\"type\":\"image/png\"}}",
     )];
     check(&rt, rt.alloc(), message, &rows)
-}
-
-#[test]
-fn a_field_may_be_asked_for_in_its_forms(rt: HostRuntime) -> Result<(), Fail> {
-    let good = [
-        "header:A",
-        "header:all",
-        "header:A:asURLs:all",
-        "header:RESENT-reply-to:asDate",
-        "header:list-id:asText",
-        "header:From:asGroupedAddresses",
-        "header:Received:asRaw",
-    ];
-    let bad = [
-        "header",
-        "header:",
-        "header:A b",
-        "header:A:",
-        "header:A:astext",
-        "header:A:all:asText",
-        "header:A:asText:all:all",
-        "header:From:asText",
-        "header:Subject:asAddresses",
-        "header:Received:asText",
-        "Header:A",
-    ];
-    for name in good {
-        let args = format!(in rt.alloc(); "{{\"properties\":[\"{name}\"]}}")?;
-        assert!(rt; asked(rt.alloc(), args.as_str(), true)?.is_ok(), "{name}");
-    }
-    for name in bad {
-        let args = format!(in rt.alloc(); "{{\"properties\":[\"{name}\"]}}")?;
-        assert!(rt; asked(rt.alloc(), args.as_str(), true)?.is_err(), "{name}");
-    }
-    Ok(())
 }

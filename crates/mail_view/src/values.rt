@@ -1,4 +1,4 @@
-// The texts of body parts as they are shown (RFC 8621, sections 4.1.4 and 4.2).
+// bodyValues: the decoded text of body parts (RFC 8621, sections 4.1.4 and 4.2).
 ghost use Rattle.std.specs.Prelude.{◌≡◌, [], IfOk, OnOk, length};
 ghost use Rattle.jm_json.specs.Json.{tree_of as json_of};
 ghost use Rattle.mime_tree.specs.Kept.{parts_of};
@@ -8,20 +8,20 @@ ghost use Rattle.body_lists.specs.Shown.{lists_of};
 ghost use Rattle.mail_summary.specs.Leaves;
 ghost use Rattle.mail_summary.specs.Texts;
 ghost use Rattle.mail_view.specs.Objects.{put_all};
-ghost use Rattle.mail_view.specs.Read.{IsRead};
-ghost use Rattle.mail_view.specs.Split.{ArePlaced, nodes_of};
+ghost use Rattle.mail_view.specs.Messages.{IsRead};
+ghost use Rattle.mail_view.specs.Views.{ArePlaced, nodes_of};
 ghost use Rattle.mail_view.specs.Values.{entries, entry, entry_by, is_asked, value_tree, values_tree};
 
-use crate::Wanted;
 use crate::message::Message;
 use body_lists::BodyLists;
+use get_args::Wanted;
 use jm_base::{NoMemory, Text};
 use jm_json::{Json, Members};
 use mail_summary::body_value_of;
 use mime_type::Part;
 use std::alloc::Global;
 
-// Whether a part may stand in these lists.
+// Whether a number is one of these.
 fn is_among(numbers: &[u64], number: u64) -> bool
     ensures { result ≡ Leaves.is_among numbers.now (Some number) }
 {
@@ -33,7 +33,7 @@ fn is_among(numbers: &[u64], number: u64) -> bool
     false
 }
 
-fn may_stand(numbers: &[u64], number: Option<u64>) -> bool
+fn is_listed(numbers: &[u64], number: Option<u64>) -> bool
     ensures { result ≡ Leaves.is_among numbers.now number }
 {
     match number {
@@ -43,19 +43,20 @@ fn may_stand(numbers: &[u64], number: Option<u64>) -> bool
 }
 
 // Whether the text of a part is asked for.
-fn is_asked(wanted: &Wanted, lists: &BodyLists, part: &Part) -> bool
+fn is_value_wanted(wanted: &Wanted, lists: &BodyLists, part: &Part) -> bool
     ensures { result ≡ is_asked wanted.now (lists_of lists.now) (node_of part.now) }
 {
     part.media.as_bytes().starts_with(b"text/")
         && (wanted.all_values
-            || (wanted.text_values && may_stand(lists.text.as_slice(), part.number))
-            || (wanted.html_values && may_stand(lists.html.as_slice(), part.number)))
+            || (wanted.text_values && is_listed(lists.text.as_slice(), part.number))
+            || (wanted.html_values && is_listed(lists.html.as_slice(), part.number)))
 }
 
 // The text of a part.
-fn value(alloc: Global, bytes: &[u8], most: u64, part: &Part) -> Result<Json, NoMemory>
+fn write_value(alloc: Global, bytes: &[u8], most: u64, part: &Part) -> Result<Json, NoMemory>
     requires { IsPlaced (length bytes.now) (node_of part.now) }
-    ensures { IfOk result (λ t. json_of t ≡ value_tree (Texts.body_value bytes.now most (node_of part.now))) }
+    ensures { IfOk result (λ t.
+        json_of t ≡ value_tree (Texts.body_value bytes.now most (node_of part.now))) }
 {
     let body = body_value_of(alloc, bytes, part, most)?;
     let mut value = Members::with_room(alloc, 3)?;
@@ -75,20 +76,21 @@ fn put_value(
     values: &mut Members,
 ) -> Result<(), NoMemory>
     requires { IsPlaced (length bytes.now) (node_of part.now) }
-    ensures { OnOk result (values.new ≡ put_all (entry bytes.now wanted.now (lists_of lists.now) (node_of part.now)) values.old) }
+    ensures { OnOk result (values.new
+        ≡ put_all (entry bytes.now wanted.now (lists_of lists.now) (node_of part.now)) values.old) }
 {
-    if !is_asked(wanted, lists, part) {
+    if !is_value_wanted(wanted, lists, part) {
         return Ok(());
     }
     let Some(number) = part.number else {
         return Ok(());
     };
     let name = Text::from_string(format!(in alloc; "{number}")?);
-    values.put(name, value(alloc, bytes, wanted.most_bytes, part)?)
+    values.put(name, write_value(alloc, bytes, wanted.most_bytes, part)?)
 }
 
 // The texts of some parts.
-fn part_values(
+fn write_part_values(
     alloc: Global,
     bytes: &[u8],
     wanted: &Wanted,
@@ -96,7 +98,8 @@ fn part_values(
     parts: &[&Part],
 ) -> Result<Members, NoMemory>
     requires { ArePlaced (length bytes.now) (nodes_of parts.now) }
-    ensures { IfOk result (λ ms. ms ≡ put_all (entries bytes.now wanted.now (lists_of lists.now) (nodes_of parts.now)) []) }
+    ensures { IfOk result (λ ms. ms
+        ≡ put_all (entries bytes.now wanted.now (lists_of lists.now) (nodes_of parts.now)) []) }
 {
     let mut values = Members::new(alloc);
     for part in parts {
@@ -105,16 +108,18 @@ fn part_values(
     Ok(values)
 }
 
-/// The texts that are asked for, each by the number of its part.
-pub(crate) fn body_values(
+/// Returns the texts that are asked for, each under its partId.
+pub(crate) fn write_body_values(
     alloc: Global,
     message: &Message<'_>,
     wanted: &Wanted,
 ) -> Result<Json, NoMemory>
     requires { IsRead message.now }
-    ensures { IfOk result (λ t. json_of t ≡ values_tree message.now.showing.bytes.now wanted.now (parts_of message.now.showing.bytes.now)) }
+    ensures { IfOk result (λ t. json_of t
+        ≡ values_tree message.now.showing.bytes.now wanted.now
+        (parts_of message.now.showing.bytes.now)) }
 {
     let bytes = message.showing.bytes;
-    let values = part_values(alloc, bytes, wanted, message.lists, message.parts)?;
+    let values = write_part_values(alloc, bytes, wanted, message.lists, message.parts)?;
     Ok(Json::Object(values))
 }

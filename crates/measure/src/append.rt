@@ -10,7 +10,7 @@ use std::alloc::Global;
 use std::io;
 use std::time::{Clock, Instant};
 
-// How many rows are put behind those of the file.
+// How many rows are put after those of the file.
 const ROWS: u64 = 1000;
 
 // A row of 200 bytes.

@@ -1,4 +1,4 @@
-// Encoding and decoding of commits beside a plain copy of their bytes.
+// Encoding and decoding of commits next to a plain copy of their bytes.
 ghost use Rattle.std.specs.Prelude.{IfOk, All};
 ghost use Rattle.mail_records.specs.Commits.{IsFormed};
 
@@ -23,7 +23,7 @@ fn invalid() -> io::Error {
     io::Error::from(io::ErrorKind::InvalidData)
 }
 
-// The first row of the bytes, and the bytes behind it. A row is its length, as a number of 8 bytes
+// The first row of the bytes, and the bytes after it. A row is its length, as a number of 8 bytes
 // with the big end first, and its bytes.
 fn first_row(bytes: &[u8]) -> Option<(&[u8], &[u8])> {
     if bytes.len() < 8 {

@@ -1,4 +1,4 @@
-//! The program `measure`: how long calls of the library take, beside a plain way to do the same
+//! The program `measure`: how long calls of the library take, next to a plain way to do the same
 //! work. The benchmarks run it.
 //!
 //! Times go to the error output, and counts, which are the same whatever the schedule, to standard
@@ -50,7 +50,7 @@ fn status_of(measured: io::Result<()>) -> ExitCode {
     }
 }
 
-// The words behind the program's name.
+// The words after the program's name.
 fn words_of(rt: &(impl env::Env + AllocGlobal)) -> io::Result<Vec<String>> {
     let mut words = Vec::new(rt.alloc());
     for word in env::args(rt)?.skip(1) {

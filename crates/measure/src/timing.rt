@@ -1,4 +1,4 @@
-// How long work takes, and what is told where it can't be measured.
+// How long work takes, and what is known where it can't be measured.
 
 use std::io;
 use std::time::{Clock, Instant};

@@ -1,8 +1,9 @@
 // What a client is shown of each message of a folder.
 use crate::timing::{nanos_since, no_memory};
+use get_args::{Wanted, wanted_for_read};
 use jm_base::{Bytes, NoMemory};
 use jm_json::write_after;
-use mail_view::{Wanted, view, wanted_for_read};
+use mail_view::view;
 use std::alloc::Global;
 use std::time::Instant;
 use std::{fs, io};

@@ -1,0 +1,6 @@
+use Rattle.std.proofs.Common.{◌≡◌, map, drop}
+use Rattle.get_args.specs.PropertyNames.{is_one_of}
+use Rattle.get_args.proofs.header_names.is_one_of.Given as goal
+
+abbrev pub invariant-loop-known : goal.invariant-loop-known
+invariant-loop-known l = is_one_of (map (λ t. t.now) l.names) l.name ≡ is_one_of (map (λ t. t.now) (drop l.known-index l.names)) l.name

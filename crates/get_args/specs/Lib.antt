@@ -1,0 +1,5 @@
+pub mod Views
+pub mod PropertyNames
+pub mod Selection
+pub mod Wanted
+pub mod Faults

@@ -1,0 +1,303 @@
+// Names of header fields and of their forms (RFC 8621, sections 4.1.2 and 4.1.3).
+ghost use Rattle.std.specs.Prelude.{◌≡◌, Some, None, IfOk, map, option_map};
+ghost use Rattle.std.specs.List.{list_all};
+ghost use Rattle.mime_lines.specs.Fields;
+ghost use Rattle.get_args.specs.PropertyNames as Names;
+ghost use Rattle.get_args.specs.PropertyNames.{at_colon, after_name, by_name, address_fields, date_fields, field_asked, field_form, header_named, id_fields, raw_fields, text_fields, url_fields, if_field, in_form};
+ghost use Rattle.get_args.specs.Views.{halves, field_form_of};
+
+use crate::property::HeaderProperty;
+use header_forms::Form;
+use jm_base::{NoMemory, Text};
+use mail_text::is_same_name;
+use std::alloc::Global;
+
+// The fields that have each form besides Raw (RFC 8621, section 4.1.2).
+const TEXT_FIELDS: [&str; 4] = ["Subject", "Comments", "Keywords", "List-Id"];
+
+const ADDRESS_FIELDS: [&str; 11] = [
+    "From",
+    "Sender",
+    "Reply-To",
+    "To",
+    "Cc",
+    "Bcc",
+    "Resent-From",
+    "Resent-Sender",
+    "Resent-To",
+    "Resent-Cc",
+    "Resent-Bcc",
+];
+
+const ID_FIELDS: [&str; 4] = [
+    "Message-ID",
+    "In-Reply-To",
+    "References",
+    "Resent-Message-ID",
+];
+
+const DATE_FIELDS: [&str; 2] = ["Date", "Resent-Date"];
+
+const URL_FIELDS: [&str; 6] = [
+    "List-Help",
+    "List-Unsubscribe",
+    "List-Subscribe",
+    "List-Post",
+    "List-Owner",
+    "List-Archive",
+];
+
+const RAW_FIELDS: [&str; 2] = ["Return-Path", "Received"];
+
+// Whether the name is one of these, in either case.
+fn is_one_of(names: &[&str], name: &str) -> bool
+    ensures { result ≡ Names.is_one_of (map (λ t. t.now) names.now) name.now }
+{
+    for known in names {
+        if is_same_name(name.as_bytes(), known.as_bytes()) {
+            return true;
+        }
+    }
+    false
+}
+
+fn is_text_field(name: &str) -> bool
+    ensures { result ≡ Names.is_one_of text_fields name.now }
+{
+    is_one_of(&TEXT_FIELDS, name)
+}
+
+fn is_address_field(name: &str) -> bool
+    ensures { result ≡ Names.is_one_of address_fields name.now }
+{
+    is_one_of(&ADDRESS_FIELDS, name)
+}
+
+fn is_id_field(name: &str) -> bool
+    ensures { result ≡ Names.is_one_of id_fields name.now }
+{
+    is_one_of(&ID_FIELDS, name)
+}
+
+fn is_date_field(name: &str) -> bool
+    ensures { result ≡ Names.is_one_of date_fields name.now }
+{
+    is_one_of(&DATE_FIELDS, name)
+}
+
+fn is_url_field(name: &str) -> bool
+    ensures { result ≡ Names.is_one_of url_fields name.now }
+{
+    is_one_of(&URL_FIELDS, name)
+}
+
+fn is_raw_field(name: &str) -> bool
+    ensures { result ≡ Names.is_one_of raw_fields name.now }
+{
+    is_one_of(&RAW_FIELDS, name)
+}
+
+// Whether the name is none of those above.
+fn is_other(name: &str) -> bool
+    ensures { result ≡ Names.is_other name.now }
+{
+    !(is_text_field(name)
+        || is_address_field(name)
+        || is_id_field(name)
+        || is_date_field(name)
+        || is_url_field(name)
+        || is_raw_field(name))
+}
+
+// Whether a field of this name may be asked for in this form.
+fn is_allowed(form: Form, name: &str) -> bool
+    ensures { result ≡ Names.is_allowed form name.now }
+{
+    match form {
+        Form::Raw => true,
+        Form::Text => is_text_field(name) || is_other(name),
+        Form::Addresses | Form::GroupedAddresses => is_address_field(name) || is_other(name),
+        Form::MessageIds => is_id_field(name) || is_other(name),
+        Form::Date => is_date_field(name) || is_other(name),
+        Form::Urls => is_url_field(name) || is_other(name),
+    }
+}
+
+// The form of a name such as asText.
+fn form_named(text: &str) -> Option<Form>
+    ensures { result ≡ Names.form_named text.now }
+{
+    if text == "asRaw" {
+        Some(Form::Raw)
+    } else if text == "asText" {
+        Some(Form::Text)
+    } else if text == "asAddresses" {
+        Some(Form::Addresses)
+    } else if text == "asGroupedAddresses" {
+        Some(Form::GroupedAddresses)
+    } else if text == "asMessageIds" {
+        Some(Form::MessageIds)
+    } else if text == "asDate" {
+        Some(Form::Date)
+    } else if text == "asURLs" {
+        Some(Form::Urls)
+    } else {
+        None
+    }
+}
+
+fn is_name_byte(byte: u8) -> bool
+    ensures { result ≡ Rattle.mime_lines.specs.Fields.is_name_byte byte }
+{
+    33 <= byte && byte <= 126 && byte != b':'
+}
+
+fn are_name_bytes(bytes: &[u8]) -> bool
+    ensures { result ≡ list_all Rattle.mime_lines.specs.Fields.is_name_byte bytes.now }
+{
+    for byte in bytes {
+        if !is_name_byte(*byte) {
+            return false;
+        }
+    }
+    true
+}
+
+// Whether a field may have this name.
+fn is_field_name(name: &str) -> bool
+    ensures { result ≡ Names.is_field_name name.now }
+{
+    0 < name.len() && are_name_bytes(name.as_bytes())
+}
+
+// A field that is asked for, where it may be asked for in this form.
+fn if_field(
+    alloc: Global,
+    name: &str,
+    form: Form,
+    all: bool,
+) -> Result<Option<HeaderProperty>, NoMemory>
+    ensures { IfOk result (λ o. o ≡ if_field name.now form all) }
+{
+    if !(is_field_name(name) && is_allowed(form, name)) {
+        return Ok(None);
+    }
+    let field = Text::from_str(alloc, name)?;
+    Ok(Some(HeaderProperty { field, form, all }))
+}
+
+// A field that is asked for, in the form of a name such as asText.
+fn in_form(
+    alloc: Global,
+    name: &str,
+    form: &str,
+    all: bool,
+) -> Result<Option<HeaderProperty>, NoMemory>
+    ensures { IfOk result (λ o. o ≡ in_form name.now form.now all) }
+{
+    match form_named(form) {
+        Some(form) => if_field(alloc, name, form, all),
+        None => Ok(None),
+    }
+}
+
+// The string before the first colon, and the string after it.
+fn split_colon(text: &str) -> Option<(&str, &str)>
+    ensures { option_map halves result ≡ at_colon text.now }
+{
+    text.split_once(':')
+}
+
+// What is asked for after a field's name.
+fn after_name(alloc: Global, name: &str, text: &str) -> Result<Option<HeaderProperty>, NoMemory>
+    ensures { IfOk result (λ o. o ≡ after_name name.now text.now (at_colon text.now)) }
+{
+    match split_colon(text) {
+        Some((form, last)) => {
+            if last != "all" {
+                return Ok(None);
+            }
+            in_form(alloc, name, form, true)
+        }
+        None => {
+            if text == "all" {
+                return if_field(alloc, name, Form::Raw, true);
+            }
+            in_form(alloc, name, text, false)
+        }
+    }
+}
+
+// A field by its name, with `all`, a form, or a form and `all` after it.
+fn field_asked(alloc: Global, text: &str) -> Result<Option<HeaderProperty>, NoMemory>
+    ensures { IfOk result (λ o. o ≡ field_asked text.now) }
+{
+    match split_colon(text) {
+        Some((name, rest)) => after_name(alloc, name, rest),
+        None => if_field(alloc, text, Form::Raw, false),
+    }
+}
+
+/// Returns the header field that a name such as `header:NAME:asFORM:all` means, or `None` if it
+/// means none (RFC 8621, section 4.1.3).
+pub(crate) fn read_header_property(
+    alloc: Global,
+    text: &str,
+) -> Result<Option<HeaderProperty>, NoMemory>
+    ensures { IfOk result (λ o. o ≡ header_named text.now) }
+{
+    match split_colon(text) {
+        Some((front, rest)) => {
+            if front != "header" {
+                return Ok(None);
+            }
+            field_asked(alloc, rest)
+        }
+        None => Ok(None),
+    }
+}
+
+/// A field's name, and the form in which its last value is shown.
+#[derive(Clone, Copy)]
+pub(crate) struct FieldForm {
+    pub field: &'static str,
+    pub form: Form,
+}
+
+fn field_form_of(field: &'static str, form: Form) -> Option<FieldForm>
+    ensures { option_map field_form_of result ≡ Some (field.now, form) }
+{
+    Some(FieldForm { field, form })
+}
+
+/// Returns the field, and its form, that a property such as `from` names (RFC 8621, section
+/// 4.1.3).
+pub(crate) fn find_field_form(name: &str) -> Option<FieldForm>
+    ensures { option_map field_form_of result ≡ field_form name.now }
+{
+    if name == "bcc" {
+        field_form_of("Bcc", Form::Addresses)
+    } else if name == "cc" {
+        field_form_of("Cc", Form::Addresses)
+    } else if name == "from" {
+        field_form_of("From", Form::Addresses)
+    } else if name == "inReplyTo" {
+        field_form_of("In-Reply-To", Form::MessageIds)
+    } else if name == "messageId" {
+        field_form_of("Message-ID", Form::MessageIds)
+    } else if name == "references" {
+        field_form_of("References", Form::MessageIds)
+    } else if name == "replyTo" {
+        field_form_of("Reply-To", Form::Addresses)
+    } else if name == "sender" {
+        field_form_of("Sender", Form::Addresses)
+    } else if name == "sentAt" {
+        field_form_of("Date", Form::Date)
+    } else if name == "subject" {
+        field_form_of("Subject", Form::Text)
+    } else if name == "to" {
+        field_form_of("To", Form::Addresses)
+    } else {
+        None
+    }
+}

@@ -1,8 +1,0 @@
-use Rattle.std.proofs.Common.{◌≡◌, map, drop, ◌++◌}
-use Rattle.get_calls.specs.Parts.{mailbox_without}
-use Rattle.get_calls.proofs.objects.show_all.Given as goal
-
-abbrev pub invariant-loop-mailbox : goal.invariant-loop-mailbox
-invariant-loop-mailbox l =
-    map (mailbox_without l.read_only (map (λ h. h.now) l.hidden)) l.mailboxes
-    ≡ l.objects ++ map (mailbox_without l.read_only (map (λ h. h.now) l.hidden)) (drop l.mailbox-index l.mailboxes)

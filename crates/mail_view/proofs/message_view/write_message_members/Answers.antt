@@ -1,0 +1,24 @@
+use Rattle.std.proofs.Common.{◌≡◌, ◌∙◌, ap, sym, subst, length, List}
+use Rattle.mime_type.specs.Node.{Node}
+use Rattle.mime_type.specs.PartTrees.{none}
+use Rattle.mime_type.specs.Joined.{tree_of}
+use Rattle.mime_tree.specs.Kept.{walked, parts_of}
+use Rattle.body_lists.specs.Lists.{lists_in}
+use Rattle.mail_view.specs.Views.{ArePlaced, nodes_of}
+use Rattle.mail_view.proofs.TreeFacts.{walked_placed}
+use Rattle.mail_view.proofs.message_view.write_message_members.Goals as goal
+
+pub write_members-requires-clause-read : goal.write_members-requires-clause-read
+write_members-requires-clause-read c =
+    let tree = c.in_ok-root.ensures.tree in
+    let size = length c.args.bytes.now in
+    let walk = ap nodes_of c.as_slice-2.ensures.value ∙ c.in_ok-parts.ensures in
+    record {
+      found = c.in_ok-head.ensures.fields;
+      within = c.in_ok-head.ensures.within;
+      tree = tree;
+      placed = c.in_ok-root.ensures.places;
+      walk = walk ∙ ap walked tree;
+      places = subst (λ (xs : List Node). ArePlaced size xs) (sym walk) (walked_placed size (tree_of c.in_ok-root.root none) c.in_ok-root.ensures.places);
+      lists = c.in_ok-lists.ensures ∙ ap lists_in tree;
+    }
