@@ -1,0 +1,11 @@
+pub mod Rising
+pub mod Marking
+pub mod Named
+pub mod Greatest
+pub mod Spans
+pub mod Exact
+pub mod UpToDate
+pub mod Next
+pub mod Taking
+pub mod Finding
+pub mod Moving

@@ -1,0 +1,4 @@
+pub mod Changes
+pub mod Marks
+pub mod Pages
+pub mod Responses
