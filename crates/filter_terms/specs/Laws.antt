@@ -1,0 +1,41 @@
+-- Laws of filters.
+use Rattle.std.specs.Prelude.{◌≡◌, ℕ, List, Bool, true, codes, map, Some}
+use Rattle.jm_base.specs.declared.identifiers.Kind.{Kind}
+use Rattle.jm_base.specs.declared.identifiers.Kind.TheVariants.{Mailbox as OfMailboxes, Email as OfEmails}
+use Rattle.jm_json.specs.Tree.{Tree, text, list, object, no_fields, field, trees_of}
+use Rattle.mail_records.specs.Contents.{Content, email_at, mailbox_at}
+use Rattle.mail_records.specs.declared.records.Email.{Email}
+use Rattle.filter_terms.specs.Filters.{holds, matches}
+use Rattle.filter_terms.specs.Seen.{Target, of_thread}
+use Rattle.filter_terms.specs.Texts.{MessageTexts}
+use Rattle.filter_terms.specs.Wide.{is_wide}
+
+-- the operator of this name over these filters
+abbrev pub operation : List ℕ → List Tree → Tree
+operation name ts =
+    object (field (codes "conditions") (list (trees_of ts))
+    (field (codes "operator") (text name) no_fields))
+
+-- what each filter says
+abbrev pub each_says : Kind → Target → List Tree → List Bool
+each_says kind x ts = map (λ t. holds kind x t) ts
+
+-- Two contents have the same of an email: the email, and the emails of its thread where the filter
+-- looks at them.
+pub record SameSeen (wide : Bool) (c d : Content) (n : ℕ) : Type 0 where
+  pub email : email_at c n ≡ email_at d n
+  pub thread :
+      wide ≡ true → (e : Email) → email_at c n ≡ Some e
+      → of_thread e.thread c.emails ≡ of_thread e.thread d.emails
+
+abbrev pub EmailsDecide : Type 0
+EmailsDecide =
+    (t : Tree) (c d : Content) (texts : ℕ → MessageTexts) (n : ℕ)
+    → SameSeen (is_wide OfEmails t) c d n
+    → matches OfEmails t c texts n ≡ matches OfEmails t d texts n
+
+abbrev pub MailboxesDecide : Type 0
+MailboxesDecide =
+    (t : Tree) (c d : Content) (texts : ℕ → MessageTexts) (n : ℕ)
+    → mailbox_at c n ≡ mailbox_at d n
+    → matches OfMailboxes t c texts n ≡ matches OfMailboxes t d texts n

@@ -1,0 +1,14 @@
+pub mod Contains
+pub mod Texts
+pub mod Names
+pub mod Dates
+pub mod Values
+pub mod Seen
+pub mod EmailTerms
+pub mod MailboxTerms
+pub mod Filters
+pub mod Forms
+pub mod Wide
+pub mod Views
+pub mod Ready
+pub mod Laws

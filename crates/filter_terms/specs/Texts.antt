@@ -1,0 +1,32 @@
+-- What the conditions of a filter look at in a message (RFC 8621, 4.4.1).
+use Rattle.std.specs.Prelude.{ℕ, List, ◌++◌, length, Bool, not, ◌==◌, Option, Some, None, codes}
+use Rattle.filter_terms.specs.Contains.{some_contains}
+use Rattle.filter_terms.specs.declared.texts.Place.{Place}
+use Rattle.filter_terms.specs.declared.texts.Place.TheVariants.{Text, From, To, Cc, Bcc, Subject, Body}
+
+-- The texts of a message: for each name of a header field, which counts in either case, the Text
+-- form of each field of that name, and the decoded text of each text part.
+pub record MessageTexts : Type 0 where
+  pub fields : List ℕ → List (List ℕ)
+  pub bodies : List (List ℕ)
+
+-- the texts at a place; `text` is all the others together
+abbrev pub texts_at : MessageTexts → Place → List (List ℕ)
+texts_at m From = m.fields (codes "From")
+texts_at m To = m.fields (codes "To")
+texts_at m Cc = m.fields (codes "Cc")
+texts_at m Bcc = m.fields (codes "Bcc")
+texts_at m Subject = m.fields (codes "Subject")
+texts_at m Body = m.bodies
+texts_at m Text =
+    m.fields (codes "From") ++ m.fields (codes "To") ++ m.fields (codes "Cc")
+    ++ m.fields (codes "Bcc") ++ m.fields (codes "Subject") ++ m.bodies
+
+-- some text at the place contains the needle
+abbrev pub has_text : MessageTexts → Place → List ℕ → Bool
+has_text m place needle = some_contains needle (texts_at m place)
+
+-- there is a field of the name, and with a needle one whose text contains it
+abbrev pub has_field : MessageTexts → List ℕ → Option (List ℕ) → Bool
+has_field m name None = not (length (m.fields name) == 0)
+has_field m name (Some needle) = some_contains needle (m.fields name)

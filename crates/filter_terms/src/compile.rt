@@ -1,0 +1,110 @@
+// The terms of a filter, from its tree.
+ghost use Rattle.std.specs.Prelude.{◌≡◌, IfOk, map};
+ghost use Rattle.jm_json.specs.Json.{member_of, tree_of};
+ghost use Rattle.jm_json.specs.Tree.{fields_of, object, trees_of};
+ghost use Rattle.filter_terms.specs.Names.{term_of};
+ghost use Rattle.filter_terms.specs.Ready.{MeanConditions, MeanItems, MeanList, MeanMembers, Means, MeansTerm};
+
+use crate::conditions::{read_email_condition, read_mailbox_condition};
+use crate::ready::Terms;
+use crate::terms::{Operator, Term, operator_of, term_of};
+use jm_base::{Kind, NoMemory};
+use jm_json::{Json, Member, Members};
+use std::alloc::Global;
+
+#[tactic(auto, using(crate::proofs::Said::said_so))]
+fn read_term(alloc: Global, term: Option<Term>, value: &Json) -> Result<Terms, NoMemory>
+    ensures { IfOk result (λ t. MeansTerm t term (tree_of value.now)) }
+{
+    match term {
+        None => Ok(Terms::Always),
+        Some(Term::OfEmail(term)) => {
+            Ok(Terms::OfEmail(read_email_condition(alloc, term, value)?))
+        }
+        Some(Term::OfMailbox(term)) => {
+            Ok(Terms::OfMailbox(read_mailbox_condition(alloc, term, value)?))
+        }
+    }
+}
+
+fn read_members(alloc: Global, kind: Kind, members: &[Member]) -> Result<Vec<Terms>, NoMemory>
+    ensures { IfOk result (λ ts. MeanMembers kind ts.items
+        (fields_of (map member_of members.now))) }
+{
+    let mut all = Vec::new(alloc);
+    for member in members {
+        let term = term_of(kind, member.name.as_str());
+        all.push(read_term(alloc, term, &member.value)?)?;
+    }
+    Ok(all)
+}
+
+/// Returns the terms of a filter, which say what its tree says.
+#[tactic(auto, using(crate::proofs::Said::said_so))]
+#[cycle(compile)]
+pub(crate) fn compile(alloc: Global, kind: Kind, tree: &Json) -> Result<Terms, NoMemory>
+    ensures { IfOk result (λ t. Means kind t (tree_of tree.now)) }
+{
+    match tree {
+        Json::Object(members) => compile_object(alloc, kind, members),
+        Json::Null | Json::Bool(_) | Json::Int(_) | Json::Text(_) | Json::List(_) => {
+            Ok(Terms::Always)
+        }
+    }
+}
+
+#[tactic(auto, using(crate::proofs::Said::said_so, jm_json::proofs::Lists::lists_back))]
+#[cycle(compile)]
+fn compile_object(alloc: Global, kind: Kind, members: &Members) -> Result<Terms, NoMemory>
+    ensures { IfOk result (λ t. Means kind t (object (fields_of members.now))) }
+{
+    match members.get("operator") {
+        Some(operator) => match operator_of(operator) {
+            Some(operator) => Ok(Terms::Join(
+                operator,
+                compile_conditions(alloc, kind, members.as_slice())?,
+            )),
+            None => Ok(Terms::Always),
+        },
+        None => Ok(Terms::Join(
+            Operator::And,
+            read_members(alloc, kind, members.as_slice())?,
+        )),
+    }
+}
+
+#[cycle(compile)]
+fn compile_conditions(alloc: Global, kind: Kind, members: &[Member]) -> Result<Vec<Terms>, NoMemory>
+    ensures { IfOk result (λ ts. MeanConditions kind ts.items
+        (fields_of (map member_of members.now))) }
+{
+    for member in members {
+        if member.name.as_str() == "conditions" {
+            return compile_list(alloc, kind, &member.value);
+        }
+    }
+    Ok(Vec::new(alloc))
+}
+
+#[cycle(compile)]
+fn compile_list(alloc: Global, kind: Kind, value: &Json) -> Result<Vec<Terms>, NoMemory>
+    ensures { IfOk result (λ ts. MeanList kind ts.items (tree_of value.now)) }
+{
+    match value {
+        Json::List(items) => compile_items(alloc, kind, items.as_slice()),
+        Json::Null | Json::Bool(_) | Json::Int(_) | Json::Text(_) | Json::Object(_) => {
+            Ok(Vec::new(alloc))
+        }
+    }
+}
+
+#[cycle(compile)]
+fn compile_items(alloc: Global, kind: Kind, items: &[Json]) -> Result<Vec<Terms>, NoMemory>
+    ensures { IfOk result (λ ts. MeanItems kind ts.items (trees_of (map tree_of items.now))) }
+{
+    let mut all = Vec::new(alloc);
+    for item in items {
+        all.push(compile(alloc, kind, item)?)?;
+    }
+    Ok(all)
+}

@@ -1,0 +1,331 @@
+// The conditions of a filter with their values, which are read once.
+ghost use Rattle.std.specs.Prelude.{◌≡◌, ◌==◌, ◌||◌, ℕ, Some, map, IfOk, OnOk};
+ghost use Rattle.std.specs.List.{list_any};
+ghost use Rattle.std.specs.Str.{str_to_ascii_lowercase};
+ghost use Rattle.jm_json.specs.Find.{as_text};
+ghost use Rattle.jm_json.specs.Json.{tree_of};
+ghost use Rattle.mail_records.specs.declared.records.Mailbox.{Mailbox};
+ghost use Rattle.filter_terms.specs.EmailTerms.{email_term_holds, field_holds, is_in_mailbox, is_mailbox_id};
+ghost use Rattle.filter_terms.specs.MailboxTerms.{has_parent, mailbox_term_holds};
+ghost use Rattle.filter_terms.specs.Ready.{email_says, mailbox_says};
+ghost use Rattle.filter_terms.specs.Seen.{Seen};
+ghost use Rattle.filter_terms.specs.Texts.{MessageTexts, has_field};
+ghost use Rattle.filter_terms.specs.Values.{field_test};
+ghost use Rattle.method_args.specs.Arguments.{passes};
+
+use crate::terms::{EmailTerm, KeywordTest, MailboxTerm};
+use crate::texts::Place;
+use crate::values::{as_count, as_date, as_flag, mailbox_number};
+use jm_base::{NoMemory, Numbers, Text};
+use jm_json::Json;
+use method_args::strings_of;
+use std::alloc::Global;
+
+/// A condition on emails with its value: numbers of mailboxes, Unix seconds, bytes, and keywords
+/// and texts in lower case.
+#[derive(Drop)]
+pub(crate) enum EmailCondition {
+    Never,
+    InMailbox(u64),
+    InMailboxOtherThan(Numbers),
+    Before(i64),
+    After(i64),
+    MinSize(u64),
+    MaxSize(u64),
+    Keyword(KeywordTest, Text),
+    HasAttachment(bool),
+    Contains(Place, Text),
+    HasField(Text),
+    FieldContains(Text, Text),
+}
+
+/// A condition on mailboxes with its value.
+#[derive(Drop)]
+pub(crate) enum MailboxCondition {
+    Never,
+    HasParent(u64),
+    HasNoParent,
+    Name(Text),
+    Role(Option<Text>),
+    HasAnyRole(bool),
+    IsSubscribed(bool),
+}
+
+// Returns a text in lower case.
+fn lower(alloc: Global, text: &str) -> Result<Text, NoMemory>
+    ensures { IfOk result (λ t. t ≡ str_to_ascii_lowercase text.now) }
+{
+    Ok(Text::from_string(text.to_ascii_lowercase(alloc)?))
+}
+
+// Adds the number of the mailbox whose id this is, if it is one.
+#[tactic(auto, using(crate::proofs::MailboxIds::more_numbers))]
+fn push_number(numbers: &mut Numbers, id: &str) -> Result<(), NoMemory>
+    ensures { OnOk result ((m : ℕ) → list_any (λ n. n == m) numbers.new
+        ≡ (list_any (λ n. n == m) numbers.old || is_mailbox_id id.now m)) }
+{
+    match mailbox_number(id.as_bytes()) {
+        Some(number) => numbers.push(number),
+        None => Ok(()),
+    }
+}
+
+// Returns the numbers of the mailboxes whose ids these are.
+fn mailbox_numbers(alloc: Global, ids: &[&str]) -> Result<Numbers, NoMemory>
+    ensures { IfOk result (λ ns. (m : ℕ) → list_any (λ n. n == m) ns
+        ≡ list_any (λ id. is_mailbox_id id m) (map (λ id. id.now) ids.now)) }
+{
+    let mut numbers = Numbers::new(alloc);
+    for id in ids {
+        push_number(&mut numbers, id)?;
+    }
+    Ok(numbers)
+}
+
+// The condition of a mailbox's id.
+fn in_mailbox_of(id: &Text) -> EmailCondition
+    ensures { (texts : ℕ → MessageTexts) (s : Seen) → email_says texts s result
+        ≡ is_in_mailbox id.now s.email }
+{
+    match mailbox_number(id.as_bytes()) {
+        Some(number) => EmailCondition::InMailbox(number),
+        None => EmailCondition::Never,
+    }
+}
+
+fn in_mailbox(value: &Json) -> EmailCondition
+    ensures { (texts : ℕ → MessageTexts) (s : Seen) → email_says texts s result
+        ≡ email_term_holds texts s EmailTerm.InMailbox (tree_of value.now) }
+{
+    match value.as_text() {
+        Some(id) => in_mailbox_of(id),
+        None => EmailCondition::Never,
+    }
+}
+
+#[tactic(auto, using(crate::proofs::MailboxIds::others_same))]
+fn in_mailbox_other_than(alloc: Global, value: &Json) -> Result<EmailCondition, NoMemory>
+    ensures { IfOk result (λ c. (texts : ℕ → MessageTexts) (s : Seen) → email_says texts s c
+        ≡ email_term_holds texts s EmailTerm.InMailboxOtherThan (tree_of value.now)) }
+{
+    match strings_of(alloc, value)? {
+        Some(ids) => Ok(EmailCondition::InMailboxOtherThan(mailbox_numbers(alloc, &ids)?)),
+        None => Ok(EmailCondition::Never),
+    }
+}
+
+fn before(value: &Json) -> EmailCondition
+    ensures { (texts : ℕ → MessageTexts) (s : Seen) → email_says texts s result
+        ≡ email_term_holds texts s EmailTerm.Before (tree_of value.now) }
+{
+    match as_date(value) {
+        Some(value) => EmailCondition::Before(value),
+        None => EmailCondition::Never,
+    }
+}
+
+fn after(value: &Json) -> EmailCondition
+    ensures { (texts : ℕ → MessageTexts) (s : Seen) → email_says texts s result
+        ≡ email_term_holds texts s EmailTerm.After (tree_of value.now) }
+{
+    match as_date(value) {
+        Some(value) => EmailCondition::After(value),
+        None => EmailCondition::Never,
+    }
+}
+
+fn min_size(value: &Json) -> EmailCondition
+    ensures { (texts : ℕ → MessageTexts) (s : Seen) → email_says texts s result
+        ≡ email_term_holds texts s EmailTerm.MinSize (tree_of value.now) }
+{
+    match as_count(value) {
+        Some(value) => EmailCondition::MinSize(value),
+        None => EmailCondition::Never,
+    }
+}
+
+fn max_size(value: &Json) -> EmailCondition
+    ensures { (texts : ℕ → MessageTexts) (s : Seen) → email_says texts s result
+        ≡ email_term_holds texts s EmailTerm.MaxSize (tree_of value.now) }
+{
+    match as_count(value) {
+        Some(value) => EmailCondition::MaxSize(value),
+        None => EmailCondition::Never,
+    }
+}
+
+fn has_attachment(value: &Json) -> EmailCondition
+    ensures { (texts : ℕ → MessageTexts) (s : Seen) → email_says texts s result
+        ≡ email_term_holds texts s EmailTerm.HasAttachment (tree_of value.now) }
+{
+    match as_flag(value) {
+        Some(value) => EmailCondition::HasAttachment(value),
+        None => EmailCondition::Never,
+    }
+}
+
+fn keyword(alloc: Global, test: KeywordTest, value: &Json) -> Result<EmailCondition, NoMemory>
+    ensures { IfOk result (λ c. (texts : ℕ → MessageTexts) (s : Seen) → email_says texts s c
+        ≡ email_term_holds texts s (EmailTerm.Keyword test) (tree_of value.now)) }
+{
+    match value.as_text() {
+        Some(keyword) => Ok(EmailCondition::Keyword(test, lower(alloc, keyword.as_str())?)),
+        None => Ok(EmailCondition::Never),
+    }
+}
+
+#[tactic(auto, using(crate::proofs::Lowered::in_lower_case))]
+fn contains(alloc: Global, place: Place, value: &Json) -> Result<EmailCondition, NoMemory>
+    ensures { IfOk result (λ c. (texts : ℕ → MessageTexts) (s : Seen) → email_says texts s c
+        ≡ email_term_holds texts s (EmailTerm.Contains place) (tree_of value.now)) }
+{
+    match value.as_text() {
+        Some(needle) => Ok(EmailCondition::Contains(place, lower(alloc, needle.as_str())?)),
+        None => Ok(EmailCondition::Never),
+    }
+}
+
+// The condition of the name of a header field and a text.
+#[tactic(auto, using(crate::proofs::Lowered::in_lower_case))]
+fn field_contains(alloc: Global, name: &str, needle: &str) -> Result<EmailCondition, NoMemory>
+    ensures { IfOk result (λ c. (texts : ℕ → MessageTexts) (s : Seen) → email_says texts s c
+        ≡ has_field (texts s.email.blob) name.now (Some needle.now)) }
+{
+    let name = Text::from_str(alloc, name)?;
+    let needle = lower(alloc, needle)?;
+    Ok(EmailCondition::FieldContains(name, needle))
+}
+
+// The condition of the name of a header field, and perhaps a text.
+fn field_condition(alloc: Global, strings: &[&str]) -> Result<EmailCondition, NoMemory>
+    ensures { IfOk result (λ c. (texts : ℕ → MessageTexts) (s : Seen) → email_says texts s c
+        ≡ passes (λ test. field_holds (texts s.email.blob) test)
+        (field_test (map (λ t. t.now) strings.now))) }
+{
+    let Some((name, rest)) = strings.split_first() else {
+        return Ok(EmailCondition::Never);
+    };
+    let Some((needle, more)) = rest.split_first() else {
+        return Ok(EmailCondition::HasField(Text::from_str(alloc, name)?));
+    };
+    if let Some(_) = more.split_first() {
+        return Ok(EmailCondition::Never);
+    }
+    field_contains(alloc, name, needle)
+}
+
+fn header(alloc: Global, value: &Json) -> Result<EmailCondition, NoMemory>
+    ensures { IfOk result (λ c. (texts : ℕ → MessageTexts) (s : Seen) → email_says texts s c
+        ≡ email_term_holds texts s EmailTerm.Header (tree_of value.now)) }
+{
+    match strings_of(alloc, value)? {
+        Some(strings) => field_condition(alloc, &strings),
+        None => Ok(EmailCondition::Never),
+    }
+}
+
+/// Returns a condition on emails with its value, which says what the condition and the value say.
+pub(crate) fn read_email_condition(
+    alloc: Global,
+    term: EmailTerm,
+    value: &Json,
+) -> Result<EmailCondition, NoMemory>
+    ensures { IfOk result (λ c. (texts : ℕ → MessageTexts) (s : Seen) → email_says texts s c
+        ≡ email_term_holds texts s term (tree_of value.now)) }
+{
+    match term {
+        EmailTerm::InMailbox => Ok(in_mailbox(value)),
+        EmailTerm::InMailboxOtherThan => in_mailbox_other_than(alloc, value),
+        EmailTerm::Before => Ok(before(value)),
+        EmailTerm::After => Ok(after(value)),
+        EmailTerm::MinSize => Ok(min_size(value)),
+        EmailTerm::MaxSize => Ok(max_size(value)),
+        EmailTerm::Keyword(test) => keyword(alloc, test, value),
+        EmailTerm::HasAttachment => Ok(has_attachment(value)),
+        EmailTerm::Contains(place) => contains(alloc, place, value),
+        EmailTerm::Header => header(alloc, value),
+    }
+}
+
+// The condition of a parent's id.
+fn has_parent(id: &Text) -> MailboxCondition
+    ensures { (m : Mailbox) → mailbox_says m result ≡ has_parent (Some id.now) m.parent }
+{
+    match mailbox_number(id.as_bytes()) {
+        Some(number) => MailboxCondition::HasParent(number),
+        None => MailboxCondition::Never,
+    }
+}
+
+fn parent_id(value: &Json) -> MailboxCondition
+    ensures { (m : Mailbox) → mailbox_says m result
+        ≡ mailbox_term_holds m MailboxTerm.ParentId (tree_of value.now) }
+{
+    match value {
+        Json::Null => MailboxCondition::HasNoParent,
+        Json::Text(id) => has_parent(id),
+        Json::Bool(_) | Json::Int(_) | Json::List(_) | Json::Object(_) => MailboxCondition::Never,
+    }
+}
+
+#[tactic(auto, using(crate::proofs::Lowered::in_lower_case))]
+fn name(alloc: Global, value: &Json) -> Result<MailboxCondition, NoMemory>
+    ensures { IfOk result (λ c. (m : Mailbox) → mailbox_says m c
+        ≡ mailbox_term_holds m MailboxTerm.Name (tree_of value.now)) }
+{
+    match value.as_text() {
+        Some(needle) => Ok(MailboxCondition::Name(lower(alloc, needle.as_str())?)),
+        None => Ok(MailboxCondition::Never),
+    }
+}
+
+fn role(value: &Json) -> Result<MailboxCondition, NoMemory>
+    ensures { IfOk result (λ c. (m : Mailbox) → mailbox_says m c
+        ≡ mailbox_term_holds m MailboxTerm.Role (tree_of value.now)) }
+{
+    match value {
+        Json::Null => Ok(MailboxCondition::Role(None)),
+        Json::Text(role) => Ok(MailboxCondition::Role(Some(role.copy()?))),
+        Json::Bool(_) | Json::Int(_) | Json::List(_) | Json::Object(_) => {
+            Ok(MailboxCondition::Never)
+        }
+    }
+}
+
+fn has_any_role(value: &Json) -> MailboxCondition
+    ensures { (m : Mailbox) → mailbox_says m result
+        ≡ mailbox_term_holds m MailboxTerm.HasAnyRole (tree_of value.now) }
+{
+    match as_flag(value) {
+        Some(value) => MailboxCondition::HasAnyRole(value),
+        None => MailboxCondition::Never,
+    }
+}
+
+fn is_subscribed(value: &Json) -> MailboxCondition
+    ensures { (m : Mailbox) → mailbox_says m result
+        ≡ mailbox_term_holds m MailboxTerm.IsSubscribed (tree_of value.now) }
+{
+    match as_flag(value) {
+        Some(value) => MailboxCondition::IsSubscribed(value),
+        None => MailboxCondition::Never,
+    }
+}
+
+/// Returns a condition on mailboxes with its value, which says what condition and value say.
+pub(crate) fn read_mailbox_condition(
+    alloc: Global,
+    term: MailboxTerm,
+    value: &Json,
+) -> Result<MailboxCondition, NoMemory>
+    ensures { IfOk result (λ c. (m : Mailbox) → mailbox_says m c
+        ≡ mailbox_term_holds m term (tree_of value.now)) }
+{
+    match term {
+        MailboxTerm::ParentId => Ok(parent_id(value)),
+        MailboxTerm::Name => name(alloc, value),
+        MailboxTerm::Role => role(value),
+        MailboxTerm::HasAnyRole => Ok(has_any_role(value)),
+        MailboxTerm::IsSubscribed => Ok(is_subscribed(value)),
+    }
+}

@@ -1,0 +1,163 @@
+// What a condition says of an email (RFC 8621, section 4.4.1).
+ghost use Rattle.std.specs.Prelude.{◌≡◌, ◌==◌, not, IfOk};
+ghost use Rattle.std.specs.List.{list_all, list_any};
+ghost use Rattle.mail_counts.specs.Counts.{has_keyword, is_in};
+ghost use Rattle.mail_records.specs.Contents.{email_at};
+ghost use Rattle.method_args.specs.Arguments.{passes};
+ghost use Rattle.filter_terms.specs.EmailTerms.{keyword_holds};
+ghost use Rattle.filter_terms.specs.Ready.{email_says, is_other_than};
+ghost use Rattle.filter_terms.specs.Seen.{of_thread, seen_in};
+
+use crate::conditions::EmailCondition;
+use crate::terms::KeywordTest;
+use crate::texts::Texts2;
+use jm_base::NoMemory;
+use mail_records::{Content, Email, Threaded};
+
+/// Returns whether an email has the keyword, which is in lower case.
+pub fn has_keyword(keyword: &str, email: &Email) -> bool
+    ensures { result ≡ has_keyword keyword.now email.now }
+{
+    for own in email.keywords.as_slice() {
+        if own.as_str() == keyword {
+            return true;
+        }
+    }
+    false
+}
+
+fn is_in(mailbox: u64, email: &Email) -> bool
+    ensures { result ≡ is_in mailbox email.now }
+{
+    for own in email.mailboxes.as_slice() {
+        if *own == mailbox {
+            return true;
+        }
+    }
+    false
+}
+
+fn is_other_than(numbers: &[u64], mailbox: u64) -> bool
+    ensures { result ≡ is_other_than numbers.now mailbox }
+{
+    for number in numbers {
+        if *number == mailbox {
+            return false;
+        }
+    }
+    true
+}
+
+fn is_in_other_than(numbers: &[u64], email: &Email) -> bool
+    ensures { result ≡ list_any (λ m. is_other_than numbers.now m) email.now.mailboxes }
+{
+    for own in email.mailboxes.as_slice() {
+        if is_other_than(numbers, *own) {
+            return true;
+        }
+    }
+    false
+}
+
+// Returns whether the email of an entry has the keyword.
+fn entry_has(keyword: &str, content: &Content, entry: &Threaded) -> bool
+    ensures { result ≡ passes (λ e. has_keyword keyword.now e)
+        (email_at content.now.content entry.now.email) }
+{
+    match content.email(entry.email) {
+        Some(email) => has_keyword(keyword, email),
+        None => false,
+    }
+}
+
+fn some_entry_has(keyword: &str, content: &Content, entries: &[Threaded]) -> bool
+    ensures { result ≡ list_any (λ t. passes (λ e. has_keyword keyword.now e)
+        (email_at content.now.content t.email)) entries.now }
+{
+    for entry in entries {
+        if entry_has(keyword, content, entry) {
+            return true;
+        }
+    }
+    false
+}
+
+fn all_entries_have(keyword: &str, content: &Content, entries: &[Threaded]) -> bool
+    ensures { result ≡ list_all (λ t. passes (λ e. has_keyword keyword.now e)
+        (email_at content.now.content t.email)) entries.now }
+{
+    for entry in entries {
+        if !entry_has(keyword, content, entry) {
+            return false;
+        }
+    }
+    true
+}
+
+/// Returns whether some email of a thread has the keyword, which is in lower case.
+#[tactic(auto, using(crate::proofs::ThreadEntries::some_entry))]
+pub fn some_in_thread_has(keyword: &str, content: &Content, thread: u64) -> bool
+    ensures { result ≡ list_any (λ e. has_keyword keyword.now e)
+        (of_thread thread content.now.content.emails) }
+{
+    let _emails = content.emails();
+    some_entry_has(keyword, content, content.in_thread(thread))
+}
+
+/// Returns whether all emails of a thread have the keyword, which is in lower case.
+#[tactic(auto, using(crate::proofs::ThreadEntries::all_entries))]
+pub fn all_in_thread_have(keyword: &str, content: &Content, thread: u64) -> bool
+    ensures { result ≡ list_all (λ e. has_keyword keyword.now e)
+        (of_thread thread content.now.content.emails) }
+{
+    let _emails = content.emails();
+    all_entries_have(keyword, content, content.in_thread(thread))
+}
+
+fn keyword_holds(test: KeywordTest, keyword: &str, content: &Content, email: &Email) -> bool
+    ensures { result ≡ keyword_holds (seen_in content.now.content.emails email.now) test
+        keyword.now }
+{
+    match test {
+        KeywordTest::AllInThread => all_in_thread_have(keyword, content, email.thread),
+        KeywordTest::SomeInThread => some_in_thread_has(keyword, content, email.thread),
+        KeywordTest::NoneInThread => !some_in_thread_has(keyword, content, email.thread),
+        KeywordTest::Has => has_keyword(keyword, email),
+        KeywordTest::HasNot => !has_keyword(keyword, email),
+    }
+}
+
+/// Returns what a condition says of an email of a content, whose messages contain what `texts`
+/// says.
+pub(crate) fn email_says<T: Texts2>(
+    condition: &EmailCondition,
+    content: &Content,
+    texts: &T,
+    email: &Email,
+) -> Result<bool, NoMemory>
+    ensures { IfOk result (λ b. b ≡ email_says (T.texts texts.now)
+        (seen_in content.now.content.emails email.now) condition.now) }
+{
+    match condition {
+        EmailCondition::Never => Ok(false),
+        EmailCondition::InMailbox(number) => Ok(is_in(*number, email)),
+        EmailCondition::InMailboxOtherThan(numbers) => {
+            Ok(is_in_other_than(numbers.as_slice(), email))
+        }
+        EmailCondition::Before(date) => Ok(email.received.seconds < *date),
+        EmailCondition::After(date) => Ok(*date <= email.received.seconds),
+        EmailCondition::MinSize(size) => Ok(*size <= email.size),
+        EmailCondition::MaxSize(size) => Ok(email.size < *size),
+        EmailCondition::Keyword(test, keyword) => {
+            Ok(keyword_holds(*test, keyword.as_str(), content, email))
+        }
+        EmailCondition::HasAttachment(flag) => Ok(*flag == email.summary.attachment),
+        EmailCondition::Contains(place, needle) => {
+            texts.has(email.blob, *place, needle.as_bytes())
+        }
+        EmailCondition::HasField(name) => texts.field(email.blob, name.as_bytes(), None),
+        EmailCondition::FieldContains(name, needle) => {
+            texts.field(email.blob, name.as_bytes(), Some(needle.as_bytes()))
+        }
+    }
+}

@@ -1,0 +1,6 @@
+pub mod Properties
+pub mod Comparators
+pub mod Forms
+pub mod Orders
+pub mod Views
+pub mod Laws

@@ -1,0 +1,126 @@
+// The comparators of an order (RFC 8620, section 5.5).
+ghost use Rattle.std.specs.Prelude.{◌≡◌, ◌++◌, List, true, IfOk, OnOk, map};
+ghost use Rattle.sort_terms.specs.declared.comparators.Comparator.{Comparator as TheComparator};
+ghost use Rattle.std.specs.Option.{unwrap_or};
+ghost use Rattle.jm_json.specs.Json.{tree_of};
+ghost use Rattle.method_args.specs.Arguments.{as_flag};
+ghost use Rattle.sort_terms.specs.Forms.{comparator_in, comparator_of, comparator_with, comparators_from, comparators_of, if_any, is_ascending, keyword_in};
+
+use crate::forms::property_in;
+use crate::properties::Property;
+use jm_base::{Kind, NoMemory, Text};
+use jm_json::{Json, Members};
+use method_args::read_text;
+use std::alloc::Global;
+
+/// A comparator, with its keyword in lower case, or an empty one.
+#[derive(Drop)]
+pub(crate) struct Comparator {
+    pub property: Property,
+    pub ascending: bool,
+    pub keyword: Text,
+}
+
+fn flag_or_true(value: &Json) -> bool
+    ensures { result ≡ unwrap_or (as_flag (tree_of value.now)) true }
+{
+    match value {
+        Json::Bool(flag) => *flag,
+        Json::Null | Json::Int(_) | Json::Text(_) | Json::List(_) | Json::Object(_) => true,
+    }
+}
+
+fn is_ascending(members: &Members) -> bool
+    ensures { result ≡ is_ascending members.now }
+{
+    match members.get("isAscending") {
+        Some(value) => flag_or_true(value),
+        None => true,
+    }
+}
+
+fn keyword_in(alloc: Global, members: &Members) -> Result<Text, NoMemory>
+    ensures { IfOk result (λ k. k ≡ keyword_in members.now) }
+{
+    match read_text(members, "keyword") {
+        Some(keyword) => Ok(Text::from_string(keyword.as_str().to_ascii_lowercase(alloc)?)),
+        None => Text::from_str(alloc, ""),
+    }
+}
+
+fn comparator_with(
+    alloc: Global,
+    members: &Members,
+    property: Property,
+) -> Result<Comparator, NoMemory>
+    ensures { IfOk result (λ c. c ≡ comparator_with members.now property) }
+{
+    let keyword = keyword_in(alloc, members)?;
+    Ok(Comparator {
+        property,
+        ascending: is_ascending(members),
+        keyword,
+    })
+}
+
+fn comparator_in(
+    alloc: Global,
+    kind: Kind,
+    members: &Members,
+) -> Result<Option<Comparator>, NoMemory>
+    ensures { IfOk result (λ c. c ≡ comparator_in kind members.now) }
+{
+    match property_in(kind, members) {
+        Some(property) => Ok(Some(comparator_with(alloc, members, property)?)),
+        None => Ok(None),
+    }
+}
+
+fn comparator_of(alloc: Global, kind: Kind, tree: &Json) -> Result<Option<Comparator>, NoMemory>
+    ensures { IfOk result (λ c. c ≡ comparator_of kind (tree_of tree.now)) }
+{
+    match tree.as_object() {
+        Some(members) => comparator_in(alloc, kind, members),
+        None => Ok(None),
+    }
+}
+
+fn push_any(all: &mut Vec<Comparator>, comparator: Option<Comparator>) -> Result<(), NoMemory>
+    ensures { OnOk result ((rest : List TheComparator)
+        → all.new.items ++ rest ≡ all.old.items ++ if_any comparator rest) }
+{
+    match comparator {
+        Some(comparator) => {
+            all.push(comparator)?;
+            Ok(())
+        }
+        None => Ok(()),
+    }
+}
+
+fn comparators_from(alloc: Global, kind: Kind, items: &[Json]) -> Result<Vec<Comparator>, NoMemory>
+    ensures { IfOk result (λ cs. cs.items ≡ comparators_from kind (map tree_of items.now)) }
+{
+    let mut all = Vec::new(alloc);
+    for item in items {
+        push_any(&mut all, comparator_of(alloc, kind, item)?)?;
+    }
+    Ok(all)
+}
+
+/// Returns the comparators of an order.
+#[tactic(auto, using(jm_json::proofs::Lists::lists_back))]
+pub(crate) fn comparators_of(
+    alloc: Global,
+    kind: Kind,
+    tree: &Json,
+) -> Result<Vec<Comparator>, NoMemory>
+    ensures { IfOk result (λ cs. cs.items ≡ comparators_of kind (tree_of tree.now)) }
+{
+    match tree {
+        Json::List(items) => comparators_from(alloc, kind, items.as_slice()),
+        Json::Null | Json::Bool(_) | Json::Int(_) | Json::Text(_) | Json::Object(_) => {
+            Ok(Vec::new(alloc))
+        }
+    }
+}
