@@ -1,5 +1,5 @@
 -- How the body of a message ends (RFC 9112, 6).
-use Rattle.std.specs.Prelude.{ℕ, ◌&&◌, nat_lt, List, [], ◌∷◌, length, take, drop, codes, if◌then◌else◌}
+use Rattle.std.specs.Prelude.{ℕ, Bool, ◌&&◌, nat_lt, List, [], ◌∷◌, length, take, drop, codes, if◌then◌else◌}
 use Rattle.std.specs.List.{list_all}
 use Rattle.std.specs.Char.{is_ascii_digit}
 use Rattle.std.specs.Str.{str_eq_ignore_ascii_case}
@@ -12,14 +12,16 @@ pub data Framing : Type 0 where
   InvalidLength Chunked NotSaid : Framing
   Sized : ℕ → Framing
 
--- One Content-Length of digits alone, or one Transfer-Encoding of `chunked`, in either case; both, or
--- two of one, are invalid (RFC 9112, 6.3: a server refuses what could be smuggled).
+-- one digit or more, and nothing else
+abbrev pub is_number : List ℕ → Bool
+is_number text = nat_lt 0 (length text) && list_all is_ascii_digit text
+
+-- One Content-Length of digits alone, or one Transfer-Encoding of `chunked`, in either case; both,
+-- or two of one, are invalid (RFC 9112, 6.3: a server refuses what could be smuggled).
 abbrev pub framing_by : List (List ℕ) → List (List ℕ) → Framing
 framing_by [] [] = NotSaid
 framing_by (size ∷ []) [] =
-    if nat_lt 0 (length size) && list_all is_ascii_digit size
-    then Sized (digits_value 10 size)
-    else InvalidLength
+    if is_number size then Sized (digits_value 10 size) else InvalidLength
 framing_by [] (coding ∷ []) =
     if str_eq_ignore_ascii_case coding (codes "chunked") then Chunked else InvalidLength
 framing_by (size ∷ []) (coding ∷ codings) = InvalidLength
@@ -28,10 +30,11 @@ framing_by [] (coding ∷ other ∷ codings) = InvalidLength
 
 abbrev pub framing_of : List (List ℕ × List ℕ) → Framing
 framing_of fields =
-    framing_by (values_of (codes "Content-Length") fields) (values_of (codes "Transfer-Encoding") fields)
+    framing_by (values_of (codes "Content-Length") fields)
+    (values_of (codes "Transfer-Encoding") fields)
 
--- What follows a head: its length is invalid; or it is longer than the limit; or it has not ended; or
--- it is this body, and those bytes come after it.
+-- What follows a head: its length is invalid; or it is longer than the limit; or it has not ended;
+-- or it is this body, and those bytes come after it.
 pub data Body : Type 0 where
   BodyInvalid BodyTooLong BodyUnfinished : Body
   Whole : (body rest : List ℕ) → Body

@@ -1,5 +1,5 @@
 -- A body in chunks (RFC 9112, 7.1).
-use Rattle.std.specs.Prelude.{ℕ, zero, suc, ◌+◌, ◌==◌, nat_lt, nat_le, Bool, true, ◌&&◌, ◌||◌, List, [], ◌∷◌, ◌++◌, length, take, drop, Option, None, Some, if◌then◌else◌}
+use Rattle.std.specs.Prelude.{ℕ, zero, suc, ◌+◌, ◌==◌, nat_lt, nat_le, Bool, true, not, ◌&&◌, List, [], ◌∷◌, ◌++◌, length, take, drop, Option, None, Some, if◌then◌else◌}
 use Rattle.std.specs.List.{prefix_len}
 use Rattle.std.specs.Char.{is_ascii_hexdigit}
 use Rattle.std.specs.Str.Parse.{digits_value}
@@ -28,13 +28,17 @@ chunk_size text =
     then Some (digits_value 16 (take (digit_count text) text))
     else None
 
+-- how many bytes stand before the first LF
+abbrev pub line_feed_at : List ℕ → ℕ
+line_feed_at bytes = prefix_len (λ b. not (b == 10)) bytes
+
 -- a first line that has its LF
 abbrev pub has_line : List ℕ → Bool
-has_line bytes = nat_lt (prefix_len (λ b. nat_lt b 10 || nat_lt 10 b) bytes) (length bytes)
+has_line bytes = nat_lt (line_feed_at bytes) (length bytes)
 
 -- how many bytes the first line has, its LF included
 abbrev pub line_bytes : List ℕ → ℕ
-line_bytes bytes = prefix_len (λ b. nat_lt b 10 || nat_lt 10 b) bytes + 1
+line_bytes bytes = line_feed_at bytes + 1
 
 -- the line at which a chunk begins: invalid, unfinished, or of this size, and these bytes follow
 pub data ChunkLine : Type 0 where
@@ -45,12 +49,13 @@ abbrev pub chunk_line_by : Option ℕ → List ℕ → ChunkLine
 chunk_line_by None rest = LineInvalid
 chunk_line_by (Some size) rest = Chunk size rest
 
--- A chunk line has at most MAX_CHUNK_LINE_BYTES bytes, its LF included. What it says is decided when
--- its LF is there, or that many bytes.
+-- A chunk line has at most MAX_CHUNK_LINE_BYTES bytes, its LF included. What it says is decided
+-- when its LF is there, or that many bytes.
 abbrev pub chunk_line : List ℕ → ChunkLine
 chunk_line bytes =
     if has_line bytes && nat_le (line_bytes bytes) MAX_CHUNK_LINE_BYTES
-    then chunk_line_by (chunk_size (text (take (line_bytes bytes) bytes))) (drop (line_bytes bytes) bytes)
+    then chunk_line_by (chunk_size (text (take (line_bytes bytes) bytes)))
+    (drop (line_bytes bytes) bytes)
     else if nat_le MAX_CHUNK_LINE_BYTES (length bytes) then LineInvalid else LineUnfinished
 
 -- after the last chunk: lines up to the first empty one, which are ignored (RFC 9112, 7.1.2)
@@ -73,7 +78,7 @@ chunk_end [] = EndUnfinished
 chunk_end (b ∷ []) = if b == 13 then EndUnfinished else EndInvalid
 chunk_end (b ∷ c ∷ rest) = if b == 13 && c == 10 then Ends rest else EndInvalid
 
--- what one chunk comes to: the body is settled, or it goes on after the chunk
+-- what one chunk comes to: the body is settled, or it continues after the chunk
 pub data ChunkStep : Type 0 where
   Settled : Body → ChunkStep
   GoesOn : (body rest : List ℕ) → ChunkStep
@@ -83,8 +88,8 @@ after_chunk body EndInvalid = Settled BodyInvalid
 after_chunk body EndUnfinished = Settled BodyUnfinished
 after_chunk body (Ends rest) = GoesOn body rest
 
--- A chunk of size 0 is the last one. A chunk by whose size the body passes the limit is refused at its
--- chunk line.
+-- A chunk of size 0 is the last one. A chunk by whose size the body passes the limit is refused at
+-- its chunk line.
 abbrev pub after_line : ℕ → List ℕ → ChunkLine → ChunkStep
 after_line limit body LineInvalid = Settled BodyInvalid
 after_line limit body LineUnfinished = Settled BodyUnfinished
@@ -94,16 +99,20 @@ after_line limit body (Chunk size rest) =
     else if nat_lt (length rest) size then Settled BodyUnfinished
     else after_chunk (body ++ take size rest) (chunk_end (drop size rest))
 
+-- what the next chunk of a body comes to, after the bytes of the body that came before it
+abbrev pub chunk_step : ℕ → List ℕ → List ℕ → ChunkStep
+chunk_step limit body bytes = after_line limit body (chunk_line bytes)
+
 abbrev pub body_by : (List ℕ → List ℕ → Body) → ChunkStep → Body
 body_by go (Settled body) = body
 body_by go (GoesOn body rest) = go body rest
 
--- The body of which these bytes are read, and whose next chunk line begins the others. `steps` is at
--- least the number of its chunk lines; one more than the number of bytes always is.
+-- The body of which these bytes are read, and whose next chunk line begins the others. `steps` is
+-- at least the number of its chunk lines; one more than the number of bytes always is.
 abbrev pub chunks : ℕ → ℕ → List ℕ → List ℕ → Body
 chunks zero limit body bytes = BodyUnfinished
 chunks (suc steps) limit body bytes =
-    body_by (chunks steps limit) (after_line limit body (chunk_line bytes))
+    body_by (chunks steps limit) (chunk_step limit body bytes)
 
 -- a body in chunks
 abbrev pub chunked_body : ℕ → List ℕ → Body

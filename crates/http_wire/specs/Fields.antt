@@ -4,6 +4,11 @@ use Rattle.std.specs.List.{list_all, list_any, onto_first}
 use Rattle.std.specs.Char.{is_ascii_alphanumeric}
 use Rattle.std.specs.Str.{str_eq_ignore_ascii_case}
 use Rattle.httparse.specs.Grammar.{trim_ows}
+use Rattle.http_wire.specs.declared.request.HttpField.{HttpField}
+
+-- the names and the values of fields
+abbrev pub pairs : List HttpField → List (List ℕ × List ℕ)
+pairs fields = map (λ f. (f.name, f.value)) fields
 
 -- the values of the fields of a name, in order (RFC 9110, 5.1: names are compared in either case)
 abbrev pub values_of : List ℕ → List (List ℕ × List ℕ) → List (List ℕ)
@@ -13,8 +18,8 @@ values_of name fields = map (λ f. f.1) (filter (λ f. str_eq_ignore_ascii_case 
 abbrev pub is_host_byte : ℕ → Bool
 is_host_byte b = is_ascii_alphanumeric b || list_any (λ c. c == b) (codes "._-:[]")
 
--- There is a Host field, and each Host field has bytes of hosts alone (RFC 9112, 3.2; that there may
--- be several, if each is valid, is our own rule).
+-- There is a Host field, and each Host field has bytes of hosts alone (RFC 9112, 3.2; that there
+-- may be several, if each is valid, is our own rule).
 abbrev pub has_host : List (List ℕ × List ℕ) → Bool
 has_host fields =
     nat_lt 0 (length (values_of (codes "Host") fields))
@@ -25,8 +30,8 @@ abbrev pub parts_of : List ℕ → List (List ℕ)
 parts_of [] = [] ∷ []
 parts_of (b ∷ bytes) = if b == 44 then [] ∷ parts_of bytes else onto_first b (parts_of bytes)
 
--- a list of words has this word, in either case (RFC 9110, 5.6.1: spaces and tabs around a word do not
--- count)
+-- a list of words has this word, in either case (RFC 9110, 5.6.1: spaces and tabs around a word do
+-- not count)
 abbrev pub lists_word : List ℕ → List ℕ → Bool
 lists_word word value = list_any (λ p. str_eq_ignore_ascii_case (trim_ows p) word) (parts_of value)
 

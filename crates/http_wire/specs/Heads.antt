@@ -1,5 +1,5 @@
--- Where the head of an HTTP/1.x message ends (RFC 9112, 2.1 and 2.2), of requests and of responses. A
--- line ends with LF or with CR LF.
+-- Where the head of an HTTP/1.x message ends (RFC 9112, 2.1 and 2.2), of requests and of responses.
+-- A line ends with LF or with CR LF.
 use Rattle.std.specs.Prelude.{ℕ, ◌+◌, nat_lt, nat_le, ◌||◌, List, [], ◌∷◌, length, take, drop, Option, None, Some, option_map, if◌then◌else◌}
 use Rattle.mime_lines.specs.Lines.{lines, is_line_end}
 use Rattle.http_wire.specs.declared.heads.HeadSize.{HeadSize}
@@ -27,15 +27,15 @@ head_size (line ∷ more) =
     then Some (record { bytes = length line; lines = 0 })
     else option_map (one_line_more (length line)) (head_size more)
 
--- The beginning of a message: its head is too long; or it has not ended; or these bytes are its head,
--- without the empty lines before it, and those follow.
+-- The beginning of a message: its head is too long; or it has not ended; or these bytes are its
+-- head, without the empty lines before it, and those follow.
 pub data Beginning : Type 0 where
   HeadTooLong Unfinished : Beginning
   Head : (head rest : List ℕ) → Beginning
 
--- A head ends with its first empty line. It is too long if the first MAX_HEAD_BYTES bytes do not hold
--- it whole, empty lines before it included, or if more than MAX_HEAD_FIELDS lines stand between its
--- first line and the empty one.
+-- A head ends with its first empty line. It is too long if the first MAX_HEAD_BYTES bytes do not
+-- hold it whole, empty lines before it included, or if more than MAX_HEAD_FIELDS lines stand
+-- between its first line and the empty one.
 abbrev pub beginning_by : List ℕ → ℕ → Option HeadSize → Beginning
 beginning_by bytes empty None =
     if nat_le MAX_HEAD_BYTES (length bytes) then HeadTooLong else Unfinished

@@ -6,3 +6,8 @@ pub mod Requests
 pub mod Responses
 pub mod Pieces
 pub mod Views
+pub mod Parts
+pub mod Found
+pub mod Parsed
+pub mod Lengths
+pub mod Opened

@@ -9,7 +9,8 @@ use Rattle.http_wire.specs.declared.fault.WireFault.TheVariants.{End, ReadFault,
 
 -- a piece was read; if the call succeeded, the piece was appended, and it is empty only at the end;
 -- after a fault of reading it is empty
-pub record Receives (old new : List ℕ) (left_old left_new : Option (List ℕ)) (result : Result ℕ WireFault) : Type 0 where
+pub record Receives (old new : List ℕ) (left_old left_new : Option (List ℕ))
+    (result : Result ℕ WireFault) : Type 0 where
   pub piece : List ℕ
   pub consumed : Consumes left_old left_new piece
   pub outcome : MatchResult result

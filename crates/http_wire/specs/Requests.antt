@@ -15,9 +15,9 @@ use Rattle.http_wire.specs.declared.fault.WireFault.{WireFault}
 use Rattle.http_wire.specs.declared.fault.WireFault.TheVariants.{End, ReadFault, WriteFault, BadHead, HeadTooLong as IsTooLong, BodyTooLong as BodyOver, CutOff, NoMemory as OutOfMemory}
 use Rattle.http_wire.specs.declared.limits.TheConstants.{MAX_HEAD_FIELDS, MAX_UPLOAD_BYTES, MAX_REQUEST_BYTES}
 
--- What the heads of a kind of message are: which bytes read as which head; what its body's length is,
--- given what its fields say; whether it is invalid though it reads; and the most bytes of its body.
--- Requests and responses differ in nothing else.
+-- What the heads of a kind of message are: which bytes read as which head; what its body's length
+-- is, given what its fields say; whether it is invalid though it reads; and the most bytes of its
+-- body. Requests and responses differ in nothing else.
 pub record Grammar (H : Type 0) : Type 1 where
   pub reads : List ℕ → H → Type 0
   pub fields : H → List (List ℕ × List ℕ)
@@ -26,8 +26,8 @@ pub record Grammar (H : Type 0) : Type 1 where
   pub limit : H → ℕ
 
 -- The first message of some bytes: its head is too long; its head or the length of its body is
--- invalid; its body is longer than the limit; it has not ended; or it is this one, with this body, and
--- those bytes come after it.
+-- invalid; its body is longer than the limit; it has not ended; or it is this one, with this body,
+-- and those bytes come after it.
 pub data Message (H : Type 0) : Type 0 where
   TooLong Invalid Begun : Message H
   OverLimit : ℕ → Message H
@@ -39,7 +39,7 @@ with_body g h BodyTooLong = OverLimit (g.limit h)
 with_body g h BodyUnfinished = Begun
 with_body g h (Whole body rest) = Complete h body rest
 
--- what stands there, where this is the head that its bytes read as, if they read as one
+-- what is there, where this is the head that its bytes read as, if they read as one
 abbrev pub message_by : {H : Type 0} → Grammar H → Option H → Beginning → Message H
 message_by g o HeadTooLong = TooLong
 message_by g o Unfinished = Begun
@@ -60,7 +60,8 @@ IsHead g (Head head rest) o = AreReadAs g head o
 -- the first message of the bytes
 abbrev pub IsMessage : {H : Type 0} → Grammar H → List ℕ → Message H → Type 0
 IsMessage {H} g bytes message =
-    (o : Option H) × IsHead g (beginning_of bytes) o × (message ≡ message_by g o (beginning_of bytes))
+    (o : Option H) × IsHead g (beginning_of bytes) o
+    × (message ≡ message_by g o (beginning_of bytes))
 
 -- the names and the values of a head's fields; white space around a value does not count
 abbrev pub names_and_values : List Field → List (List ℕ × List ℕ)
@@ -97,8 +98,8 @@ is_open BodyTooLong = false
 is_open BodyUnfinished = true
 is_open (Whole body rest) = true
 
--- The interim response is due: the head has come whole, it is valid, the length that it says is valid
--- and within the limit, and it asks for the response (RFC 9110, 10.1.1).
+-- The interim response is due: the head has come whole, it is valid, the length that it says is
+-- valid and within the limit, and it asks for the response (RFC 9110, 10.1.1).
 abbrev pub is_due_by : Option RequestHead → Beginning → Bool
 is_due_by o HeadTooLong = false
 is_due_by o Unfinished = false
@@ -109,7 +110,8 @@ is_due_by (Some h) (Head head rest) =
     && expects_continue h.minor (names_and_values h.fields)
 
 abbrev pub IsDue : List ℕ → Type 0
-IsDue bytes = (o : Option RequestHead) × IsHead requests (beginning_of bytes) o × IsTrue (is_due_by o (beginning_of bytes))
+IsDue bytes = (o : Option RequestHead) × IsHead requests (beginning_of bytes) o
+    × IsTrue (is_due_by o (beginning_of bytes))
 
 -- the request with this head and body
 pub record IsRequestOf (h : RequestHead) (body : List ℕ) (r : HttpRequest) : Type 0 where
@@ -123,8 +125,8 @@ pub record IsRequestOf (h : RequestHead) (body : List ℕ) (r : HttpRequest) : T
 abbrev pub begun_bytes : List ℕ → ℕ
 begun_bytes bytes = length bytes - empty_bytes (lines bytes)
 
--- when the reading of a request may fail, after these bytes were read, with all that is known of the
--- link: what is left, and its counts of faults before and after
+-- when the reading of a request may fail, after these bytes were read, with all that is known of
+-- the link: what is left, and its counts of faults before and after
 abbrev pub Explains : WireFault → List ℕ → Option (List ℕ) → ℕ → ℕ → ℕ → ℕ → Type 0
 Explains End seen left reads_old reads_new puts_old puts_new =
     IsMessage requests seen Begun × IsAtEnd left × (begun_bytes seen ≡ 0)
@@ -140,8 +142,10 @@ Explains (BodyOver limit) seen left reads_old reads_new puts_old puts_new =
     IsMessage requests seen (OverLimit limit)
 Explains OutOfMemory seen left reads_old reads_new puts_old puts_new = ⊤
 
--- the interim response was written if and only if it is due; after a fault of writing, a prefix of it
-abbrev pub HasContinued : Result HttpRequest WireFault → List ℕ → Option (List ℕ) → Option (List ℕ) → Type 0
+-- the interim response was written if and only if it is due; after a fault of writing, a prefix of
+-- it
+abbrev pub HasContinued : Result HttpRequest WireFault → List ℕ → Option (List ℕ) → Option (List ℕ)
+    → Type 0
 HasContinued (Err WriteFault) seen held_old held_new =
     (n : ℕ) × Appends held_old held_new (take n continue_bytes)
 HasContinued (Err OutOfMemory) seen held_old held_new =
@@ -150,15 +154,16 @@ HasContinued result seen held_old held_new =
     (IsDue seen × Appends held_old held_new continue_bytes)
     ⊎ (¬ (IsDue seen) × Appends held_old held_new [])
 
--- What a call that reads a request did: it read these bytes of the link, and what it returned is the
--- first message of `early` and these; after a request `early` has the bytes after it.
+-- What a call that reads a request did: it read these bytes of the link, and what it returned is
+-- the first message of `early` and these; after a request `early` has the bytes after it.
 pub record ReadsRequestFrom
     (early_old early_new : List ℕ) (left_old left_new held_old held_new : Option (List ℕ))
-    (reads_old reads_new puts_old puts_new : ℕ) (result : Result HttpRequest WireFault) : Type 0 where
-  pub taken : List ℕ
-  pub consumed : Consumes left_old left_new taken
-  pub outcome : MatchResult result
-      (λ r. (h : RequestHead) × (body : List ℕ) × IsRequestOf h body r
-      × IsMessage requests (early_old ++ taken) (Complete h body early_new))
-      (λ fault. Explains fault (early_old ++ taken) left_new reads_old reads_new puts_old puts_new)
-  pub continued : HasContinued result (early_old ++ taken) held_old held_new
+    (reads_old reads_new puts_old puts_new : ℕ) (result : Result HttpRequest WireFault) : Type 0
+  where
+    pub taken : List ℕ
+    pub consumed : Consumes left_old left_new taken
+    pub outcome : MatchResult result
+        (λ r. (h : RequestHead) × (body : List ℕ) × IsRequestOf h body r
+        × IsMessage requests (early_old ++ taken) (Complete h body early_new))
+        (λ fault. Explains fault (early_old ++ taken) left_new reads_old reads_new puts_old puts_new)
+    pub continued : HasContinued result (early_old ++ taken) held_old held_new

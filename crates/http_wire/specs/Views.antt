@@ -1,6 +1,7 @@
 -- What contracts see of the code's own types.
 use Rattle.std.specs.Prelude.{ℕ, ⊤, ◌≡◌, ◌≤◌, ◌-◌, List, length, take, drop}
 use Rattle.http_wire.specs.Heads.{Beginning, HeadTooLong, Unfinished, Head, beginning_of}
+use Rattle.http_wire.specs.declared.limits.TheConstants.{MAX_HEAD_BYTES}
 use Rattle.http_wire.specs.declared.heads.HeadSpan.{HeadSpan}
 use Rattle.http_wire.specs.declared.heads.Start.{Start}
 use Rattle.http_wire.specs.declared.heads.Start.TheVariants.{TooLong, Unfinished as NotEnded, Ended}
@@ -27,3 +28,9 @@ IsStartWithin bytes (Ended at) = IsWithin bytes at
 -- the head of the first message of the bytes is between these offsets
 abbrev pub IsHeadAt : List ℕ → HeadSpan → Type 0
 IsHeadAt bytes at = (beginning_of bytes ≡ head_at bytes at) × IsWithin bytes at
+
+-- a head is within the most bytes of one
+abbrev pub IsShort : Start → Type 0
+IsShort TooLong = ⊤
+IsShort NotEnded = ⊤
+IsShort (Ended at) = at.end ≤ MAX_HEAD_BYTES

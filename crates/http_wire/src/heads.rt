@@ -2,7 +2,7 @@
 ghost use Rattle.std.specs.Prelude.{◌≡◌, ◌<◌, ◌≤◌, ◌+◌, length, drop, IfSome};
 ghost use Rattle.mime_lines.specs.Lines.{lines};
 ghost use Rattle.http_wire.specs.declared.limits.TheConstants.{MAX_HEAD_BYTES};
-ghost use Rattle.http_wire.specs.Views.{start_as, IsStartWithin};
+ghost use Rattle.http_wire.specs.Views.{start_as, IsStartWithin, IsShort};
 ghost use Rattle.http_wire.specs.Heads.{empty_bytes, after_empty, head_size, beginning_of};
 
 use crate::limits::{MAX_HEAD_BYTES, MAX_HEAD_FIELDS};
@@ -35,7 +35,8 @@ pub(crate) enum Start {
 // Returns how many bytes the empty line at the beginning has: 0 if there is none.
 fn count_line_end(bytes: &[u8]) -> usize
     ensures bound { result ≤ length bytes.now }
-    ensures goes_on { empty_bytes (lines bytes.now) ≡ result + empty_bytes (lines (drop result bytes.now)) }
+    ensures goes_on { empty_bytes (lines bytes.now) ≡ result + empty_bytes (lines (drop result
+        bytes.now)) }
     ensures ends { result ≡ 0 → empty_bytes (lines bytes.now) ≡ 0 }
     ensures rest { after_empty (lines bytes.now) ≡ after_empty (lines (drop result bytes.now)) }
     ensures begun { result ≡ 0 → after_empty (lines bytes.now) ≡ lines bytes.now }
@@ -86,6 +87,7 @@ pub(crate) fn find_end(bytes: &[u8]) -> Option<HeadSize>
 pub(crate) fn find_head(bytes: &[u8]) -> Start
     ensures value { start_as bytes.now result ≡ beginning_of bytes.now }
     ensures within { IsStartWithin bytes.now result }
+    ensures small { IsShort result }
     ensures short { result ≡ Start.Unfinished → length bytes.now < MAX_HEAD_BYTES }
 {
     let start = count_empty(bytes);

@@ -1,10 +1,11 @@
 // The limits of a message.
 
-/// The most bytes of a head, empty lines before it included. A longer one is answered with status 431.
+/// The most bytes of a head, empty lines before it included. A longer one is answered with status
+/// 431.
 pub const MAX_HEAD_BYTES: usize = 16_384;
 
-/// The most fields of a head, and the most lines between its first line and the empty line. A head of
-/// more is answered with status 431.
+/// The most fields of a head, and the most lines between its first line and the empty line. A head
+/// of more is answered with status 431.
 pub const MAX_HEAD_FIELDS: usize = 64;
 
 /// The most bytes of a chunk line, its LF included. A longer one is answered with status 400.

@@ -30,7 +30,7 @@ fn find_reason_phrase(status: u16) -> &'static str
 }
 
 // Appends bytes to others.
-fn push_bytes(bytes: &mut Vec<u8>, more: &[u8]) -> Result<(), NoMemory>
+pub(crate) fn push_bytes(bytes: &mut Vec<u8>, more: &[u8]) -> Result<(), NoMemory>
     ensures { OnOk result (bytes.new.items ≡ bytes.old.items ++ more.now) }
 {
     bytes.extend_from_slice(more)?;
@@ -49,7 +49,8 @@ fn push_line(bytes: &mut Vec<u8>, name: &str, value: &[u8]) -> Result<(), NoMemo
 
 // Returns the status and its reason phrase.
 fn write_status(alloc: Global, status: u16) -> Result<String, NoMemory>
-    ensures { IfOk result (λ s. string_bytes s ≡ decimal status ++ codes " " ++ reason_phrase status) }
+    ensures { IfOk result (λ s. string_bytes s ≡ decimal status ++ codes " " ++ reason_phrase
+        status) }
 {
     let phrase = find_reason_phrase(status);
     Ok(format!(in alloc; "{status} {phrase}")?)
@@ -122,9 +123,10 @@ fn write_head(
 const MAX_COPIED_BYTES: usize = 65_536;
 
 // Writes bytes to a link.
-fn put_bytes<L: Link>(link: &mut L, bytes: &[u8]) -> Result<(), WireFault>
+pub(crate) fn put_bytes<L: Link>(link: &mut L, bytes: &[u8]) -> Result<(), WireFault>
     ensures ok { OnOk result (Appends (L.held link.old) (L.held link.new) bytes.now) }
-    ensures err { IfErr result (λ e. IsPrefixWritten e (L.held link.old) (L.held link.new) bytes.now) }
+    ensures err { IfErr result (λ e. IsPrefixWritten e (L.held link.old) (L.held link.new)
+        bytes.now) }
     ensures cause { HasCause (L.put_faults link.old) (L.put_faults link.new) result }
     ensures left { L.left link.new ≡ L.left link.old }
     ensures read_faults { L.read_faults link.new ≡ L.read_faults link.old }
@@ -138,7 +140,8 @@ fn put_bytes<L: Link>(link: &mut L, bytes: &[u8]) -> Result<(), WireFault>
 // Writes bytes and others after them to a link.
 fn put_two<L: Link>(link: &mut L, bytes: &[u8], more: &[u8]) -> Result<(), WireFault>
     ensures ok { OnOk result (Appends (L.held link.old) (L.held link.new) (bytes.now ++ more.now)) }
-    ensures err { IfErr result (λ e. IsPrefixWritten e (L.held link.old) (L.held link.new) (bytes.now ++ more.now)) }
+    ensures err { IfErr result (λ e. IsPrefixWritten e (L.held link.old) (L.held link.new)
+        (bytes.now ++ more.now)) }
     ensures cause { HasCause (L.put_faults link.old) (L.put_faults link.new) result }
     ensures left { L.left link.new ≡ L.left link.old }
     ensures read_faults { L.read_faults link.new ≡ L.read_faults link.old }
@@ -149,8 +152,8 @@ fn put_two<L: Link>(link: &mut L, bytes: &[u8], more: &[u8]) -> Result<(), WireF
     }
 }
 
-/// Writes a response with this status, media type and body to the link. `last` says that the connection
-/// ends with the response. The head and a short body are written at once.
+/// Writes a response with this status, media type and body to the link. `last` says that the
+/// connection ends with the response. The head and a short body are written at once.
 ///
 /// Fails with `WriteFault` if the link fails; then a prefix of the response was written. Fails with
 /// `NoMemory` if an allocation fails; then nothing was written.
@@ -163,9 +166,12 @@ pub fn write_response<L: Link>(
     body: &[u8],
     last: bool,
 ) -> Result<(), WireFault>
-    ensures ok { OnOk result (Appends (L.held link.old) (L.held link.new) (response_bytes status media.now body.now last)) }
-    ensures err { IfErr result (λ e. IsCutShort e (L.held link.old) (L.held link.new) (response_bytes status media.now body.now last)) }
-    ensures cause { IfErr result (λ e. e ≡ WireFault.WriteFault → Rose (L.put_faults link.old) (L.put_faults link.new)) }
+    ensures ok { OnOk result (Appends (L.held link.old) (L.held link.new) (response_bytes status
+        media.now body.now last)) }
+    ensures err { IfErr result (λ e. IsCutShort e (L.held link.old) (L.held link.new)
+        (response_bytes status media.now body.now last)) }
+    ensures cause { IfErr result (λ e. e ≡ WireFault.WriteFault → Rose (L.put_faults link.old)
+        (L.put_faults link.new)) }
     ensures left { L.left link.new ≡ L.left link.old }
     ensures read_faults { L.read_faults link.new ≡ L.read_faults link.old }
 {

@@ -1,5 +1,5 @@
-use crate::{HeadSpan, WireFault, read_head, write_response};
-use jm_base::{Bytes, Numbers};
+use crate::{HeadSpan, Unread, WireFault, read_head, write_response};
+use jm_base::Numbers;
 use jm_edge::{MemoryLink, MemorySink, MemorySource};
 use std::alloc::Global;
 use std::test::Fail;
@@ -17,7 +17,7 @@ fn read_cut(
     let input = MemorySource::in_sizes(text.to_vec(alloc)?, sizes, most, Numbers::new(alloc));
     let mut link = MemoryLink::new(input, MemorySink::new(alloc));
     let mut room = [0u8; 64];
-    let mut bytes = Bytes::new(alloc);
+    let mut bytes = Unread::new(alloc);
     Ok(read_head(&mut link, &mut room, &mut bytes))
 }
 

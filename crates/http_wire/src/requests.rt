@@ -1,0 +1,148 @@
+// Reading a request from a link.
+ghost use Rattle.std.specs.Prelude.{◌≡◌, ◌<◌, ◌≤◌, ◌-◌, ◌^◌, length, take, drop, true, IfErr, OnOk};
+ghost use Rattle.std.specs.Io.KnownBytes.{Appends};
+ghost use Rattle.jm_edge.specs.Causes.{Rose};
+ghost use Rattle.http_wire.specs.declared.limits.TheConstants.{MAX_HEAD_BYTES};
+ghost use Rattle.http_wire.specs.Views.{IsHeadAt, IsWithin};
+ghost use Rattle.http_wire.specs.Responses.{continue_bytes, IsPrefixWritten};
+ghost use Rattle.http_wire.specs.Requests.{ReadsRequestFrom};
+ghost use Rattle.http_wire.specs.Parts.{IsCountBelow};
+ghost use Rattle.http_wire.specs.Opened.{IsMade, continued_bytes, wire_fault_of};
+
+use crate::WireFault;
+use crate::bodies::read_body;
+use crate::body_fault::BodyFault;
+use crate::connection::is_last;
+use crate::heads::HeadSpan;
+use crate::opened::{OpenHead, open_head};
+use crate::parsed::ParsedHead;
+use crate::pieces::read_head;
+use crate::request::HttpRequest;
+use crate::responses::put_bytes;
+use crate::unread::Unread;
+use jm_base::Bytes;
+use jm_edge::Link;
+use std::alloc::Global;
+
+// Returns the bytes of a head.
+fn find_head_bytes(bytes: &[u8], at: HeadSpan) -> &[u8]
+    requires { IsWithin bytes.now at }
+    ensures { result.now ≡ take (at.end - at.start) (drop at.start bytes.now) }
+{
+    let (_, begun) = bytes.split_at(at.start);
+    let (head, _) = begun.split_at(at.end - at.start);
+    head
+}
+
+// Writes the interim response, if it is due.
+#[tactic(auto, using(crate::proofs::Answered::nothing_put))]
+fn put_continue<L: Link>(link: &mut L, due: bool) -> Result<(), WireFault>
+    ensures ok { OnOk result (Appends (L.held link.old) (L.held link.new) (continued_bytes due)) }
+    ensures due { IfErr result (λ _. due ≡ true) }
+    ensures err { IfErr result (λ e. IsPrefixWritten e (L.held link.old) (L.held link.new)
+        continue_bytes) }
+    ensures cause { IfErr result (λ _. Rose (L.put_faults link.old) (L.put_faults link.new)) }
+    ensures left { L.left link.new ≡ L.left link.old }
+    ensures read_faults { L.read_faults link.new ≡ L.read_faults link.old }
+{
+    if !due {
+        return Ok(());
+    }
+    put_bytes(link, b"HTTP/1.1 100 Continue\r\n\r\n")
+}
+
+// Returns why no request was read, from why its body was not. Its head has so many bytes.
+fn find_wire_fault(fault: BodyFault, head: usize, limit: usize) -> WireFault
+    requires below { IsCountBelow (2 ^ 50) fault }
+    requires small { head < 2 ^ 50 }
+    ensures { result ≡ wire_fault_of head limit fault }
+{
+    match fault {
+        BodyFault::Invalid => WireFault::BadHead,
+        BodyFault::TooLong => WireFault::BodyTooLong(limit as u64),
+        BodyFault::Ended(count) => WireFault::CutOff((head + count) as u64),
+        BodyFault::ReadFault => WireFault::ReadFault,
+        BodyFault::NoMemory => WireFault::NoMemory,
+    }
+}
+
+// Returns the request with this head and this body.
+fn make_request(opened: OpenHead, body: Vec<u8>) -> HttpRequest
+    ensures { IsMade opened body.items result }
+{
+    let last = is_last(opened.head.minor, opened.head.fields.as_slice());
+    let OpenHead { head, .. } = opened;
+    let ParsedHead {
+        method,
+        target,
+        fields,
+        ..
+    } = head;
+    HttpRequest {
+        method,
+        target,
+        fields,
+        body: Bytes::from_vec(body),
+        last,
+    }
+}
+
+// Reads the rest of a request whose head is at this place.
+fn read_after_head<L: Link>(
+    alloc: Global,
+    link: &mut L,
+    room: &mut [u8],
+    early: &mut Unread,
+    at: HeadSpan,
+) -> Result<HttpRequest, WireFault>
+    requires room { 0 < length room.old }
+    requires head { IsHeadAt early.old at }
+    requires small { at.end ≤ MAX_HEAD_BYTES }
+    ensures read { ReadsRequestFrom early.old early.new (L.left link.old) (L.left link.new) (L.held
+        link.old) (L.held link.new) (L.read_faults link.old) (L.read_faults link.new) (L.put_faults
+        link.old) (L.put_faults link.new) result }
+    ensures room { length room.new ≡ length room.old }
+{
+    let opened = match open_head(alloc, find_head_bytes(early.as_slice(), at)) {
+        Ok(opened) => opened,
+        Err(fault) => return Err(fault),
+    };
+    match put_continue(link, opened.due) {
+        Ok(()) => {}
+        Err(fault) => return Err(fault),
+    }
+    early.skip(at.end);
+    match read_body(alloc, link, room, opened.plan, opened.limit, early) {
+        Ok(body) => Ok(make_request(opened, body)),
+        Err(fault) => Err(find_wire_fault(fault, at.end - at.start, opened.limit)),
+    }
+}
+
+/// Reads a request of the link. `early` has the bytes of the link that were read before and not
+/// yet used: the request begins with them, and after the call `early` has those that were read
+/// after the request. What `early` has after a failure is not said: no request can be read then.
+/// `room` is where one read of the link puts bytes; those of a body of a known size go straight
+/// into the request.
+///
+/// The interim response 100 is written before the body is read if the client waits for it (RFC
+/// 9110, 10.1.1). What is returned is a function of the bytes, however they come in pieces: the
+/// request, or `HeadTooLong`, `BadHead` or `BodyTooLong` for one that is rejected, or `End` or
+/// `CutOff` if the link ends before the first byte of a request or within one. Fails with
+/// `ReadFault` or `WriteFault` only if the link fails, and with `NoMemory` if an allocation fails.
+pub fn read_request<L: Link>(
+    alloc: Global,
+    link: &mut L,
+    room: &mut [u8],
+    early: &mut Unread,
+) -> Result<HttpRequest, WireFault>
+    requires { 0 < length room.old }
+    ensures read { ReadsRequestFrom early.old early.new (L.left link.old) (L.left link.new) (L.held
+        link.old) (L.held link.new) (L.read_faults link.old) (L.read_faults link.new) (L.put_faults
+        link.old) (L.put_faults link.new) result }
+    ensures room { length room.new ≡ length room.old }
+{
+    match read_head(link, room, early) {
+        Ok(at) => read_after_head(alloc, link, room, early, at),
+        Err(fault) => Err(fault),
+    }
+}
