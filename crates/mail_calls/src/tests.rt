@@ -143,39 +143,6 @@ fn refuses_calls_that_name_too_many(rt: HostRuntime) -> Result<(), Fail> {
     Ok(())
 }
 
-// The message of two leaves. Its first leaf is base64 (RFC 2045, section 6.8), and its second one is `two`.
-const MESSAGE: &[u8] =
-    b"Content-Type: multipart/mixed; boundary=a\n\n--a\nContent-Transfer-Encoding: base64\n\nb25l\n--a\n\ntwo\n--a--\n";
-
-#[test]
-fn uploads_are_blobs_with_leaves(rt: HostRuntime) -> Result<(), Fail> {
-    let alloc = rt.alloc();
-    let mut book = Book::begin(alloc, MailRules)?;
-    for (bytes, number) in [
-        (b"".as_slice(), b"1".as_slice()),
-        (MESSAGE, b"2".as_slice()),
-    ] {
-        let ask = Ask::Upload(Bytes::from_slice(alloc, bytes)?);
-        assert!(rt; asked(alloc, &mut book, ask)?.as_slice() == number);
-    }
-    let rows = [
-        ("b1", b"".as_slice()),
-        ("b2", MESSAGE),
-        ("b2-1", b"one".as_slice()),
-        ("b2-2", b"two".as_slice()),
-        ("b2-3", b"none".as_slice()),
-        ("b2-0", b"none".as_slice()),
-        ("b3", b"none".as_slice()),
-        ("b0", b"none".as_slice()),
-        ("M1", b"none".as_slice()),
-    ];
-    for (name, bytes) in rows {
-        let ask = Ask::Blob(Text::from_str(alloc, name)?);
-        assert!(rt; asked(alloc, &mut book, ask)?.as_slice() == bytes, "{name}");
-    }
-    Ok(())
-}
-
 #[test]
 fn an_account_has_room_up_to_its_limit(rt: HostRuntime) -> Result<(), Fail> {
     let mut blobs = BlobList::new(rt.alloc());
@@ -184,16 +151,5 @@ fn an_account_has_room_up_to_its_limit(rt: HostRuntime) -> Result<(), Fail> {
     assert!(rt; blobs.push(Bytes::from_slice(rt.alloc(), b"12345")?).is_ok());
     assert!(rt; has_room(&blobs, MAX_BLOB_BYTES_PER_ACCOUNT - 5));
     assert!(rt; !has_room(&blobs, MAX_BLOB_BYTES_PER_ACCOUNT - 4));
-    Ok(())
-}
-
-#[test]
-fn states_are_those_of_the_last_edits(rt: HostRuntime) -> Result<(), Fail> {
-    let alloc = rt.alloc();
-    let mut book = Book::begin(alloc, MailRules)?;
-    assert!(rt; asked(alloc, &mut book, Ask::States)?.as_slice() == b"0".as_slice());
-    let args = "{\"accountId\":\"A\",\"create\":{\"a\":{\"name\":\"A\"},\"b\":{\"name\":\"B\"}}}";
-    let _ = answers(alloc, &mut book, "Mailbox/set", args, "")?;
-    assert!(rt; asked(alloc, &mut book, Ask::States)?.as_slice() == b"2".as_slice());
     Ok(())
 }
