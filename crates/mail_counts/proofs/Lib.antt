@@ -1,12 +1,17 @@
 pub mod Covers
+pub mod Entries
 pub mod Followed
+pub mod Found
 pub mod Groups
 pub mod Growth
 pub mod Kept
+pub mod Laid
 pub mod Listed
 pub mod Named
 pub mod Nothing
+pub mod Parted
 pub mod Partition
 pub mod Sorted
 pub mod StateAfter
 pub mod TidyAgain
+pub mod Turns

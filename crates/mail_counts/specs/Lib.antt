@@ -9,3 +9,5 @@ pub mod Derived
 pub mod Plans
 pub mod CountsFlag
 pub mod Members
+pub mod Overlaid
+pub mod Steps

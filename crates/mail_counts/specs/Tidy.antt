@@ -13,6 +13,8 @@ use Rattle.mail_records.specs.Commits.{NumbersRise, TextsRise}
 use Rattle.mail_records.specs.declared.records.Mailbox.{Mailbox}
 use Rattle.mail_records.specs.declared.records.Email.{Email}
 use Rattle.mail_records.specs.declared.records.Thread.{Thread}
+use Rattle.mail_records.specs.declared.limits.TheConstants.{MAX_MAILBOXES_PER_EMAIL}
+use Rattle.mail_counts.specs.declared.limits.TheConstants.{MAX_EMAILS_PER_ACCOUNT, MAX_KEYWORDS_PER_EMAIL}
 use Rattle.mail_counts.specs.Forms.{is_name, is_role, is_sort_order, is_keyword}
 use Rattle.mail_counts.specs.Counts.{HasCounts, HasNoCounts}
 
@@ -90,27 +92,27 @@ pub record IsNewMailbox (c : Content) (m : Mailbox) : Type 0 where
 
 -- ---- emails (RFC 8621, 4)
 
--- Its mailboxes are there, from 1 to 64, and rise; its keywords are of their form, at most 128, and
--- rise; its dates are moments of the years 0001 to 9999.
+-- Its mailboxes are there, one at least and few, and rise; its keywords are of their form, few, and
+-- rise; its dates are of the years 0001 to 9999.
 pub record IsTidyEmail (c : Content) (e : Email) : Type 0 where
   pub mailboxes : AllByRecursion (IsThere c) e.mailboxes
   pub some_mailbox : 1 ≤ length e.mailboxes
-  pub few_mailboxes : length e.mailboxes ≤ 64
+  pub few_mailboxes : length e.mailboxes ≤ MAX_MAILBOXES_PER_EMAIL
   pub mailboxes_rise : NumbersRise e.mailboxes
   pub keywords : AllByRecursion (λ k. is_keyword k ≡ true) e.keywords
-  pub few_keywords : length e.keywords ≤ 128
+  pub few_keywords : length e.keywords ≤ MAX_KEYWORDS_PER_EMAIL
   pub keywords_rise : TextsRise e.keywords
   pub received : IsUtcDate e.received
   pub sent : ForSome e.summary.sent IsUtcDate
 
--- at most 100,000 emails, each tidy
+-- few emails, each tidy
 pub record AreEmailsTidy (c : Content) : Type 0 where
-  pub few : length c.emails ≤ 100000
+  pub few : length c.emails ≤ MAX_EMAILS_PER_ACCOUNT
   pub each : AllByRecursion (IsTidyEmail c) c.emails
 
 -- ---- threads (RFC 8621, 3)
 
--- by the moment received, and of equal moments by number
+-- by the time received, and of equal times by number
 abbrev pub by_received : Email → Email → Ordering
 by_received a b = match_ordering (int_cmp a.received.seconds b.received.seconds) Less
     (nat_cmp a.number b.number) Greater

@@ -5,23 +5,26 @@ use Rattle.std.specs.List.{find as first_that}
 use Rattle.jm_base.specs.Ids.{id_text}
 use Rattle.jm_base.specs.declared.identifiers.Kind.TheVariants.{Mailbox as OfMailbox}
 use Rattle.jm_json.specs.Tree.{Tree, null, boolean, number, text, object, fields_of}
+use Rattle.jm_base.specs.declared.identifiers.TheConstants.{NUMBER_LIMIT}
 use Rattle.mail_records.specs.declared.records.Mailbox.{Mailbox}
+use Rattle.mail_counts.specs.declared.limits.TheConstants.{MAX_JSON_INTEGER}
 
 -- the text of a mailbox's identifier
 abbrev pub mailbox_id : ℕ → List ℕ
 mailbox_id n = id_text (record { kind = OfMailbox; number = n })
 
--- the text is the identifier of the mailbox: identifiers are of numbers from 1 and below 2^53
+-- the text is the identifier of the mailbox: identifiers are of numbers from 1 and below the limit
 abbrev pub is_id_of : List ℕ → Mailbox → Bool
-is_id_of id m = nat_le 1 m.number && nat_lt m.number (2 ^ 53) && bytes_eq (mailbox_id m.number) id
+is_id_of id m =
+    nat_le 1 m.number && nat_lt m.number NUMBER_LIMIT && bytes_eq (mailbox_id m.number) id
 
 -- the mailbox that an identifier names, if it names one
 abbrev pub mailbox_named : List Mailbox → List ℕ → Option Mailbox
 mailbox_named mailboxes id = first_that (is_id_of id) mailboxes
 
--- an unsigned number as JSON has it: at most 2^53 - 1 (RFC 8620, 1.3)
+-- an unsigned number as JSON has it, which has no greater one (RFC 8620, 1.3)
 abbrev pub count_tree : ℕ → Tree
-count_tree n = number (pos (min n 9007199254740991))
+count_tree n = number (pos (min n MAX_JSON_INTEGER))
 
 -- the identifier of the parent, or null
 abbrev pub parent_tree : Option ℕ → Tree

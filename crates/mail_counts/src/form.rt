@@ -3,7 +3,7 @@ ghost use Rattle.std.specs.Prelude.{◌≡◌};
 ghost use Rattle.std.specs.List.{list_all};
 ghost use Rattle.mail_counts.specs.Forms.{is_plain_byte, is_name, is_role, is_sort_order};
 
-const SORT_ORDER_LIMIT: u64 = 1 << 31;
+use crate::limits::{MAX_MAILBOX_NAME_BYTES, SORT_ORDER_LIMIT};
 
 fn is_plain_byte(byte: u8) -> bool
     ensures { result ≡ is_plain_byte byte }
@@ -17,17 +17,18 @@ fn are_plain(bytes: &[u8]) -> bool
     bytes.iter().all(|byte| is_plain_byte(*byte))
 }
 
-/// Whether a text is a mailbox's name: 1 to 255 bytes, with no control character.
+/// Returns whether a string is a mailbox's name: 1 to [`MAX_MAILBOX_NAME_BYTES`] bytes, with no
+/// control character.
 pub fn is_name(text: &str) -> bool
     ensures { result ≡ is_name text.now }
 {
-    if text.is_empty() || text.len() > 255 {
+    if text.is_empty() || text.len() > MAX_MAILBOX_NAME_BYTES {
         return false;
     }
     are_plain(text.as_bytes())
 }
 
-/// Whether a text is a role of mailboxes.
+/// Returns whether a string is a role of mailboxes.
 pub fn is_role(text: &str) -> bool
     ensures { result ≡ is_role text.now }
 {
@@ -42,7 +43,7 @@ pub fn is_role(text: &str) -> bool
         || text == "important"
 }
 
-/// Whether a number is a mailbox's sort order: it is below 2^31.
+/// Returns whether a number is a mailbox's sort order: it is below [`SORT_ORDER_LIMIT`].
 pub fn is_sort_order(number: u64) -> bool
     ensures { result ≡ is_sort_order number }
 {

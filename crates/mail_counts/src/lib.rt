@@ -8,17 +8,27 @@
 mod following;
 mod form;
 mod laws;
+mod limits;
 mod mailbox_counts;
 mod members;
+mod overlaid;
 mod plan;
 mod state;
 #[cfg(test)]
+mod steps_tests;
+mod tally;
+#[cfg(test)]
 mod tests;
+mod touched;
 mod view;
 
 pub use following::derived;
 pub use form::{is_name, is_role, is_sort_order};
 pub use laws::{derived_edits_make_tidy, state_after_edits_is_that_of_the_grown_history};
+pub use limits::{
+    MAX_EMAILS_PER_ACCOUNT, MAX_JSON_INTEGER, MAX_KEYWORD_CHARACTERS, MAX_KEYWORDS_PER_EMAIL,
+    MAX_MAILBOX_NAME_BYTES, SORT_ORDER_LIMIT,
+};
 pub use mailbox_counts::MailboxCounts;
 pub use plan::{SetFault, SetPlan};
 pub use state::state_after;

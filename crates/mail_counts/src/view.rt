@@ -4,18 +4,16 @@ ghost use Rattle.jm_json.specs.Json.{tree_of};
 ghost use Rattle.jm_json.specs.Order.{put};
 ghost use Rattle.mail_counts.specs.Views.{count_tree, mailbox_id, mailbox_members, parent_tree, rights_members, rights_tree, role_tree};
 
+use crate::limits::MAX_JSON_INTEGER;
 use jm_base::{Id, Kind, NoMemory, Text, id_text};
 use jm_json::{Json, Members};
 use mail_records::Mailbox;
 use std::alloc::Global;
 
-// The greatest number that JSON has here (RFC 8620, section 1.3).
-const GREATEST: u64 = (1 << 53) - 1;
-
 fn count(number: u64) -> Json
     ensures { tree_of result ≡ count_tree number }
 {
-    Json::Int(number.min(GREATEST) as i64)
+    Json::Int(number.min(MAX_JSON_INTEGER) as i64)
 }
 
 fn identifier(alloc: Global, number: u64) -> Result<Json, NoMemory>
