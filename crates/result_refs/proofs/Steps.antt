@@ -7,6 +7,7 @@ use Rattle.jm_json.specs.Find.{as_list, list_of}
 use Rattle.jm_json.specs.Pointer.{cut, child}
 use Rattle.result_refs.specs.References.{gathered, step, is_marked}
 use Rattle.result_refs.specs.Parts.{later_parts}
+use Rattle.result_refs.specs.Made.{step_bytes, child_bytes}
 
 pub step_plain : (p : List ℕ) (f : Tree → Option Tree) (t : Tree) → as_list t ≡ None → step p f t ≡ option_and_then f (child p t)
 step_plain p f null e = refl
@@ -26,6 +27,14 @@ step_list p f (list us) ts e =
     let same : list_of us ≡ ts = cc in
     ap (λ vs. cond (bytes_eq p (42 ∷ [])) (option_map (λ rs. list (trees_of rs)) (gathered f vs)) (option_and_then f (child p (list us)))) same
 step_list p f (object fs) ts e = absurd (cc)
+
+pub step_bytes_plain : (p : List ℕ) (f : Tree → ℕ) (t : Tree) → as_list t ≡ None → step_bytes p f t ≡ child_bytes p f t
+step_bytes_plain p f null e = refl
+step_bytes_plain p f (boolean b) e = refl
+step_bytes_plain p f (number z) e = refl
+step_bytes_plain p f (text s) e = refl
+step_bytes_plain p f (list ts) e = absurd (cc)
+step_bytes_plain p f (object fs) e = refl
 
 parts_at : (path more : List ℕ) (n : ℕ) → drop n path ≡ more → n ≤ length path → (n ≡ length path → cut path ≡ path ∷ [])
     → (n < length path → cut path ≡ take n path ∷ cut (drop 1 (drop n path))) → cut path ≡ take n path ∷ later_parts more

@@ -1,4 +1,5 @@
 pub mod References
-pub mod Explained
+pub mod Causes
 pub mod Parts
 pub mod Room
+pub mod Made

@@ -28,7 +28,7 @@ step part rest (boolean b) = None
 step part rest (number z) = None
 step part rest (text s) = None
 step part rest (list ts) =
-    cond (bytes_eq part (42 ∷ []))
+    cond (bytes_eq part (codes "*"))
     (option_map (λ rs. list (trees_of rs)) (gathered rest (list_of ts)))
     (option_and_then rest (child part (list ts)))
 step part rest (object fs) = option_and_then rest (child part (object fs))

@@ -2,6 +2,7 @@
 #![tactic(auto)]
 
 mod fault;
+mod laws;
 mod path;
 mod references;
 mod room;
@@ -9,5 +10,6 @@ mod room;
 mod tests;
 
 pub use fault::RefFault;
+pub use laws::a_reference_takes_what_it_makes;
 pub use references::resolve;
 pub use room::MAX_REFERENCE_BYTES;

@@ -1,10 +1,11 @@
 // The arguments of a call, with each reference replaced by what it refers to.
-ghost use Rattle.std.specs.Prelude.{◌≡◌, ◌&&◌, [], true, false, Some, map, drop, is_some, option_map, MatchResult, MatchOption};
+ghost use Rattle.std.specs.Prelude.{◌≡◌, ◌≤◌, ◌+◌, ◌&&◌, [], true, false, Some, map, drop, is_some, option_map, MatchResult, MatchOption};
 ghost use Rattle.jm_json.specs.Json.{tree_of, member_of};
 ghost use Rattle.jm_json.specs.Find.{find};
-ghost use Rattle.jm_json.specs.Invoked.{call_of};
+ghost use Rattle.jm_json.specs.Invocations.{call_of};
 ghost use Rattle.result_refs.specs.References.{resolution, resolution_of, resolved, unless_both, arguments, argument, clashes, referred, asked, taken, response_of, text_at, is_marked};
-ghost use Rattle.result_refs.specs.Explained.{Explains, Fails};
+ghost use Rattle.result_refs.specs.Causes.{IsFaultOf, Fails};
+ghost use Rattle.result_refs.specs.Made.{reference_bytes, argument_bytes, arguments_bytes, referred_bytes, asked_bytes, taken_bytes};
 
 use crate::RefFault;
 use crate::path::pick;
@@ -18,9 +19,10 @@ use std::collections::VecDeque;
 /// 8620, section 3.7). The first response with the id of a reference is taken, and its name must be
 /// that of the reference. The other members are moved.
 ///
-/// What the references make is taken from the room, in bytes, which is what is left for the
-/// request. If the room does not suffice, this ends out of memory. Fails with `BadReference` if a
-/// reference names nothing, and otherwise with `Both` if a name is given with and without the mark.
+/// What the references take (`reference_bytes`) is taken from the room, in bytes, which is what is
+/// left for the request. If the room does not suffice, this ends out of memory. Fails with
+/// `BadReference` if a reference names nothing, and otherwise with `Both` if a name is given with
+/// and without the mark.
 #[tactic(auto, using(jm_json::proofs::Lists::lists_back))]
 pub fn resolve(
     alloc: Global,
@@ -28,9 +30,12 @@ pub fn resolve(
     args: Json,
     responses: &[Invocation],
 ) -> Result<Json, RefFault>
-    ensures { MatchResult result
+    ensures found { MatchResult result
         (λ t. resolution (tree_of args) (map call_of responses.now) ≡ resolved (tree_of t))
-        (λ e. Explains e (resolution (tree_of args) (map call_of responses.now))) }
+        (λ e. IsFaultOf e (resolution (tree_of args) (map call_of responses.now))) }
+    ensures room { MatchResult result
+        (λ _. reference_bytes (tree_of args) (map call_of responses.now) + room.new ≤ room.old)
+        (λ _. room.new ≤ room.old) }
 {
     match args {
         Json::Object(members) => resolve_members(alloc, room, members, responses),
@@ -44,9 +49,12 @@ fn resolve_members(
     members: Members,
     responses: &[Invocation],
 ) -> Result<Json, RefFault>
-    ensures { MatchResult result
+    ensures found { MatchResult result
         (λ t. resolution_of members (map call_of responses.now) ≡ resolved (tree_of t))
-        (λ e. Explains e (resolution_of members (map call_of responses.now))) }
+        (λ e. IsFaultOf e (resolution_of members (map call_of responses.now))) }
+    ensures room { MatchResult result
+        (λ _. arguments_bytes members (map call_of responses.now) + room.new ≤ room.old)
+        (λ _. room.new ≤ room.old) }
 {
     let clash = has_clash(&members, members.as_slice());
     match replace_members(alloc, room, members, responses) {
@@ -57,7 +65,7 @@ fn resolve_members(
 
 fn unless_clash(clash: bool, members: Members) -> Result<Json, RefFault>
     ensures { MatchResult result (λ t. unless_both clash members ≡ resolved (tree_of t))
-        (λ e. Explains e (unless_both clash members)) }
+        (λ e. IsFaultOf e (unless_both clash members)) }
 {
     if clash {
         return Err(RefFault::Both);
@@ -71,8 +79,12 @@ fn replace_members(
     members: Members,
     responses: &[Invocation],
 ) -> Result<Members, RefFault>
-    ensures { MatchResult result (λ ms. arguments [] members (map call_of responses.now) ≡ Some ms)
+    ensures found { MatchResult result
+        (λ ms. arguments [] members (map call_of responses.now) ≡ Some ms)
         (λ e. Fails e (arguments [] members (map call_of responses.now))) }
+    ensures room { MatchResult result
+        (λ _. arguments_bytes members (map call_of responses.now) + room.new ≤ room.old)
+        (λ _. room.new ≤ room.old) }
 {
     let mut found = MemberRuns::new(alloc);
     let mut rest = VecDeque::from_vec(members.into_vec());
@@ -91,9 +103,12 @@ fn replace(
     member: Member,
     responses: &[Invocation],
 ) -> Result<Member, RefFault>
-    ensures { MatchResult result
+    ensures found { MatchResult result
         (λ m. argument (member_of member) (map call_of responses.now) ≡ Some (member_of m))
         (λ e. Fails e (argument (member_of member) (map call_of responses.now))) }
+    ensures room { MatchResult result
+        (λ _. argument_bytes (member_of member) (map call_of responses.now) + room.new ≤ room.old)
+        (λ _. room.new ≤ room.old) }
 {
     match unmarked(member.name.as_str()) {
         Some(name) => match refer(alloc, room, &member.value, responses) {
@@ -121,9 +136,13 @@ fn refer(
     reference: &Json,
     responses: &[Invocation],
 ) -> Result<Json, RefFault>
-    ensures { MatchResult result
+    ensures found { MatchResult result
         (λ t. referred (tree_of reference.now) (map call_of responses.now) ≡ Some (tree_of t))
         (λ e. Fails e (referred (tree_of reference.now) (map call_of responses.now))) }
+    ensures room { MatchResult result
+        (λ _. referred_bytes (tree_of reference.now) (map call_of responses.now)
+        + room.new ≤ room.old)
+        (λ _. room.new ≤ room.old) }
 {
     match reference.as_object() {
         Some(members) => ask(alloc, room, members, responses),
@@ -137,9 +156,12 @@ fn ask(
     members: &Members,
     responses: &[Invocation],
 ) -> Result<Json, RefFault>
-    ensures { MatchResult result
+    ensures found { MatchResult result
         (λ t. asked members.now (map call_of responses.now) ≡ Some (tree_of t))
         (λ e. Fails e (asked members.now (map call_of responses.now))) }
+    ensures room { MatchResult result
+        (λ _. asked_bytes members.now (map call_of responses.now) + room.new ≤ room.old)
+        (λ _. room.new ≤ room.old) }
 {
     let Some(id) = text_of(members, "resultOf") else {
         return Err(RefFault::BadReference);
@@ -170,9 +192,13 @@ fn take(
     path: &Text,
     responses: &[Invocation],
 ) -> Result<Json, RefFault>
-    ensures { MatchResult result
+    ensures found { MatchResult result
         (λ t. taken id.now name.now path.now (map call_of responses.now) ≡ Some (tree_of t))
         (λ e. Fails e (taken id.now name.now path.now (map call_of responses.now))) }
+    ensures room { MatchResult result
+        (λ _. taken_bytes id.now name.now path.now (map call_of responses.now)
+        + room.new ≤ room.old)
+        (λ _. room.new ≤ room.old) }
 {
     match response_to(id.as_str(), responses) {
         Some(response) => {

@@ -1,25 +1,60 @@
-// The room that is left for what references make, and copies that take from it.
-ghost use Rattle.std.specs.Prelude.{◌≡◌, ◌+◌, ⊤, map, IfOk, OnOk, MatchOption};
+// The room that is left for the references of a request, and what takes from it.
+ghost use Rattle.std.specs.Prelude.{◌≡◌, ◌≤◌, ◌+◌, ◌*◌, ⊤, map, IfOk, OnOk, OnErr, MatchOption};
 ghost use Rattle.jm_json.specs.Tree.{trees_of, fields_of};
 ghost use Rattle.jm_json.specs.Json.{tree_of, member_of};
 ghost use Rattle.result_refs.specs.Room.{value_bytes, items_bytes, members_bytes};
+ghost use Rattle.result_refs.specs.Made.{scan_bytes};
+ghost use Rattle.result_refs.specs.declared.room.TheConstants.{VALUE_BYTES};
 
 use jm_base::NoMemory;
 use jm_json::{Json, Member, copy};
 use std::alloc::Global;
 
-/// The most bytes that what the references of one request make may have in all, as they are
-/// counted: 64 MiB.
+/// The most bytes that the references of one request may take in all, as they are counted: 64 MiB.
 pub const MAX_REFERENCE_BYTES: u64 = 67108864;
 
-// The bytes that are counted for each value, besides those of its strings and keys.
+// The bytes that are counted for each value that is copied, made or visited, besides those of the
+// strings and keys that are copied, and for each name that a part with `~` is compared with.
 const VALUE_BYTES: u64 = 64;
+
+/// Takes the bytes of so many values from the room. If the room does not suffice, this ends out of
+/// memory, and takes nothing.
+pub(crate) fn take_room(room: &mut u64, count: usize) -> Result<(), NoMemory>
+    ensures ok { OnOk result (room.new + VALUE_BYTES * count ≡ room.old) }
+    ensures err { OnErr result (room.new ≡ room.old) }
+{
+    let count = count as u64;
+    if *room / VALUE_BYTES < count {
+        return Err(NoMemory);
+    }
+    *room -= VALUE_BYTES * count;
+    Ok(())
+}
+
+/// Takes from the room what finding a part of a path in a value costs. A part with `~` is compared
+/// with the name of each member, and any other is found without a scan. If the room does not
+/// suffice, this ends out of memory, and takes nothing.
+pub(crate) fn take_scan(room: &mut u64, tree: &Json, part: &[u8]) -> Result<(), NoMemory>
+    ensures ok { OnOk result (scan_bytes part.now (tree_of tree.now) + room.new ≤ room.old) }
+    ensures err { OnErr result (room.new ≡ room.old) }
+{
+    match tree.as_object() {
+        Some(members) => {
+            if part.contains(&b'~') {
+                return take_room(room, members.as_slice().len());
+            }
+            Ok(())
+        }
+        None => Ok(()),
+    }
+}
 
 /// Copies a JSON value, and takes its bytes from the room. If the room does not suffice, this ends
 /// out of memory, and nothing is copied.
 pub(crate) fn copy_within(alloc: Global, tree: &Json, room: &mut u64) -> Result<Json, NoMemory>
     ensures copy { IfOk result (λ t. t ≡ tree.now) }
     ensures room { OnOk result (room.new + value_bytes (tree_of tree.now) ≡ room.old) }
+    ensures err { OnErr result (room.new ≡ room.old) }
 {
     match left_after(tree, *room) {
         Some(left) => {

@@ -1,7 +1,8 @@
-use Rattle.std.proofs.Common.{◌≡◌, ◌+◌, ◌*◌, ◌++◌, length, map, drop, option_map}
+use Rattle.std.proofs.Common.{◌≡◌, ◌≤◌, ◌+◌, ◌*◌, ◌++◌, length, map, drop, option_map}
 use Rattle.jm_json.specs.Json.{tree_of}
 use Rattle.result_refs.specs.References.{gathered, walked}
 use Rattle.result_refs.specs.Parts.{later_parts}
+use Rattle.result_refs.specs.Made.{parts_bytes, sum_bytes}
 use Rattle.result_refs.proofs.path.+walk.Given as goal
 
 abbrev pub decreases-walk : goal.decreases-walk
@@ -23,6 +24,10 @@ abbrev pub decreases-walk_on : goal.decreases-walk_on
 decreases-walk_on l = 6 * length l.path.now
 
 abbrev pub invariant-gather-loop-item : goal.invariant-gather-loop-item
-invariant-gather-loop-item l =
-    gathered (walked (later_parts l.path)) (map tree_of l.items)
-    ≡ option_map (λ rs. l.found ++ rs) (gathered (walked (later_parts l.path)) (map tree_of (drop l.item-index l.items)))
+invariant-gather-loop-item l = record {
+  found : gathered (walked (later_parts l.path)) (map tree_of l.items)
+      ≡ option_map (λ rs. l.found ++ rs) (gathered (walked (later_parts l.path)) (map tree_of (drop l.item-index l.items)));
+  room : 64 * (length l.items + 1) + sum_bytes (parts_bytes (later_parts l.path)) (map tree_of l.items) + l.room
+      ≤ sum_bytes (parts_bytes (later_parts l.path)) (map tree_of (drop l.item-index l.items)) + l.fn.room;
+  less : l.room ≤ l.fn.room;
+}

@@ -1,5 +1,5 @@
 use Rattle.std.proofs.Common.{◌≡◌, map, drop}
-use Rattle.jm_json.specs.Invoked.{call_of}
+use Rattle.jm_json.specs.Invocations.{call_of}
 use Rattle.result_refs.specs.References.{response_of}
 use Rattle.result_refs.proofs.references.response_to.Given as goal
 
