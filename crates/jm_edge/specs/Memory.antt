@@ -1,6 +1,7 @@
 -- What is known of a source, a sink, a link and a clock in memory.
 use Rattle.std.specs.Prelude.{ℕ, ◌+◌, ◌-◌, ◌^◌, ◌==◌, min, max, List, Bool, slice_index_or}
 use Rattle.std.specs.List.{list_any}
+use Rattle.jm_edge.specs.declared.arrival.Arrival.{Arrival}
 use Rattle.jm_base.specs.declared.utc_dates.TheConstants.{LAST_TIMESTAMP}
 
 -- The bytes that are left; the most bytes that each call reads, in turn, and the most of each call
@@ -22,10 +23,14 @@ pub record Output : Type 0 where
   pub faults : ℕ
   pub fails : List ℕ
 
--- the two directions of a link
+-- The two directions of a link; and what will arrive at a socket that is made from it, and which of
+-- the socket's looks and sends fail, counted from 1.
 pub record Traffic : Type 0 where
   pub input : Input
   pub output : Output
+  pub coming : List Arrival
+  pub look_fails : List ℕ
+  pub send_fails : List ℕ
 
 -- the timestamps that are still to come, and the one after the last of these
 pub record Timetable : Type 0 where

@@ -1,5 +1,5 @@
-// Readers and writers of std as sources and sinks. What a file, a terminal or a pipe holds is not
-// told.
+// Readers and writers of std as sources and sinks. A file, a terminal or a pipe does not expose its
+// content to contracts.
 ghost use Rattle.std.specs.Prelude.{◌≡◌};
 
 use crate::{Failed, Sink, Source};
@@ -13,7 +13,7 @@ pub struct Reading<R: Drop> {
 }
 
 impl<R: Read + Drop> Reading<R> {
-    /// The reader as a source that has not failed yet.
+    /// Returns the reader as a source that has not failed yet.
     pub fn new(inner: R) -> Reading<R>
         ensures reader { result.inner ≡ inner }
         ensures faults { result.faults ≡ 0 }
@@ -47,7 +47,7 @@ pub struct Writing<W: Drop> {
 }
 
 impl<W: Write + Drop> Writing<W> {
-    /// The writer as a sink that has not failed yet.
+    /// Returns the writer as a sink that has not failed yet.
     pub fn new(inner: W) -> Writing<W>
         ensures writer { result.inner ≡ inner }
         ensures faults { result.faults ≡ 0 }

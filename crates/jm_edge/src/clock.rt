@@ -5,7 +5,7 @@ ghost use Rattle.jm_edge.specs.Clocks.{Shows};
 
 /// A clock.
 pub trait Clock: Drop + Send {
-    /// The timestamps that the clock is going to show, where the clock exposes them.
+    /// The timestamps that the clock is going to show, if the clock exposes them.
     ghost times: { Self → Option (List ℕ) };
 
     /// Returns the timestamp: the seconds since the beginning of 1970 in UTC, of the years 1970 to

@@ -1,4 +1,4 @@
-// What a call on the outside is refused for.
+// Why a call on the outside fails.
 use jm_base::NoMemory;
 
 /// The outside failed.

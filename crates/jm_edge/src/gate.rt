@@ -1,4 +1,4 @@
-// A place in a run at which a test can wait.
+// A point in a run at which a test can wait.
 use std::sync::atomic::{AtomicU64, Ordering};
 
 /// What is passed before each request of a connection and before each message of a socket. A test's
@@ -6,7 +6,7 @@ use std::sync::atomic::{AtomicU64, Ordering};
 /// gate does nothing.
 pub trait Gate: Drop + Send + Sync {
     /// Passes before the request or message with this number, counted from 1.
-    fn pass(&self, place: u64);
+    fn pass(&self, number: u64);
 }
 
 /// A gate that does nothing.
@@ -14,7 +14,7 @@ pub trait Gate: Drop + Send + Sync {
 pub struct NoGate;
 
 impl Gate for NoGate {
-    fn pass(&self, _place: u64) {}
+    fn pass(&self, _number: u64) {}
 }
 
 /// A gate that counts how often it was passed, for tests.
@@ -38,7 +38,7 @@ impl CountingGate {
 }
 
 impl Gate for CountingGate {
-    fn pass(&self, _place: u64) {
+    fn pass(&self, _number: u64) {
         self.passes.fetch_add(1, Ordering::SeqCst);
     }
 }

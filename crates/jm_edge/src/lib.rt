@@ -1,5 +1,5 @@
-//! What a program reads from and writes to: sources, sinks and links that count their faults,
-//! clocks and gates.
+//! What a program reads from and writes to: sources, sinks, links and sockets that count their
+//! faults, clocks and gates.
 //!
 //! A call fails with [`Failed`] only if the count of faults rose in that call. Content is exposed
 //! to contracts where it can be: that of memory is; that of a file, a socket or a terminal is not,
@@ -7,6 +7,8 @@
 #![tactic(auto)]
 
 mod adapter;
+mod arrival;
+mod attempts;
 mod clock;
 mod fault;
 mod gate;
@@ -14,13 +16,17 @@ mod link;
 mod memory;
 mod memory_clock;
 mod memory_link;
+mod memory_socket;
+mod message_link;
 mod sink;
 mod source;
 mod tcp;
+mod tcp_socket;
 #[cfg(test)]
 mod tests;
 
 pub use adapter::{Reading, Writing};
+pub use arrival::{Arrival, Sent};
 pub use clock::Clock;
 pub use fault::{EdgeFault, Failed};
 pub use gate::{CountingGate, Gate, NoGate};
@@ -28,6 +34,9 @@ pub use link::{Link, put_to_link};
 pub use memory::{MemorySink, MemorySource};
 pub use memory_clock::MemoryClock;
 pub use memory_link::MemoryLink;
+pub use memory_socket::{MemorySocket, Script};
+pub use message_link::MessageLink;
 pub use sink::{Sink, put_all};
 pub use source::Source;
 pub use tcp::TcpLink;
+pub use tcp_socket::TcpSocket;

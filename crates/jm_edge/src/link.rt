@@ -3,16 +3,22 @@ ghost use Rattle.std.specs.Prelude.{◌≡◌, List, ℕ, Option, ◌<◌, lengt
 ghost use Rattle.std.specs.Io.{ReadsAtMost, WritesAtMost};
 ghost use Rattle.std.specs.Io.KnownBytes.{ReadConsumes, WriteAppends, Appends};
 ghost use Rattle.jm_edge.specs.Causes.{HasCause};
+ghost use Rattle.jm_edge.specs.Sockets.{IsKnownOrigin};
 
-use crate::Failed;
+use crate::{Failed, MessageLink};
+use jm_base::{Bytes, NoMemory};
+use std::alloc::Global;
 
 /// A connection. Reading and writing have counts of faults of their own, and neither changes what
 /// is known of the other.
 pub trait Link: Drop + Send {
-    /// The bytes that are still to be read, where the link exposes them.
+    /// The WebSocket connection that this one can become.
+    type Socket: MessageLink;
+
+    /// The bytes that are still to be read, if the link exposes them.
     ghost left: { Self → Option (List ℕ) };
 
-    /// The bytes that were written, where the link exposes them.
+    /// The bytes that were written, if the link exposes them.
     ghost held: { Self → Option (List ℕ) };
 
     /// How often reading has failed. The count never falls.
@@ -39,6 +45,16 @@ pub trait Link: Drop + Send {
         ensures cause { HasCause (put_faults self.old) (put_faults self.new) result }
         ensures left { left self.new ≡ left self.old }
         ensures read_faults { read_faults self.new ≡ read_faults self.old };
+
+    /// Turns the connection into a WebSocket connection, after the handshake was written (RFC 6455,
+    /// section 4.2.2). The early bytes were read past the request, and come before those that are
+    /// still to be read. The socket's counts of faults are 0. If memory runs out, the connection is
+    /// dropped.
+    fn upgrade(self, alloc: Global, early: Bytes) -> Result<Self::Socket, NoMemory>
+        ensures reads { IfOk result (λ s. Self.Socket.read_faults s ≡ 0) }
+        ensures sends { IfOk result (λ s. Self.Socket.send_faults s ≡ 0) }
+        ensures origin { IfOk result
+            (λ s. IsKnownOrigin (left self) (held self) early (Self.Socket.origin s)) };
 }
 
 /// Writes the whole piece to a link, or a prefix of the piece if the link fails.

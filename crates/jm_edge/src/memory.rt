@@ -161,14 +161,14 @@ impl Model for MemorySink {
 }
 
 impl MemorySink {
-    /// A sink that fails only where no memory is left.
+    /// Returns a sink that fails only if an allocation fails.
     pub fn new(alloc: Global) -> MemorySink
         ensures { result ≡ record { held = []; calls = 0; faults = 0; fails = [] } }
     {
         MemorySink::failing(alloc, Numbers::new(alloc))
     }
 
-    /// A sink that fails at the listed calls, and where no memory is left.
+    /// Returns a sink that fails at the listed calls, and if an allocation fails.
     pub fn failing(alloc: Global, fails: Numbers) -> MemorySink
         ensures { result ≡ record { held = []; calls = 0; faults = 0; fails = fails } }
     {
@@ -180,7 +180,12 @@ impl MemorySink {
         }
     }
 
-    /// Lends the bytes that were taken.
+    // Returns the allocator of the bytes.
+    pub(crate) fn allocator(&self) -> Global {
+        *self.bytes.allocator()
+    }
+
+    /// Lends the bytes that were written.
     pub fn bytes(&self) -> &[u8]
         ensures { result.now ≡ self.now.held }
     {

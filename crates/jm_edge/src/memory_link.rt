@@ -5,15 +5,19 @@ ghost use Rattle.std.specs.Io.KnownBytes.{ReadConsumes, WriteAppends};
 ghost use Rattle.jm_edge.specs.Causes.{HasCause};
 ghost use Rattle.jm_edge.specs.Memory.{one_on, is_to_fail, size_at};
 
-use crate::{Failed, Link, MemorySink, MemorySource, Sink, Source};
+use crate::{Failed, Link, MemorySink, MemorySocket, MemorySource, Script, Sink, Source};
+use jm_base::{Bytes, NoMemory, Numbers};
 use std::alloc::Global;
+use std::collections::VecDeque;
 use std::marker::Model;
 
-/// A link in memory: a source of the bytes to be read, and a sink of the bytes that are written.
+/// A link in memory: a source of the bytes to be read, a sink of the bytes that are written, and
+/// the script of the socket that it can become.
 #[derive(Drop)]
 pub struct MemoryLink {
     input: MemorySource,
     output: MemorySink,
+    script: Script,
 }
 
 impl Model for MemoryLink {
@@ -21,16 +25,51 @@ impl Model for MemoryLink {
 
     ghost Value = { Traffic };
 
-    ghost view = { λ l. record { input = l.input; output = l.output } };
+    ghost view = { λ l. record {
+      input = l.input;
+      output = l.output;
+      coming = l.script.coming.items;
+      look_fails = l.script.look_fails;
+      send_fails = l.script.send_fails;
+    } };
 }
 
 impl MemoryLink {
     /// Returns a link that reads from this source and writes to this sink. The lists of failing
-    /// calls and of the sizes of reads are theirs.
+    /// calls and of the sizes of reads are theirs. Nothing arrives at a socket made from it.
     pub fn new(input: MemorySource, output: MemorySink) -> MemoryLink
-        ensures { result ≡ record { input = input; output = output } }
+        ensures { result ≡ record {
+          input = input;
+          output = output;
+          coming = [];
+          look_fails = [];
+          send_fails = [];
+        } }
     {
-        MemoryLink { input, output }
+        let alloc = output.allocator();
+        let script = Script {
+            coming: VecDeque::new(alloc),
+            look_fails: Numbers::new(alloc),
+            send_fails: Numbers::new(alloc),
+        };
+        MemoryLink::with_script(input, output, script)
+    }
+
+    /// Returns a link as `new` does, of which a socket with this script is made.
+    pub fn with_script(input: MemorySource, output: MemorySink, script: Script) -> MemoryLink
+        ensures { result ≡ record {
+          input = input;
+          output = output;
+          coming = script.coming.items;
+          look_fails = script.look_fails;
+          send_fails = script.send_fails;
+        } }
+    {
+        MemoryLink {
+            input,
+            output,
+            script,
+        }
     }
 
     /// Returns a link from which these bytes are read, that never fails unless an allocation fails.
@@ -40,10 +79,7 @@ impl MemoryLink {
         ensures output { result.output.held ≡ [] }
         ensures writes { result.output.fails ≡ [] }
     {
-        MemoryLink {
-            input: MemorySource::new(alloc, bytes),
-            output: MemorySink::new(alloc),
-        }
+        MemoryLink::new(MemorySource::new(alloc, bytes), MemorySink::new(alloc))
     }
 
     /// Lends the bytes that were written.
@@ -56,6 +92,10 @@ impl MemoryLink {
 
 impl Link for MemoryLink {
     ghost use Rattle.std.specs.Prelude.{Some};
+    ghost use Rattle.jm_edge.specs.MemorySockets.{none_made, origin_of};
+    ghost use Rattle.jm_edge.specs.Sockets.{IsKnownOrigin};
+
+    type Socket = MemorySocket;
 
     ghost left = { λ l. Some l.input.left };
 
@@ -96,5 +136,24 @@ impl Link for MemoryLink {
         ensures input { self.new.input ≡ self.old.input }
     {
         self.output.put(piece)
+    }
+
+    fn upgrade(self, alloc: Global, early: Bytes) -> Result<MemorySocket, NoMemory>
+        ensures reads { IfOk result (λ s. s.looks.faults ≡ 0) }
+        ensures sends { IfOk result (λ s. s.sends.faults ≡ 0) }
+        ensures origin { IfOk result (λ s. IsKnownOrigin (Some self.input.left)
+            (Some self.output.held) early (origin_of s)) }
+
+        // The socket follows the script.
+        ensures coming { IfOk result (λ s. s.coming.items ≡ self.coming) }
+        ensures look_fails { IfOk result (λ s. s.looks ≡ none_made self.look_fails) }
+        ensures send_fails { IfOk result (λ s. s.sends ≡ none_made self.send_fails) }
+    {
+        let MemoryLink {
+            input,
+            output,
+            script,
+        } = self;
+        Ok(MemorySocket::new(alloc, input, output, early, script))
     }
 }

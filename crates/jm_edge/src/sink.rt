@@ -8,14 +8,14 @@ use crate::Failed;
 
 /// What bytes are written to.
 pub trait Sink: Drop {
-    /// The bytes that it took, where the sink tells them.
+    /// The bytes that were written, if the sink exposes them to contracts.
     ghost held: { Self → Option (List ℕ) };
 
     /// How often writing has failed. It never falls.
     ghost faults: { Self → ℕ };
 
-    /// Takes a prefix of the piece, at least a byte of one that is not empty, and says how many
-    /// bytes. After `Failed` nothing of the piece was taken.
+    /// Writes a prefix of the piece, at least a byte of one that is not empty, and returns how
+    /// many bytes. After `Failed` nothing of the piece was written.
     fn put(&mut self, piece: &[u8]) -> Result<usize, Failed>
         ensures bound { WritesAtMost result piece.now }
         ensures some { IfOk result (λ n. 0 < length piece.now → 0 < n) }
@@ -23,7 +23,7 @@ pub trait Sink: Drop {
         ensures cause { HasCause (faults self.old) (faults self.new) result };
 }
 
-/// Writes the whole piece, or a prefix of it where the sink fails.
+/// Writes the whole piece, or a prefix of it if the sink fails.
 pub fn put_all<K: Sink>(sink: &mut K, piece: &[u8]) -> Result<(), Failed>
     ensures ok { OnOk result (Appends (K.held sink.old) (K.held sink.new) piece.now) }
     ensures err { OnErr result ((n : ℕ) × Appends (K.held sink.old) (K.held sink.new)

@@ -1,7 +1,9 @@
 // A TCP connection as a link. Its content is not exposed to contracts.
 ghost use Rattle.std.specs.Prelude.{◌≡◌, OnOk, IfOk};
 
-use crate::{Failed, Link};
+use crate::{Failed, Link, TcpSocket};
+use jm_base::{Bytes, NoMemory};
+use std::alloc::Global;
 use std::io::{Read, Write};
 use std::net::TcpStream;
 
@@ -35,6 +37,8 @@ impl TcpLink {
 impl Link for TcpLink {
     ghost use Rattle.std.specs.Prelude.{None};
 
+    type Socket = TcpSocket;
+
     ghost left = { λ _. None };
 
     ghost held = { λ _. None };
@@ -67,5 +71,9 @@ impl Link for TcpLink {
                 Err(Failed)
             }
         }
+    }
+
+    fn upgrade(self, alloc: Global, early: Bytes) -> Result<TcpSocket, NoMemory> {
+        Ok(TcpSocket::new(alloc, self.stream, early))
     }
 }

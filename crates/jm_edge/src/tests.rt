@@ -1,8 +1,11 @@
 use crate::{
-    Clock, CountingGate, Failed, Gate, Link, MemoryClock, MemoryLink, MemorySink, MemorySource,
-    NoGate, Reading, Sink, Source, Writing, put_all, put_to_link,
+    Arrival, Clock, CountingGate, EdgeFault, Failed, Gate, Link, MemoryClock, MemoryLink,
+    MemorySink, MemorySocket, MemorySource, MessageLink, NoGate, Reading, Script, Sent, Sink,
+    Source, Writing, put_all, put_to_link,
 };
-use jm_base::Numbers;
+use jm_base::{Bytes, NoMemory, Numbers};
+use std::alloc::Global;
+use std::collections::VecDeque;
 use std::io::{self, Read, Write};
 use std::test::Fail;
 
@@ -151,5 +154,76 @@ fn a_gate_is_counted(rt: HostRuntime) -> Result<(), Fail> {
     gate.pass(2);
     NoGate.pass(3);
     assert_eq!(rt; gate.count(), 2);
+    Ok(())
+}
+
+// A socket of a link to which "a" was written, with the early bytes "e". A text, a quiet look and a
+// binary message are to come; the second look and the second call that sends fail.
+fn make_socket(alloc: Global) -> Result<MemorySocket, NoMemory> {
+    let (mut look_fails, mut send_fails) = (Numbers::new(alloc), Numbers::new(alloc));
+    look_fails.push(2)?;
+    send_fails.push(2)?;
+    let mut coming = VecDeque::new(alloc);
+    coming.push_back(Arrival::Text(Bytes::from_slice(alloc, b"t")?))?;
+    coming.push_back(Arrival::Quiet)?;
+    coming.push_back(Arrival::Binary)?;
+    let script = Script {
+        coming,
+        look_fails,
+        send_fails,
+    };
+    let input = MemorySource::new(alloc, Vec::new(alloc));
+    let mut link = MemoryLink::with_script(input, MemorySink::new(alloc), script);
+    if put_to_link(&mut link, b"a").is_err() {
+        return Err(NoMemory);
+    }
+    link.upgrade(alloc, Bytes::from_slice(alloc, b"e")?)
+}
+
+// The name of what a look found.
+fn name_of(found: &Result<Arrival, EdgeFault>) -> &'static str {
+    match found {
+        Ok(Arrival::Text(text)) => if text.as_slice() == b"t".as_slice() {
+            "text t"
+        } else {
+            "text"
+        },
+        Ok(Arrival::Binary) => "binary",
+        Ok(Arrival::Closed) => "closed",
+        Ok(Arrival::Quiet) => "quiet",
+        Err(EdgeFault::Failed) => "failed",
+        Err(EdgeFault::NoMemory) => "no memory",
+    }
+}
+
+#[test]
+fn a_socket_shows_what_is_to_come(rt: HostRuntime) -> Result<(), Fail> {
+    let mut socket = make_socket(rt.alloc())?;
+    for found in ["text t", "failed", "quiet", "binary", "closed", "closed"] {
+        assert_eq!(rt; name_of(&socket.next(rt.alloc())), found);
+    }
+    assert_eq!(rt; socket.link_bytes(), b"a".as_slice());
+    assert_eq!(rt; socket.early(), b"e".as_slice());
+    Ok(())
+}
+
+// The code of a close, the first byte of a text.
+fn code_of(sent: &Sent) -> u16 {
+    match sent {
+        Sent::Text(text) => text.as_slice().first().map_or(0, |b| *b as u16),
+        Sent::Close(code) => *code,
+    }
+}
+
+#[test]
+fn a_socket_keeps_what_is_sent(rt: HostRuntime) -> Result<(), Fail> {
+    let mut socket = make_socket(rt.alloc())?;
+    assert_eq!(rt; socket.send(rt.alloc(), b"x"), Ok(()));
+    assert_eq!(rt; socket.send(rt.alloc(), b"y"), Err(EdgeFault::Failed));
+    assert_eq!(rt; socket.close(rt.alloc(), 1003), Ok(()));
+    assert_eq!(rt; socket.sent().len(), 2);
+    for (i, sent) in socket.sent().iter().enumerate() {
+        assert_eq!(rt; code_of(sent), [120, 1003][i.min(1)]);
+    }
     Ok(())
 }
