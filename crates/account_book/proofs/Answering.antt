@@ -1,10 +1,13 @@
 -- What a call is answered, from how its plan stands to the limit.
-use Rattle.std.proofs.Common.{◌≡◌, ℕ, ◌+◌, [], ◌∷◌, codes, length, Result, Ok, Err, IfOk, inl, inr, refl, sym, ap, ◌∙◌, subst, arith, length-append}
-use Rattle.mail_records.specs.Histories.{History, Entry, Committed, account_after, grown}
+use Rattle.std.proofs.Common.{◌≡◌, ℕ, ◌+◌, List, [], ◌∷◌, ◌++◌, codes, drop, length, Result, Ok, Err, IfOk, inl, inr, refl, sym, ap, ◌∙◌, subst, arith, length-append}
+use Rattle.std.specs.List.{list_any}
+use Rattle.std.proofs.lemmas.Bool.{true≢false}
+use Rattle.mail_records.specs.Histories.{History, Entry, Committed, Refused, is_refused, account_after, grown}
+use Rattle.mail_records.specs.declared.edits.Commit.{Commit}
 use Rattle.mail_records.specs.declared.edits.Stamp.{Stamp}
 use Rattle.mail_records.proofs.Prefixes.{account_after-all, account_after-grown_by}
 use Rattle.record_codec.specs.Sizes.{edit_bytes}
-use Rattle.account_book.specs.Replies.{IsIdle, IsReply, IsReplyTo, IsWithin, commit_of, refusal}
+use Rattle.account_book.specs.Replies.{IsIdle, IsReply, IsReplyTo, IsWithin, NoneRefused, commit_of, refusal}
 use Rattle.account_book.specs.declared.asks.Call.{Call}
 use Rattle.account_book.specs.declared.plans.Out.{Out}
 use Rattle.account_book.specs.declared.plans.Plan.{Plan}
@@ -38,4 +41,25 @@ IsReply-committed plan h g p n m moment call stamp count more is some within gro
     let next : m ≡ n + 1 = more ∙ (ap (λ (k : History). length k.entries) grows ∙ (length-append h.entries (e ∷ []) ∙ ap (λ k. k + 1) (sym count))) in
     subst (λ b. IsReplyTo (plan b call moment) edit_bytes b (account_after g m) (point_of account n m moment) call.ask stamp p.out) (sym first)
     (subst (λ a. IsReplyTo (plan h call moment) edit_bytes h a (point_of account n m moment) call.ask stamp p.out) (sym last)
-    (subst (λ q. IsReplyTo q edit_bytes h g (point_of account n m moment) call.ask stamp p.out) is (inr (inr (record { some = some; within = within; next = next; grows = grows; reply = refl })))))
+    (subst (λ q. IsReplyTo q edit_bytes h g (point_of account n m moment) call.ask stamp p.out) is (inr (inr (inr (record { some = some; within = within; next = next; grows = grows; reply = refl }))))))
+
+-- ---- refusals among the entries that a history gained
+
+none_after : (es : List Entry) → drop (length es) es ≡ []
+none_after [] = refl
+none_after (e ∷ es) = none_after es
+
+one_after : (es : List Entry) (e : Entry) → drop (length es) (es ++ e ∷ []) ≡ e ∷ []
+one_after [] e = refl
+one_after (x ∷ es) e = one_after es e
+
+pub none_of_same : (h : History) → NoneRefused h h
+none_of_same h = ap (list_any is_refused) (none_after h.entries)
+
+pub none_of_commit : (h k : History) (commit : Commit) → k ≡ grown h (Committed commit) → NoneRefused h k
+none_of_commit h k commit grows =
+    subst (λ (x : History). NoneRefused h x) (sym grows) (ap (list_any is_refused) (one_after h.entries (Committed commit)))
+
+pub refused_shows : (h k : History) (stamp : Stamp) → k ≡ grown h (Refused stamp) → ¬ NoneRefused h k
+refused_shows h k stamp grows none =
+    true≢false (sym (ap (list_any is_refused) (one_after h.entries (Refused stamp))) ∙ subst (λ (x : History). NoneRefused h x) grows none)

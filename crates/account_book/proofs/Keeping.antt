@@ -19,7 +19,7 @@ numbered_of h content log entries blobs n bytes s = subst AreNumbered (sym s.con
 pub IsBounded-within : (h : History) (content : Content) (log : Notes) (entries : List KeptEntry) (blobs : List (List ℕ)) (n bytes : ℕ) → Stands h content log entries blobs n bytes → edit_bytes (edits_of h) ≤ MAX_EDIT_BYTES → IsBounded h
 IsBounded-within h content log entries blobs n bytes s within =
     let next = NextAtMost-founded h s.founded s.fits in
-    let low = s.founded.low in
+    let low : h.floor ≤ 2 ^ 52 = s.founded.low in
     let few = edit_bytes-least (edits_of h) in
     let most : end_of h + 1 ≤ 2 ^ 52 + 2 ^ 26 = omega (arith, low, few, within) in
     record {

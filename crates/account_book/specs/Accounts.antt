@@ -2,7 +2,7 @@
 use Rattle.std.specs.Prelude.{◌≡◌, ℕ, ◌≤◌, ◌+◌, ◌^◌, true, false, not, if◌then◌else◌, List, [], ◌∷◌, take, drop, filter, length, map}
 use Rattle.mail_records.specs.Contents.{Content, NextAtMost}
 use Rattle.mail_records.specs.Edits.{AllFit}
-use Rattle.mail_records.specs.Histories.{History, Entry, Committed, Refused, IsFounded, is_refused, edits_of, content_of, blobs_of, end_of}
+use Rattle.mail_records.specs.Histories.{History, Entry, Committed, Refused, IsFounded, is_refused, edits_of, content_of, blobs_of, end_of, max_position}
 use Rattle.blob_store.specs.Blobs.{AreBlobsFew}
 use Rattle.state_log.specs.Logs.{Notes, IsLogOf}
 use Rattle.record_codec.specs.Sizes.{edit_bytes}
@@ -56,12 +56,6 @@ pub record Stands (h : History) (content : Content) (log : Notes) (entries : Lis
   pub few : AreBlobsFew blobs
   pub base_blobs_are : base_blobs ≡ length h.base_blobs
   pub bytes_are : bytes ≡ edit_bytes (edits_of h)
-
--- The greatest last position of an account, and the greatest next number of a kind of record: a
--- floor is at most 2^52, and the limit of edits keeps fewer than 2^26 edits after it. It is below
--- 2^53, so that a JSON number holds it (RFC 8620, 1.3).
-abbrev pub max_position : ℕ
-max_position = 2 ^ 52 + 2 ^ 26
 
 -- the last position, and the next number of each kind, that a call on an account may meet
 pub record IsBounded (h : History) : Type 0 where

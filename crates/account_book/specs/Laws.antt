@@ -3,7 +3,7 @@
 use Rattle.std.proofs.Common.{◌≡◌, ℕ, ◌+◌, ◌≤◌, List, [], ◌∷◌, ◌++◌, filter, not, length, refl, ap, ◌∙◌, arith}
 use Rattle.mail_records.specs.Edits.{after_edits}
 use Rattle.mail_records.specs.Histories.{History, Entry, IsFounded, account_after, Committed, Refused, is_refused, edits_in, blobs_in, edits_of, blobs_of, content_of, end_of}
-use Rattle.mail_records.specs.Moved.{moved_up}
+use Rattle.mail_records.specs.FloorMoves.{moved_up}
 use Rattle.mail_records.proofs.Moved.{edits_of-moved_up}
 use Rattle.record_codec.specs.Sizes.{edit_bytes}
 use Rattle.record_codec.proofs.Lengths.{edit_bytes-append}

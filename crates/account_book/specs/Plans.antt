@@ -1,5 +1,6 @@
 -- What calls may plan.
 use Rattle.std.specs.Prelude.{◌≡◌, ℕ, [], ⊤}
+use Rattle.jm_base.specs.declared.utc_dates.TheConstants.{LAST_TIMESTAMP}
 use Rattle.account_book.specs.Replies.{IsIdle}
 use Rattle.account_book.specs.declared.asks.Ask.{Ask}
 use Rattle.account_book.specs.declared.asks.Ask.TheVariants.{Method, Upload, Blob, Fetch, Place, States}
@@ -7,7 +8,7 @@ use Rattle.account_book.specs.declared.plans.Plan.{Plan}
 
 -- the last second of the year 9999, in seconds since the beginning of 1970
 abbrev pub last_moment : ℕ
-last_moment = 253402300799
+last_moment = LAST_TIMESTAMP
 
 -- What may be planned for what is asked: what only reads changes nothing, and an upload brings a
 -- blob and no edits.

@@ -1,8 +1,9 @@
 -- What a call on an account is answered, and what it does to the account's history. What a call
 -- plans, and how many bytes edits take where they are kept, are parameters.
-use Rattle.std.specs.Prelude.{◌≡◌, ℕ, ◌+◌, ◌≤◌, List, [], ◌∷◌, ◌⊎◌, codes}
+use Rattle.std.specs.Prelude.{◌≡◌, ℕ, ◌+◌, ◌≤◌, false, List, [], ◌∷◌, ◌⊎◌, drop, length, codes}
+use Rattle.std.specs.List.{list_any}
 use Rattle.jm_json.specs.Call.{error_of}
-use Rattle.mail_records.specs.Histories.{History, Committed, edits_of, account_after, grown}
+use Rattle.mail_records.specs.Histories.{History, Committed, Refused, is_refused, edits_of, account_after, grown}
 use Rattle.mail_records.specs.declared.edits.Edit.{Edit}
 use Rattle.mail_records.specs.declared.edits.Commit.{Commit}
 use Rattle.mail_records.specs.declared.edits.Stamp.{Stamp}
@@ -55,7 +56,16 @@ pub record IsUnavailable (bytes : List Edit → ℕ) (before : History) (p : Pla
   pub same : point.after ≡ point.before
   pub reply : out ≡ refusal (codes "serverUnavailable") ask
 
--- any other plan is answered, and the one entry more is its commit
+-- a plan whose commit could not be kept is refused, and the one entry more is the mark of that
+pub record IsRefused (bytes : List Edit → ℕ) (before after : History) (p : Plan) (point : Point)
+    (ask : Ask) (stamp : Stamp) (out : Out) : Type 0 where
+  pub some : ¬ IsIdle p
+  pub within : IsWithin bytes before p.edits
+  pub next : point.after ≡ point.before + 1
+  pub grows : after ≡ grown before (Refused stamp)
+  pub reply : out ≡ refusal (codes "serverFail") ask
+
+-- a plan whose commit is kept is answered, and the one entry more is its commit
 pub record IsCommitted (bytes : List Edit → ℕ) (before after : History) (p : Plan) (point : Point)
     (stamp : Stamp) (out : Out) : Type 0 where
   pub some : ¬ IsIdle p
@@ -70,7 +80,13 @@ abbrev pub IsReplyTo : Plan → (List Edit → ℕ) → History → History → 
     → Type 0
 IsReplyTo p bytes before after point ask stamp out =
     IsAnswered p point out ⊎ IsUnavailable bytes before p point ask out
+    ⊎ IsRefused bytes before after p point ask stamp out
     ⊎ IsCommitted bytes before after p point stamp out
+
+-- no entry that a history gained is a refusal
+abbrev pub NoneRefused : History → History → Type 0
+NoneRefused before after =
+    list_any is_refused (drop (length before.entries) after.entries) ≡ false
 
 -- What a call is answered at a point of a history. Its plan is that of the account before it, which
 -- has the point's entries before it alone; so of the history nothing counts that is later than the

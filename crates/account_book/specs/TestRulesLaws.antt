@@ -5,8 +5,8 @@ use Rattle.mail_records.specs.Tables.{lookup}
 use Rattle.mail_records.specs.Contents.{Content, AreNumbered, mailbox_number}
 use Rattle.mail_records.specs.Commits.{IsFormed}
 use Rattle.mail_records.specs.Edits.{AllFit, IsSmall, after_edit, after_edits}
-use Rattle.mail_records.specs.Moved.{moved_up}
-use Rattle.mail_records.specs.Histories.{History, Committed, IsFounded, IsSound, NamesThread, account_after, blobs_of, edits_of, end_after, content_of, grown, empty_history}
+use Rattle.mail_records.specs.FloorMoves.{moved_up}
+use Rattle.mail_records.specs.Histories.{History, Committed, IsFounded, IsSound, NamesThread, account_after, blobs_of, edits_of, end_after, content_of, grown, empty_history, max_floor}
 use Rattle.mail_records.specs.declared.records.Email.{Email}
 use Rattle.mail_records.specs.declared.edits.Edit.{Edit}
 use Rattle.mail_records.specs.declared.edits.Edit.TheVariants.{PutMailbox, DropMailbox, PutEmail, DropEmail, PutThread, DropThread}
@@ -173,7 +173,7 @@ emails_stay (DropEmail number thread ∷ es) c all = absurd all.0
 emails_stay (PutThread item was ∷ es) c all = absurd all.0
 emails_stay (DropThread number ∷ es) c all = absurd all.0
 
-pub adding_moves : (h : History) (c : ℕ) → end_after h c ≤ 2 ^ 52 → IsAdded h
+pub adding_moves : (h : History) (c : ℕ) → end_after h c ≤ max_floor → IsAdded h
     → IsAdded (moved_up h c)
 adding_moves h c low whole =
     let first = edits_of (account_after h c) in

@@ -78,6 +78,13 @@ impl Account {
         &self.log
     }
 
+    /// It does nothing: its clause says that the edits of its history fit one after the other.
+    pub fn edits_fit(&self)
+        ensures { AllFit self.now.history.base (edits_of self.now.history) }
+    {
+        let _log = &self.log;
+    }
+
     /// Lends its content after all edits: in number order, each number from 1 and below its kind's
     /// next one.
     pub fn content(&self) -> &Content

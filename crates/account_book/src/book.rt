@@ -8,7 +8,7 @@ ghost use Rattle.record_codec.specs.Sizes.{edit_bytes};
 ghost use Rattle.blob_store.specs.Blobs.{AreBlobsFew};
 ghost use Rattle.account_book.specs.Accounts.{IsBounded};
 ghost use Rattle.account_book.specs.Plans.{last_moment};
-ghost use Rattle.account_book.specs.Replies.{IsReply, IsWithin, commit_of};
+ghost use Rattle.account_book.specs.Replies.{IsReply, IsWithin, NoneRefused, commit_of};
 
 use crate::plans::refusal;
 use crate::{Account, Call, Done, Plan, Rules};
@@ -57,11 +57,11 @@ impl<R: Rules> Book<R> {
         &self.account
     }
 
-    /// Performs a call at a moment, in seconds since the beginning of 1970. It is answered as its
-    /// plan says, or, where the plan's edits would pass the limit of 64 MiB, with
-    /// `serverUnavailable`. The history grows by the plan's commit under the stamp, where the plan
-    /// changes something and is within the limit, and by nothing else. Where there is no memory it
-    /// stays as it was.
+    /// Performs a call at a timestamp, in seconds since the beginning of 1970. The call is answered
+    /// as its plan says, or, if the plan's edits would pass the limit of 64 MiB, with
+    /// `serverUnavailable`. The history grows by the plan's commit under the stamp, if the plan
+    /// changes something and is within the limit, and by nothing else: a book in memory keeps every
+    /// commit, so none is refused. If an allocation fails, the history stays as it was.
     pub fn perform(
         &mut self,
         alloc: Global,
@@ -84,6 +84,7 @@ impl<R: Rules> Book<R> {
         ensures after { IfOk result (λ done. done.after ≡ length self.new.history.entries) }
         ensures begins { IfOk result (λ done. account_after self.new.history done.before
             ≡ self.old.history) }
+        ensures kept { IfOk result (λ _. NoneRefused self.old.history self.new.history) }
         ensures no_memory { OnErr result (self.new.history ≡ self.old.history) }
     {
         let before = self.account.count();

@@ -1,7 +1,7 @@
 // What holds of every account, whatever its rules.
 ghost use Rattle.std.specs.Prelude.{◌≡◌, ◌≤◌, ◌^◌, ℕ, List, length};
-ghost use Rattle.mail_records.specs.Histories.{History, Entry, IsFounded, IsSound, blobs_of, content_at, content_of, end_after, end_of, grown_by};
-ghost use Rattle.mail_records.specs.Moved.{moved_up};
+ghost use Rattle.mail_records.specs.Histories.{History, Entry, IsFounded, IsSound, blobs_of, content_at, content_of, end_after, end_of, grown_by, max_floor};
+ghost use Rattle.mail_records.specs.FloorMoves.{moved_up};
 ghost use Rattle.mail_records.specs.States.{state_at, state_of};
 ghost use Rattle.mail_records.specs.declared.edits.Edit.{Edit};
 ghost use Rattle.mail_records.specs.declared.edits.Stamp.{Stamp};
@@ -35,7 +35,7 @@ pub fn history_outlasts_floor()
         → state_at (moved_up h c) kind k ≡ state_at h kind k }
     ensures state_of { (h : History) (kind : Kind) (c : ℕ) → state_of (moved_up h c) kind
         ≡ state_of h kind }
-    ensures founded { (h : History) (c : ℕ) → end_after h c ≤ 2 ^ 52 → IsFounded h → IsSound h
+    ensures founded { (h : History) (c : ℕ) → end_after h c ≤ max_floor → IsFounded h → IsSound h
         → IsFounded (moved_up h c) }
     ensures sound { (h : History) (c : ℕ) → IsSound h → IsSound (moved_up h c) }
 {}

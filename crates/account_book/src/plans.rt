@@ -50,7 +50,7 @@ impl Plan {
 }
 
 /// Where in an account's history a call stands: how many entries there were before it and after it,
-/// and its moment, in seconds since the beginning of 1970 in UTC.
+/// and its timestamp, in seconds since the beginning of 1970 in UTC.
 #[derive(Clone, Copy, Debug, PartialEq, Eq)]
 pub struct Point {
     /// The number of the account among those of a server.

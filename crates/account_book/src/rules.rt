@@ -3,9 +3,9 @@ ghost use Rattle.std.specs.Prelude.{◌≡◌, ◌≤◌, ◌↔◌, ◌^◌, �
 ghost use Rattle.std.specs.List.{AllByRecursion};
 ghost use Rattle.mail_records.specs.Commits.{IsFormed};
 ghost use Rattle.mail_records.specs.Edits.{AllFit, IsSmall};
-ghost use Rattle.mail_records.specs.Histories.{History, Committed, IsFounded, IsSound, blobs_of, content_of, edits_of, empty_history, end_after, grown};
+ghost use Rattle.mail_records.specs.Histories.{History, Committed, IsFounded, IsSound, blobs_of, content_of, edits_of, empty_history, end_after, grown, max_floor};
 ghost use Rattle.mail_records.specs.declared.edits.Stamp.{Stamp};
-ghost use Rattle.mail_records.specs.Moved.{moved_up};
+ghost use Rattle.mail_records.specs.FloorMoves.{moved_up};
 ghost use Rattle.record_codec.specs.Sizes.{edit_bytes};
 ghost use Rattle.blob_store.specs.Blobs.{AreBlobsFew};
 ghost use Rattle.account_book.specs.Accounts.{IsBounded, without_refusals};
@@ -19,20 +19,20 @@ use crate::{Account, Call, Plan};
 use jm_base::NoMemory;
 use std::alloc::Global;
 
-/// The rules of an account. Their meaning is what each call plans over a history at a moment, and
-/// which histories are valid.
+/// The rules of an account. Their meaning is what each call plans over a history at a timestamp,
+/// and which histories are valid.
 ///
-/// What they promise holds of calls at moments up to the end of the year 9999.
+/// What they promise holds of calls at timestamps up to the end of the year 9999.
 pub trait Rules: Drop + Send + Sync {
-    /// What a call plans, over the history of the account at a moment.
+    /// What a call plans, over the history of the account at a timestamp.
     ghost plan_of: { Self → History → TheCall → ℕ → ThePlan };
 
     /// Whether an account with this history is valid: founded, sound, and all that the rules want
     /// of its records.
     ghost is_whole: { Self → History → Type 0 };
 
-    /// The plan of a call, over an account at a moment. The account needn't be valid: what is
-    /// promised of plans from valid ones is said below.
+    /// Returns the plan of a call over an account at a timestamp. The account needn't be valid: the
+    /// promises below are of plans from valid ones.
     fn plan(
         &self,
         alloc: Global,
@@ -83,7 +83,7 @@ pub trait Rules: Drop + Send + Sync {
     ghost ignores: { (r : Self) (h : History) → is_whole r (without_refusals h) ↔ is_whole r h };
 
     /// A valid account stays valid if its floor moves up to the end of some of its entries.
-    ghost moves: { (r : Self) (h : History) (c : ℕ) → end_after h c ≤ 2 ^ 52 → is_whole r h
+    ghost moves: { (r : Self) (h : History) (c : ℕ) → end_after h c ≤ max_floor → is_whole r h
         → is_whole r (moved_up h c) };
 
     /// An account in which nothing has been yet is valid.

@@ -1,4 +1,5 @@
 pub mod Ends
 pub mod Messages
 pub mod Performed
+pub mod Unstamped
 pub mod OneOutput

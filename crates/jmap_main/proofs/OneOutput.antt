@@ -2,14 +2,14 @@
 -- `batch`, whatever stamps its entries have.
 use Rattle.std.proofs.Common.{◌≡◌, ◌⊎◌, inl, inr, ℕ, ◌+◌, ◌≤◌, List, [], ◌∷◌, ◌++◌, ◌==◌, map, length, nat_lt, Bool, true, false, cond, Option, Some, None, is_some, refl, sym, ap, ap₂, ◌∙◌, subst, codes}
 use Rattle.jm_json.specs.Call.{Call}
-use Rattle.jm_json.specs.Invoked.{call_of}
+use Rattle.jm_json.specs.Invocations.{call_of}
 use Rattle.jm_json.specs.Json.{tree_of}
 use Rattle.jm_json.specs.Reading.{Reading, not_json, not_whole, whole, reading_of}
 use Rattle.jm_json.specs.Tree.{Tree}
 use Rattle.jm_json.specs.declared.invocation.Invocation.{Invocation}
 use Rattle.jm_json.specs.declared.invocation.Created.{Created}
 use Rattle.jm_json.specs.declared.invocation.Replied.{Replied}
-use Rattle.mail_records.specs.Histories.{History, Entry, Committed, Refused, blobs_in, blobs_of, edits_in, edits_of, entry_blobs, entry_edits, grown, empty_history}
+use Rattle.mail_records.specs.Histories.{History, Entry, Committed, Refused, blobs_of, edits_of, grown, empty_history}
 use Rattle.mail_records.specs.declared.edits.Edit.{Edit}
 use Rattle.mail_records.specs.declared.edits.Stamp.{Stamp}
 use Rattle.method_batch.specs.Method.{core_capability, mail_capability}
@@ -24,17 +24,18 @@ use Rattle.method_batch.specs.declared.outcome.Problem.{Problem}
 use Rattle.method_batch.specs.declared.outcome.Problem.TheVariants.{TooLarge, NotJson, NotRequest}
 use Rattle.record_codec.specs.Sizes.{edit_bytes}
 use Rattle.account_book.specs.declared.limits.TheConstants.{MAX_EDIT_BYTES}
-use Rattle.account_book.specs.Replies.{IsReplyTo, IsWithin, commit_of, refusal}
+use Rattle.account_book.specs.Replies.{IsReplyTo, IsWithin, NoneRefused, commit_of, refusal}
+use Rattle.account_book.proofs.Answering.{refused_shows}
 use Rattle.account_book.specs.declared.asks.Ask.{Ask}
 use Rattle.account_book.specs.declared.asks.Call.{Call as TheCall}
 use Rattle.account_book.specs.declared.plans.Out.{Out}
 use Rattle.account_book.specs.declared.plans.Plan.{Plan}
 use Rattle.account_book.specs.declared.plans.Point.{Point}
 use Rattle.mail_calls.specs.BlobPlans.{has_room, upload_if, upload_plan}
-use Rattle.mail_calls.specs.Plans.{call_plan, method_plan, plan_by}
+use Rattle.mail_calls.specs.Plans.{call_plan, changes_plan, get_plan, method_plan, plan_by}
 use Rattle.mail_calls.specs.Methods.{method_named}
 use Rattle.mail_calls.specs.declared.methods.Method.{Method as MailMethod}
-use Rattle.mail_calls.specs.declared.methods.Method.TheVariants.{MailboxGet, MailboxSet}
+use Rattle.mail_calls.specs.declared.methods.Method.TheVariants.{Get, Changes, MailboxSet, EmailParse}
 use Rattle.batch_lines.specs.Lines.{lines_of}
 use Rattle.batch_lines.specs.Replies.{AreReplies, IsLineReply, IsRequestReply, IsUploadReply, line_text}
 use Rattle.batch_lines.specs.Uploads.{IsAnswerToBytes, IsRejected, IsUploaded, base64_bytes, limit_tree, upload_tree}
@@ -42,6 +43,7 @@ use Rattle.batch_lines.specs.declared.upload.Uploaded.{Uploaded}
 use Rattle.jmap_main.specs.Served.{AnswersUnless, IsAccountAnswer, error_alone, account_answers, account_error, account_uploads, asked, asked_upload, point_between, replied_of, uploaded_of}
 use Rattle.jmap_main.specs.Stamps.{AreAlike, unstamped, unstamped_entry}
 use Rattle.jmap_main.proofs.Performed.{at_ends, unchanged}
+use Rattle.jmap_main.proofs.Unstamped.{blobs_unstamped, changes_unstamped, edits_unstamped, get_unstamped, parse_unstamped}
 
 module _ {S : Type 0} (answers : S → Call → List Created → Replied → S → Type 0) (uploads : S → List ℕ → Uploaded → S → Type 0) (Alike : S → S → Type 0)
     (one : (s t : S) (c : Call) (made : List Created) (r q : Replied) (s' t' : S) → Alike s t → answers s c made r s' → answers t c made q t' → (q ≡ r) × Alike s' t')
@@ -156,27 +158,13 @@ module _ {S : Type 0} (answers : S → Call → List Created → Replied → S �
 
 -- ---- the account, whatever stamps its entries have
 
-edits_of_entry : (e : Entry) → entry_edits (unstamped_entry e) ≡ entry_edits e
-edits_of_entry (Committed commit) = refl
-edits_of_entry (Refused stamp) = refl
-
-edits_unstamped : (es : List Entry) → edits_in (map unstamped_entry es) ≡ edits_in es
-edits_unstamped [] = refl
-edits_unstamped (e ∷ es) = ap₂ (λ (a b : List Edit). a ++ b) (edits_of_entry e) (edits_unstamped es)
-
-blobs_of_entry : (e : Entry) → entry_blobs (unstamped_entry e) ≡ entry_blobs e
-blobs_of_entry (Committed commit) = refl
-blobs_of_entry (Refused stamp) = refl
-
-blobs_unstamped : (es : List Entry) → blobs_in (map unstamped_entry es) ≡ blobs_in es
-blobs_unstamped [] = refl
-blobs_unstamped (e ∷ es) = ap₂ (λ (a b : List (List ℕ)). a ++ b) (blobs_of_entry e) (blobs_unstamped es)
-
 plan_by_unstamped : (h : History) (c : Call) (made : List Created) (read_only : Bool) (method : Option MailMethod)
     → plan_by (unstamped h) c made read_only 0 method ≡ plan_by h c made read_only 0 method
 plan_by_unstamped h c made read_only None = refl
-plan_by_unstamped h c made read_only (Some MailboxGet) = rw (edits_unstamped h.entries) refl
+plan_by_unstamped h c made read_only (Some (Get kind)) = ap (get_plan c) (get_unstamped h c.args read_only kind)
+plan_by_unstamped h c made read_only (Some (Changes kind)) = ap (changes_plan c) (changes_unstamped h kind c.args)
 plan_by_unstamped h c made read_only (Some MailboxSet) = rw (edits_unstamped h.entries) refl
+plan_by_unstamped h c made read_only (Some EmailParse) = ap (get_plan c) (parse_unstamped h c.args)
 
 plan_unstamped : (h : History) (c : Call) (made : List Created) (read_only : Bool) → method_plan (unstamped h) c made read_only 0 ≡ method_plan h c made read_only 0
 plan_unstamped h c made read_only = plan_by_unstamped h c made read_only (method_named c.name)
@@ -219,18 +207,22 @@ alike_so h k h' k' alike e f = ap unstamped f ∙ alike ∙ sym (ap unstamped e)
 -- what is shown of the answers to two asks with one plan, if what is shown of their refusals is the same
 plans_one : {R : Type 0} (show : Out → R) (p : Plan) (h k h' k' : History) (x y : Ask) (point there : Point) (stamp other : Stamp) (out out' : Out) → AreAlike h k
     → show (refusal (codes "serverUnavailable") y) ≡ show (refusal (codes "serverUnavailable") x)
-    → (point.after ≡ point.before → h' ≡ h) → (there.after ≡ there.before → k' ≡ k)
+    → (point.after ≡ point.before → h' ≡ h) → (there.after ≡ there.before → k' ≡ k) → NoneRefused h h' → NoneRefused k k'
     → IsReplyTo p edit_bytes h h' point x stamp out → IsReplyTo p edit_bytes k k' there y other out' → (show out' ≡ show out) × AreAlike h' k'
-plans_one show p h k h' k' x y point there stamp other out out' alike same stays halts (inl a) (inl b) = (ap show (b.reply ∙ sym a.reply), alike_so h k h' k' alike (stays a.same) (halts b.same))
-plans_one show p h k h' k' x y point there stamp other out out' alike same stays halts (inl a) (inr (inl b)) = absurd (b.some a.idle)
-plans_one show p h k h' k' x y point there stamp other out out' alike same stays halts (inl a) (inr (inr b)) = absurd (b.some a.idle)
-plans_one show p h k h' k' x y point there stamp other out out' alike same stays halts (inr (inl a)) (inl b) = absurd (a.some b.idle)
-plans_one show p h k h' k' x y point there stamp other out out' alike same stays halts (inr (inl a)) (inr (inl b)) =
+plans_one show p h k h' k' x y point there stamp other out out' alike same stays halts none never (inr (inr (inl a))) b = absurd (refused_shows h h' stamp a.grows none)
+plans_one show p h k h' k' x y point there stamp other out out' alike same stays halts none never (inl a) (inr (inr (inl b))) = absurd (refused_shows k k' other b.grows never)
+plans_one show p h k h' k' x y point there stamp other out out' alike same stays halts none never (inr (inl a)) (inr (inr (inl b))) = absurd (refused_shows k k' other b.grows never)
+plans_one show p h k h' k' x y point there stamp other out out' alike same stays halts none never (inr (inr (inr a))) (inr (inr (inl b))) = absurd (refused_shows k k' other b.grows never)
+plans_one show p h k h' k' x y point there stamp other out out' alike same stays halts none never (inl a) (inl b) = (ap show (b.reply ∙ sym a.reply), alike_so h k h' k' alike (stays a.same) (halts b.same))
+plans_one show p h k h' k' x y point there stamp other out out' alike same stays halts none never (inl a) (inr (inl b)) = absurd (b.some a.idle)
+plans_one show p h k h' k' x y point there stamp other out out' alike same stays halts none never (inl a) (inr (inr (inr b))) = absurd (b.some a.idle)
+plans_one show p h k h' k' x y point there stamp other out out' alike same stays halts none never (inr (inl a)) (inl b) = absurd (a.some b.idle)
+plans_one show p h k h' k' x y point there stamp other out out' alike same stays halts none never (inr (inl a)) (inr (inl b)) =
     (ap show b.reply ∙ same ∙ sym (ap show a.reply), alike_so h k h' k' alike (stays a.same) (halts b.same))
-plans_one show p h k h' k' x y point there stamp other out out' alike same stays halts (inr (inl a)) (inr (inr b)) = absurd (a.past (within_alike k h p.edits (turned h k alike) b.within))
-plans_one show p h k h' k' x y point there stamp other out out' alike same stays halts (inr (inr a)) (inl b) = absurd (a.some b.idle)
-plans_one show p h k h' k' x y point there stamp other out out' alike same stays halts (inr (inr a)) (inr (inl b)) = absurd (b.past (within_alike h k p.edits alike a.within))
-plans_one show p h k h' k' x y point there stamp other out out' alike same stays halts (inr (inr a)) (inr (inr b)) =
+plans_one show p h k h' k' x y point there stamp other out out' alike same stays halts none never (inr (inl a)) (inr (inr (inr b))) = absurd (a.past (within_alike k h p.edits (turned h k alike) b.within))
+plans_one show p h k h' k' x y point there stamp other out out' alike same stays halts none never (inr (inr (inr a))) (inl b) = absurd (a.some b.idle)
+plans_one show p h k h' k' x y point there stamp other out out' alike same stays halts none never (inr (inr (inr a))) (inr (inl b)) = absurd (b.past (within_alike h k p.edits alike a.within))
+plans_one show p h k h' k' x y point there stamp other out out' alike same stays halts none never (inr (inr (inr a))) (inr (inr (inr b))) =
     (ap show (b.reply ∙ sym a.reply), ap unstamped b.grows ∙ grown_alike h k p stamp other alike ∙ sym (ap unstamped a.grows))
 
 -- the answers to two calls whose plans are one
@@ -242,7 +234,7 @@ answers_one show h k h' k' x y out out' alike plans same a b =
     let first : IsReplyTo p edit_bytes h h' (point_between h h') x.ask a.stamp out = at_ends h h' x a.stamp out a.begins a.reply in
     let second : IsReplyTo p edit_bytes k k' (point_between k k') y.ask b.stamp out' =
     subst (λ (z : Plan). IsReplyTo z edit_bytes k k' (point_between k k') y.ask b.stamp out') plans (at_ends k k' y b.stamp out' b.begins b.reply) in
-    plans_one show p h k h' k' x.ask y.ask (point_between h h') (point_between k k') a.stamp b.stamp out out' alike same (unchanged h h' a.begins) (unchanged k k' b.begins) first second
+    plans_one show p h k h' k' x.ask y.ask (point_between h h') (point_between k k') a.stamp b.stamp out out' alike same (unchanged h h' a.begins) (unchanged k k' b.begins) a.kept b.kept first second
 
 by_error : (e : Option (List ℕ)) (h k : History) (c : Call) (made : List Created) (r q : Replied) (h' k' : History) → AreAlike h k → AnswersUnless e h c made r h' → AnswersUnless e k c made q k' → (q ≡ r) × AreAlike h' k'
 by_error (Some kind) h k c made r q h' k' alike a b = (b.1 ∙ sym a.1, alike_so h k h' k' alike a.0 b.0)

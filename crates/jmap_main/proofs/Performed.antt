@@ -1,20 +1,18 @@
 -- What a book's answer to a method is of the account of `batch`, and that it leaves a valid account valid.
 use Rattle.std.proofs.Common.{◌≡◌, ◌⊎◌, inl, inr, ℕ, ◌+◌, ◌≤◌, Bool, true, false, List, [], ◌∷◌, ◌++◌, drop, length, Option, Some, None, refl, sym, ap, ◌∙◌, subst, arith}
-use Rattle.std.specs.List.{list_any}
 use Rattle.jm_json.specs.Call.{Call}
-use Rattle.jm_json.specs.Invoked.{call_of}
+use Rattle.jm_json.specs.Invocations.{call_of}
 use Rattle.jm_json.specs.declared.invocation.Invocation.{Invocation}
 use Rattle.jm_json.specs.declared.invocation.Created.{Created}
 use Rattle.jm_json.specs.declared.invocation.Replied.{Replied}
-use Rattle.mail_records.specs.Histories.{History, Entry, Committed, is_refused, account_after, grown}
+use Rattle.mail_records.specs.Histories.{History, account_after}
 use Rattle.mail_records.specs.declared.edits.Stamp.{Stamp}
 use Rattle.mail_records.proofs.Prefixes.{account_after-all}
 use Rattle.record_codec.specs.Sizes.{edit_bytes}
-use Rattle.account_book.specs.Replies.{IsReplyTo, commit_of}
-use Rattle.account_book.specs.declared.asks.Ask.{Ask}
+use Rattle.account_book.specs.Replies.{IsReplyTo, NoneRefused}
+use Rattle.account_book.proofs.Answering.{refused_shows}
 use Rattle.account_book.specs.declared.asks.Ask.TheVariants.{Method}
 use Rattle.account_book.specs.declared.plans.Out.{Out}
-use Rattle.account_book.specs.declared.plans.Plan.{Plan}
 use Rattle.account_book.specs.declared.plans.Point.{Point}
 use Rattle.mail_calls.specs.Plans.{call_plan}
 use Rattle.mail_calls.specs.Keeping.{IsWholeMail}
@@ -26,27 +24,6 @@ use Rattle.account_book.specs.declared.asks.Call.{Call as TheCall}
 -- a history that has no entries but the first ones
 pub all_of : (h : History) (n : ℕ) → n ≡ length h.entries → account_after h n ≡ h
 all_of h n is = account_after-all h n (omega (arith, is))
-
-none_after : (es : List Entry) → drop (length es) es ≡ []
-none_after [] = refl
-none_after (e ∷ es) = none_after es
-
-one_after : (es : List Entry) (e : Entry) → drop (length es) (es ++ e ∷ []) ≡ e ∷ []
-one_after [] e = refl
-one_after (x ∷ es) e = one_after es e
-
--- no entry that the history gained is a refusal
-abbrev NoneRefused : History → History → Type 0
-NoneRefused h k = list_any is_refused (drop (length h.entries) k.entries) ≡ false
-
-none_of_same : (h k : History) → k ≡ h → NoneRefused h k
-none_of_same h k e = subst (λ (x : History). NoneRefused h x) (sym e) (ap (list_any is_refused) (none_after h.entries))
-
-none_refused : (p : Plan) (h k : History) (point : Point) (ask : Ask) (stamp : Stamp) (out : Out) → (point.after ≡ point.before → k ≡ h) → IsReplyTo p edit_bytes h k point ask stamp out → NoneRefused h k
-none_refused p h k point ask stamp out stays (inl answered) = none_of_same h k (stays answered.same)
-none_refused p h k point ask stamp out stays (inr (inl past)) = none_of_same h k (stays past.same)
-none_refused p h k point ask stamp out stays (inr (inr entered)) =
-    subst (λ (x : History). NoneRefused h x) (sym entered.grows) (ap (list_any is_refused) (one_after h.entries (Committed (commit_of p stamp))))
 
 -- the answer between a history and the one that it goes on to
 pub at_ends : (h k : History) (call : TheCall) (stamp : Stamp) (out : Out) → account_after k (length h.entries) ≡ h → IsMailReply k (point_between h k) call stamp out
@@ -60,9 +37,9 @@ pub unchanged : (h k : History) → account_after k (length h.entries) ≡ h →
 unchanged h k begins same = sym (all_of k (length k.entries) refl) ∙ ap (account_after k) same ∙ begins
 
 -- what a book answers to a call is the answer of the account of `batch`
-pub answered : (h k : History) (call : TheCall) (stamp : Stamp) (before after : ℕ) (out : Out) → before ≡ length h.entries → after ≡ length k.entries → account_after k before ≡ h
+pub answered : (h k : History) (call : TheCall) (stamp : Stamp) (before after : ℕ) (out : Out) → NoneRefused h k → before ≡ length h.entries → after ≡ length k.entries → account_after k before ≡ h
     → IsMailReply k (record { account = 0; before = before; after = after; moment = 0 }) call stamp out → IsAccountAnswer h call out k
-answered h k call stamp before after out b a begins reply =
+answered h k call stamp before after out kept b a begins reply =
     let at : IsMailReply k (point_between h k) call stamp out =
     subst (λ (x : ℕ). IsMailReply k (record { account = 0; before = x; after = length k.entries; moment = 0 }) call stamp out) b
     (subst (λ (x : ℕ). IsMailReply k (record { account = 0; before = before; after = x; moment = 0 }) call stamp out) a reply) in
@@ -70,18 +47,19 @@ answered h k call stamp before after out b a begins reply =
     record {
       stamp = stamp;
       begins = start;
-      kept = none_refused (call_plan h call 0) h k (point_between h k) call.ask stamp out (unchanged h k start) (at_ends h k call stamp out start at);
+      kept = kept;
       reply = at;
     }
 
-valid_after : (h k : History) (call : TheCall) (stamp : Stamp) (point : Point) (out : Out) → IsWholeMail h → (point.after ≡ point.before → k ≡ h) → IsReplyTo (call_plan h call 0) edit_bytes h k point call.ask stamp out → IsWholeMail k
-valid_after h k call stamp point out whole stays (inl answered) = subst IsWholeMail (sym (stays answered.same)) whole
-valid_after h k call stamp point out whole stays (inr (inl past)) = subst IsWholeMail (sym (stays past.same)) whole
-valid_after h k call stamp point out whole stays (inr (inr entered)) = subst IsWholeMail (sym entered.grows) (plan_keeps h call 0 stamp whole entered.within)
+valid_after : (h k : History) (call : TheCall) (stamp : Stamp) (point : Point) (out : Out) → IsWholeMail h → NoneRefused h k → (point.after ≡ point.before → k ≡ h) → IsReplyTo (call_plan h call 0) edit_bytes h k point call.ask stamp out → IsWholeMail k
+valid_after h k call stamp point out whole kept stays (inl answered) = subst IsWholeMail (sym (stays answered.same)) whole
+valid_after h k call stamp point out whole kept stays (inr (inl past)) = subst IsWholeMail (sym (stays past.same)) whole
+valid_after h k call stamp point out whole kept stays (inr (inr (inl refused))) = absurd (refused_shows h k stamp refused.grows kept)
+valid_after h k call stamp point out whole kept stays (inr (inr (inr entered))) = subst IsWholeMail (sym entered.grows) (plan_keeps h call 0 stamp whole entered.within)
 
 valid_answer : (h k : History) (call : TheCall) (out : Out) → IsWholeMail h → IsAccountAnswer h call out k → IsWholeMail k
 valid_answer h k call out whole did =
-    valid_after h k call did.stamp (point_between h k) out whole (unchanged h k did.begins) (at_ends h k call did.stamp out did.begins did.reply)
+    valid_after h k call did.stamp (point_between h k) out whole did.kept (unchanged h k did.begins) (at_ends h k call did.stamp out did.begins did.reply)
 
 by_error : (e : Option (List ℕ)) (h k : History) (c : Call) (made : List Created) (r : Replied) → IsWholeMail h → AnswersUnless e h c made r k → IsWholeMail k
 by_error (Some kind) h k c made r whole (same, is) = subst IsWholeMail (sym same) whole

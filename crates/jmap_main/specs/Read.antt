@@ -5,12 +5,14 @@ use Rattle.get_args.specs.Wanted.{Reading, invalid, asked, read_arguments, wante
 use Rattle.mail_view.specs.View.{view_tree}
 use Rattle.batch_lines.specs.Replies.{line_text}
 
--- A message is shown as the blob b1, and as no email. The arguments have their form (`arguments_of_read_are_taken` of get_args).
+-- A message is shown as the blob b1, and as no email. The arguments have their form
+-- (`arguments_of_read_are_taken` of get_args).
 abbrev pub shown_by : List ℕ → Reading → Tree
 shown_by bytes (invalid name) = null
 shown_by bytes (asked wanted) = view_tree bytes (codes "b1") None wanted
 
--- what a parsed message is shown with, its structure, and the texts of the parts that are shown as plain text
+-- the properties of a parsed message, its structure, and the texts of the parts that are shown as
+-- plain text
 abbrev pub read_tree : List ℕ → Tree
 read_tree bytes = shown_by bytes (wanted_in read_arguments true)
 

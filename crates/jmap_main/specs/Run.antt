@@ -25,29 +25,35 @@ abbrev pub HasShownNone : Seen → Type 0
 HasShownNone v =
     (bytes : List ℕ) × HasRead v bytes × (MAX_MESSAGE_BYTES < length bytes) × HasWritten v []
 
--- nothing is written; or the input was read to its end, and what is written is a prefix of the line of the message
+-- nothing is written; or the input was read to its end, and what is written is a prefix of the line
+-- of the message
 abbrev pub HasBegunMessage : Seen → Type 0
 HasBegunMessage v =
     (bytes : List ℕ) × (written : List ℕ) × HasRead v bytes × HasWritten v written
     × ((written ≡ []) ⊎ (HasReadAll v × ((more : List ℕ) × (read_out bytes ≡ written ++ more))))
 
--- ---- of each command: `batch` begins over an account in which there is nothing, and h is its history at
--- the end
+-- ---- of each command: `batch` begins over an account in which there is nothing, and h is its
+-- history at the end
 
 abbrev pub HasAnswered : Command → Seen → Type 0
-HasAnswered Batch v = (h : History) × HasAnsweredInput account_answers account_uploads empty_history h v
+HasAnswered Batch v =
+    (h : History) × HasAnsweredInput account_answers account_uploads empty_history h v
 HasAnswered Read v = HasShownMessage v
 
 abbrev pub HasAnsweredBeforeFault : Command → Seen → Type 0
-HasAnsweredBeforeFault Batch v = (h : History) × HasAnsweredEnded account_answers account_uploads empty_history h v
+HasAnsweredBeforeFault Batch v =
+    (h : History) × HasAnsweredEnded account_answers account_uploads empty_history h v
 HasAnsweredBeforeFault Read v = HasShownNothing v
 
 abbrev pub HasAnsweredBeforeLimit : Command → Seen → Type 0
-HasAnsweredBeforeLimit Batch v = (h : History) × HasAnsweredWithin account_answers account_uploads empty_history h v
+HasAnsweredBeforeLimit Batch v =
+    (h : History) × HasAnsweredWithin account_answers account_uploads empty_history h v
 HasAnsweredBeforeLimit Read v = HasShownNone v
 
 abbrev pub HasBegun : Command → Seen → Type 0
-HasBegun Batch v = (h : History) × HasBegunInput account_answers account_uploads account_stops account_halts empty_history h v
+HasBegun Batch v =
+    (h : History)
+    × HasBegunInput account_answers account_uploads account_stops account_halts empty_history h v
 HasBegun Read v = HasBegunMessage v
 
 -- ---- by the arguments of the command line: where they name no command, nothing is read or written

@@ -3,7 +3,7 @@
 use Rattle.std.specs.Prelude.{◌≡◌, ℕ, List, [], ◌∷◌, drop, length, Bool, false, ◌&&◌, ◌||◌, Option, Some, None, is_none, option_and_then, cond, codes, bytes_eq}
 use Rattle.std.specs.List.{list_any}
 use Rattle.jm_json.specs.Call.{Call as Invocation, error_of}
-use Rattle.jm_json.specs.Invoked.{call_of}
+use Rattle.jm_json.specs.Invocations.{call_of}
 use Rattle.jm_json.specs.declared.invocation.Invocation.{Invocation as TheInvocation}
 use Rattle.jm_json.specs.Find.{find, as_text, as_object}
 use Rattle.jm_json.specs.Tree.{Tree}
@@ -48,11 +48,18 @@ from_error (Some id) = cond (is_account id) (codes "invalidArguments") (codes "f
 abbrev pub to_error : Bool → Option (List ℕ) → Option (List ℕ) → Option (List ℕ)
 to_error copies from None = Some (codes "invalidArguments")
 to_error copies from (Some id) =
-    cond (copies && is_none from) (Some (codes "invalidArguments")) (cond (is_account id) (cond copies (Some (from_error from)) None) (Some (codes "accountNotFound")))
+    cond (copies && is_none from)
+    (Some (codes "invalidArguments"))
+    (cond (is_account id)
+    (cond copies (Some (from_error from)) None)
+    (Some (codes "accountNotFound")))
 
 -- the error of a call by the accounts that it names (RFC 8620, 3.6.2 and 5.4)
 abbrev pub account_error : Invocation → Option (List ℕ)
-account_error c = to_error (is_copy c.name) (text_in (codes "fromAccountId") c.args) (text_in (codes "accountId") c.args)
+account_error c =
+    to_error (is_copy c.name)
+    (text_in (codes "fromAccountId") c.args)
+    (text_in (codes "accountId") c.args)
 
 -- the reply that is one error
 abbrev pub error_alone : List ℕ → Invocation → Replied
@@ -99,7 +106,8 @@ pub record IsAccountAnswer (h : History) (c : TheCall) (out : Out) (h' : History
   pub reply : IsMailReply h' (point_between h h') c stamp out
 
 -- a method took the account's history from h to h', and is replied so
-pub record IsPerformed (h : History) (c : Invocation) (made : List Created) (r : Replied) (h' : History) : Type 0 where
+pub record IsPerformed (h : History) (c : Invocation) (made : List Created) (r : Replied)
+    (h' : History) : Type 0 where
   pub call : TheInvocation
   pub out : Out
   pub same : call_of call ≡ c

@@ -21,10 +21,13 @@ text_of WriteFault = codes "write fault" ++ 10 ∷ []
 text_of NoMemory = codes "no memory" ++ 10 ∷ []
 text_of TooLong = codes "too long" ++ 10 ∷ []
 
--- the text was written, or a front of it where writing failed
+-- the text was written, or a prefix of it where writing failed
 abbrev pub WritesOrFails : Option (List ℕ) → Option (List ℕ) → ℕ → ℕ → List ℕ → Type 0
-WritesOrFails held held' faults faults' text = Appends held held' text ⊎ (Rose faults faults' × ((n : ℕ) × Appends held held' (take n text)))
+WritesOrFails held held' faults faults' text =
+    Appends held held' text
+    ⊎ (Rose faults faults' × ((n : ℕ) × Appends held held' (take n text)))
 
 -- the run ended in one of the ways, with its status and its text
 abbrev pub Says : ℕ → Option (List ℕ) → Option (List ℕ) → ℕ → ℕ → Type 0
-Says status held held' faults faults' = (e : Ending) × (status ≡ status_of e) × WritesOrFails held held' faults faults' (text_of e)
+Says status held held' faults faults' =
+    (e : Ending) × (status ≡ status_of e) × WritesOrFails held held' faults faults' (text_of e)

@@ -5,7 +5,10 @@ use Rattle.jmap_main.specs.declared.words.Command.TheVariants.{Batch, Read}
 
 -- the command that one word names
 abbrev pub command_named : List ℕ → Option Command
-command_named word = if bytes_eq word (codes "batch") then Some Batch else (if bytes_eq word (codes "read") then Some Read else None)
+command_named word =
+    if bytes_eq word (codes "batch") then Some Batch
+    else (if bytes_eq word (codes "read") then Some Read
+    else None)
 
 -- the command that the words of a command line name
 abbrev pub command_of : List (List ℕ) → Option Command

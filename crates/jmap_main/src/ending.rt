@@ -59,11 +59,12 @@ impl Ending {
         }
     }
 
-    /// Writes on the error output why the run ended, and returns its exit status. Where the text can't be
-    /// written, the status stays.
+    /// Writes on the error output why the run ended, and returns its exit status. Where the text
+    /// can't be written, the status stays.
     pub(crate) fn say<E: Sink>(self, err: &mut E) -> Status
         ensures status { result.0 ≡ status_of self }
-        ensures text { WritesOrFails (E.held err.old) (E.held err.new) (E.faults err.old) (E.faults err.new) (text_of self) }
+        ensures text { WritesOrFails (E.held err.old) (E.held err.new) (E.faults err.old)
+            (E.faults err.new) (text_of self) }
     {
         let _ = put_all(err, self.text().as_bytes());
         self.status()

@@ -21,8 +21,10 @@ const READ_BUFFER_BYTES: usize = 65536;
 
 /// Reads a message to its end, and writes the line of what it is shown as.
 pub(crate) fn read_message<S: Source, O: Sink>(alloc: Global, source: &mut S, out: &mut O) -> Ending
-    ensures cause { Explains Command.Read result (seen S.left S.faults source.old source.new O.held O.faults out.old out.new) }
-    ensures begun { HasBegun Command.Read (seen S.left S.faults source.old source.new O.held O.faults out.old out.new) }
+    ensures cause { Explains Command.Read result
+        (seen S.left S.faults source.old source.new O.held O.faults out.old out.new) }
+    ensures begun { HasBegun Command.Read
+        (seen S.left S.faults source.old source.new O.held O.faults out.old out.new) }
 {
     match take_message(alloc, source) {
         Ok(message) => write_message(alloc, message.as_slice(), out),
@@ -30,9 +32,10 @@ pub(crate) fn read_message<S: Source, O: Sink>(alloc: Global, source: &mut S, ou
     }
 }
 
-// The line of a message is written, or a front of it.
+// The line of a message is written, or a prefix of it.
 fn write_message<O: Sink>(alloc: Global, message: &[u8], out: &mut O) -> Ending
-    ensures { Written result (O.held out.old) (O.held out.new) (O.faults out.old) (O.faults out.new) (read_out message.now) }
+    ensures { Written result (O.held out.old) (O.held out.new) (O.faults out.old)
+        (O.faults out.new) (read_out message.now) }
 {
     match message_line(alloc, message) {
         Ok(line) => write_line(line.as_slice(), out),
@@ -41,7 +44,8 @@ fn write_message<O: Sink>(alloc: Global, message: &[u8], out: &mut O) -> Ending
 }
 
 fn write_line<O: Sink>(line: &[u8], out: &mut O) -> Ending
-    ensures { Written result (O.held out.old) (O.held out.new) (O.faults out.old) (O.faults out.new) line.now }
+    ensures { Written result (O.held out.old) (O.held out.new) (O.faults out.old)
+        (O.faults out.new) line.now }
 {
     match put_all(out, line) {
         Ok(()) => Ending::Done,
@@ -51,9 +55,12 @@ fn write_line<O: Sink>(line: &[u8], out: &mut O) -> Ending
 
 // The bytes of the input, read to its end.
 fn take_message<S: Source>(alloc: Global, source: &mut S) -> Result<Bytes, Ending>
-    ensures ok { IfOk result (λ b. Consumes (S.left source.old) (S.left source.new) b × (length b ≤ MAX_MESSAGE_BYTES) × IsAtEnd (S.left source.new)) }
-    ensures taken { OnErr result ((b : List ℕ) × Consumes (S.left source.old) (S.left source.new) b) }
-    ensures reason { IfErr result (λ e. Unread e (S.left source.old) (S.left source.new) (S.faults source.old) (S.faults source.new)) }
+    ensures ok { IfOk result (λ b. Consumes (S.left source.old) (S.left source.new) b
+        × (length b ≤ MAX_MESSAGE_BYTES) × IsAtEnd (S.left source.new)) }
+    ensures taken { OnErr result
+        ((b : List ℕ) × Consumes (S.left source.old) (S.left source.new) b) }
+    ensures reason { IfErr result (λ e. Unread e (S.left source.old) (S.left source.new)
+        (S.faults source.old) (S.faults source.new)) }
 {
     match vec![in alloc; 0u8; READ_BUFFER_BYTES] {
         Ok(mut room) => take_reads(alloc, source, room.as_mut_slice()),
@@ -63,9 +70,12 @@ fn take_message<S: Source>(alloc: Global, source: &mut S) -> Result<Bytes, Endin
 
 fn take_reads<S: Source>(alloc: Global, source: &mut S, room: &mut [u8]) -> Result<Bytes, Ending>
     requires { 0 < length room.old }
-    ensures ok { IfOk result (λ b. Consumes (S.left source.old) (S.left source.new) b × (length b ≤ MAX_MESSAGE_BYTES) × IsAtEnd (S.left source.new)) }
-    ensures taken { OnErr result ((b : List ℕ) × Consumes (S.left source.old) (S.left source.new) b) }
-    ensures reason { IfErr result (λ e. Unread e (S.left source.old) (S.left source.new) (S.faults source.old) (S.faults source.new)) }
+    ensures ok { IfOk result (λ b. Consumes (S.left source.old) (S.left source.new) b
+        × (length b ≤ MAX_MESSAGE_BYTES) × IsAtEnd (S.left source.new)) }
+    ensures taken { OnErr result
+        ((b : List ℕ) × Consumes (S.left source.old) (S.left source.new) b) }
+    ensures reason { IfErr result (λ e. Unread e (S.left source.old) (S.left source.new)
+        (S.faults source.old) (S.faults source.new)) }
 {
     let mut message = Bytes::new(alloc);
     'turns: for _turn in 0..MAX_MESSAGE_BYTES + 2 {

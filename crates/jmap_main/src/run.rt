@@ -37,26 +37,36 @@ pub fn run<S: Source, O: Sink, E: Sink, W: World>(
     err: &mut E,
     _world: &mut W,
 ) -> Status
-    // With status 0 the input was read to its end, and all that the command writes for it is written.
-    ensures done { result.0 ≡ 0 → HasAnsweredBy (command_of (map string_bytes words.now)) (seen S.left S.faults source.old source.new O.held O.faults out.old out.new) }
+    // With status 0 the input was read to its end, and all that the command writes for it is
+    // written.
+    ensures done { result.0 ≡ 0 → HasAnsweredBy (command_of (map string_bytes words.now))
+        (seen S.left S.faults source.old source.new O.held O.faults out.old out.new) }
 
-    // With every status, a prefix of that is written; if the arguments name no command, nothing is read.
-    ensures begun { HasBegunBy (command_of (map string_bytes words.now)) (seen S.left S.faults source.old source.new O.held O.faults out.old out.new) }
+    // With every status, a prefix of that is written; if the arguments name no command, nothing is
+    // read.
+    ensures begun { HasBegunBy (command_of (map string_bytes words.now))
+        (seen S.left S.faults source.old source.new O.held O.faults out.old out.new) }
 
-    // With statuses 3 and 14 each reply is written to a line that ended before the fault, or within the
-    // limit of the input.
-    ensures fault { result.0 ≡ 3 → HasAnsweredBeforeFaultBy (command_of (map string_bytes words.now)) (seen S.left S.faults source.old source.new O.held O.faults out.old out.new) }
-    ensures limit { result.0 ≡ 14 → HasAnsweredBeforeLimitBy (command_of (map string_bytes words.now)) (seen S.left S.faults source.old source.new O.held O.faults out.old out.new) }
+    // With statuses 3 and 14 each reply is written to a line that ended before the fault, or within
+    // the limit of the input.
+    ensures fault { result.0 ≡ 3
+        → HasAnsweredBeforeFaultBy (command_of (map string_bytes words.now))
+        (seen S.left S.faults source.old source.new O.held O.faults out.old out.new) }
+    ensures limit { result.0 ≡ 14
+        → HasAnsweredBeforeLimitBy (command_of (map string_bytes words.now))
+        (seen S.left S.faults source.old source.new O.held O.faults out.old out.new) }
 
-    // Status 2 comes if and only if the arguments name no command, 3 and 4 only if the source or the
-    // output failed in this run, and 14 only past the limit of the input, as the clause above says.
+    // Status 2 comes if and only if the arguments name no command, 3 and 4 only if the source or
+    // the output failed in this run, and 14 only past the limit of the input, as the clause above
+    // says.
     ensures usage { (result.0 ≡ 2) ↔ (command_of (map string_bytes words.now) ≡ None) }
     ensures read { result.0 ≡ 3 → Rose (S.faults source.old) (S.faults source.new) }
     ensures write { result.0 ≡ 4 → Rose (O.faults out.old) (O.faults out.new) }
 
-    // The status is one of those that are written down, and its text is on the error output, as far as
-    // that can be written.
-    ensures says { Says result.0 (E.held err.old) (E.held err.new) (E.faults err.old) (E.faults err.new) }
+    // The status is one of those that are written down, and its text is on the error output, as far
+    // as that can be written.
+    ensures says { Says result.0 (E.held err.old) (E.held err.new) (E.faults err.old)
+        (E.faults err.new) }
 {
     perform(alloc, words, source, out).say(err)
 }
@@ -68,8 +78,10 @@ fn perform<S: Source, O: Sink>(
     source: &mut S,
     out: &mut O,
 ) -> Ending
-    ensures cause { ExplainsBy (command_of (map string_bytes words.now)) result (seen S.left S.faults source.old source.new O.held O.faults out.old out.new) }
-    ensures begun { HasBegunBy (command_of (map string_bytes words.now)) (seen S.left S.faults source.old source.new O.held O.faults out.old out.new) }
+    ensures cause { ExplainsBy (command_of (map string_bytes words.now)) result
+        (seen S.left S.faults source.old source.new O.held O.faults out.old out.new) }
+    ensures begun { HasBegunBy (command_of (map string_bytes words.now))
+        (seen S.left S.faults source.old source.new O.held O.faults out.old out.new) }
 {
     match Command::of_words(words) {
         Some(command) => perform_command(alloc, command, source, out),
@@ -83,8 +95,10 @@ fn perform_command<S: Source, O: Sink>(
     source: &mut S,
     out: &mut O,
 ) -> Ending
-    ensures cause { Explains command result (seen S.left S.faults source.old source.new O.held O.faults out.old out.new) }
-    ensures begun { HasBegun command (seen S.left S.faults source.old source.new O.held O.faults out.old out.new) }
+    ensures cause { Explains command result
+        (seen S.left S.faults source.old source.new O.held O.faults out.old out.new) }
+    ensures begun { HasBegun command
+        (seen S.left S.faults source.old source.new O.held O.faults out.old out.new) }
 {
     match command {
         Command::Batch => answer_batch(alloc, source, out),
@@ -94,8 +108,10 @@ fn perform_command<S: Source, O: Sink>(
 
 // Answers the lines of the input over an account in which there is nothing yet.
 fn answer_batch<S: Source, O: Sink>(alloc: Global, source: &mut S, out: &mut O) -> Ending
-    ensures cause { Explains Command.Batch result (seen S.left S.faults source.old source.new O.held O.faults out.old out.new) }
-    ensures begun { HasBegun Command.Batch (seen S.left S.faults source.old source.new O.held O.faults out.old out.new) }
+    ensures cause { Explains Command.Batch result
+        (seen S.left S.faults source.old source.new O.held O.faults out.old out.new) }
+    ensures begun { HasBegun Command.Batch
+        (seen S.left S.faults source.old source.new O.held O.faults out.old out.new) }
 {
     match AccountPort::begin(alloc) {
         Ok(mut port) => ending_of(answer_lines(alloc, &mut port, source, out)),

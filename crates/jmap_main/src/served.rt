@@ -1,7 +1,7 @@
 // The port of `batch`: one account, in memory.
 ghost use Rattle.std.specs.Prelude.{◌≡◌, ◌∷◌, [], ◌||◌, IfOk, OnErr, option_map};
 ghost use Rattle.jm_json.specs.Json.{tree_of};
-ghost use Rattle.jm_json.specs.Invoked.{call_of};
+ghost use Rattle.jm_json.specs.Invocations.{call_of};
 ghost use Rattle.jm_json.specs.Call.{error_of};
 ghost use Rattle.mail_records.specs.Histories.{empty_history};
 ghost use Rattle.jmap_main.specs.Served.{IsAccountAnswer, IsPerformed, IsUploaded, account_error, account_id, from_error, is_account, is_copy, replied_of, text_in, to_error, uploaded_of};

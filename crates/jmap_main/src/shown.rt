@@ -11,8 +11,8 @@ use jm_json::Json;
 use mail_view::view;
 use std::alloc::Global;
 
-/// The line of a message: what a client is shown of it where it asks for no properties, its structure, and the texts that are
-/// shown as plain text.
+/// Returns the line of a message: the properties that a client is shown where it asks for none, its
+/// structure, and the texts that are shown as plain text.
 pub(crate) fn message_line(alloc: Global, message: &[u8]) -> Result<Bytes, NoMemory>
     ensures { IfOk result (λ b. b ≡ read_out message.now) }
 {

@@ -1,4 +1,4 @@
-// The words of a command line.
+// The arguments of a command line.
 ghost use Rattle.std.specs.Prelude.{◌≡◌, map, string_bytes};
 
 /// What the program may be told to do.
@@ -11,7 +11,7 @@ pub(crate) enum Command {
 impl Command {
     ghost use Rattle.jmap_main.specs.Words.{command_named, command_of};
 
-    /// The command that the words of a command line name, and none where they are those of no command.
+    /// Returns the command that the arguments of a command line name, or None if they name none.
     pub(crate) fn of_words(words: &[String]) -> Option<Command>
         ensures { result ≡ command_of (map string_bytes words.now) }
     {

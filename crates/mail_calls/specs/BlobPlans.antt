@@ -15,7 +15,8 @@ use Rattle.account_book.specs.declared.plans.Plan.{Plan}
 -- one more blob of this many bytes is within the limits of an account
 abbrev pub has_room : ℕ → List (List ℕ) → Bool
 has_room size blobs =
-    nat_lt (length blobs) MAX_BLOBS_PER_ACCOUNT && nat_le (byte_count blobs + size) MAX_BLOB_BYTES_PER_ACCOUNT
+    nat_lt (length blobs) MAX_BLOBS_PER_ACCOUNT
+    && nat_le (byte_count blobs + size) MAX_BLOB_BYTES_PER_ACCOUNT
 
 -- there is no room
 abbrev pub full : Plan
@@ -31,7 +32,8 @@ upload_if false number bytes = full
 
 -- An upload brings its bytes as a blob with the next number, if there is room for it.
 abbrev pub upload_plan : History → List ℕ → Plan
-upload_plan h bytes = upload_if (has_room (length bytes) (blobs_of h)) (length (blobs_of h) + 1) bytes
+upload_plan h bytes =
+    upload_if (has_room (length bytes) (blobs_of h)) (length (blobs_of h) + 1) bytes
 
 -- ---- bytes by an identifier
 
@@ -46,7 +48,6 @@ bytes_by blobs None = None
 bytes_by blobs (Some id) = bytes_in (blob_numbered id.blob blobs) id.leaf
 
 -- The bytes that an identifier names: those of a blob, or the decoded bytes of a leaf of the
--- message that a blob holds. None if it
--- names neither.
+-- message that a blob holds. None if it names neither.
 abbrev pub bytes_named : List (List ℕ) → List ℕ → Option (List ℕ)
 bytes_named blobs name = bytes_by blobs (blob_id_in name)

@@ -15,7 +15,7 @@ use Rattle.mime_words.specs.Words.{◌>>=◌}
 use Rattle.std.proofs.lemmas.Int.{ints}
 use Rattle.std.proofs.lemmas.Option.{same_Some}
 use Rattle.header_forms.specs.declared.date_time.ZonedDateTime.{ZonedDateTime}
-use Rattle.header_forms.specs.Dates.{if_in_range, moment_in, moment_seconds, utc_of}
+use Rattle.header_forms.specs.Dates.{if_in_range, date_time_in as moment_in, unix_seconds as moment_seconds, utc_of}
 use Rattle.header_forms.specs.Texts.{on_one_line}
 use Rattle.plan_promises.specs.Messages.{IsFormedSummary}
 

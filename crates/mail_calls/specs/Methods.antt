@@ -1,11 +1,18 @@
 -- The names of the methods of mail (RFC 8621): one line a method that is built.
 use Rattle.std.specs.Prelude.{ℕ, List, codes, bytes_eq, if◌then◌else◌, Option, Some, None}
+use Rattle.jm_base.specs.declared.identifiers.Kind.TheVariants.{Mailbox, Email, Thread}
 use Rattle.mail_calls.specs.declared.methods.Method.{Method}
-use Rattle.mail_calls.specs.declared.methods.Method.TheVariants.{MailboxGet, MailboxSet}
+use Rattle.mail_calls.specs.declared.methods.Method.TheVariants.{Get, Changes, MailboxSet, EmailParse}
 
 -- the method of a name
 abbrev pub method_named : List ℕ → Option Method
 method_named name =
-    if bytes_eq name (codes "Mailbox/get") then Some MailboxGet
+    if bytes_eq name (codes "Mailbox/get") then Some (Get Mailbox)
+    else (if bytes_eq name (codes "Thread/get") then Some (Get Thread)
+    else (if bytes_eq name (codes "Email/get") then Some (Get Email)
+    else (if bytes_eq name (codes "Mailbox/changes") then Some (Changes Mailbox)
+    else (if bytes_eq name (codes "Thread/changes") then Some (Changes Thread)
+    else (if bytes_eq name (codes "Email/changes") then Some (Changes Email)
     else (if bytes_eq name (codes "Mailbox/set") then Some MailboxSet
-    else None)
+    else (if bytes_eq name (codes "Email/parse") then Some EmailParse
+    else None)))))))

@@ -1,17 +1,20 @@
--- What calls on a mail account plan (RFC 8620, 6; RFC 8621). Of the methods Mailbox/get and
--- creating by Mailbox/set are built.
+-- What calls on a mail account plan (RFC 8620, 6; RFC 8621). Of the methods the /get and /changes
+-- of each kind, creating by Mailbox/set, and Email/parse are built.
 use Rattle.std.specs.Prelude.{ℕ, List, [], ◌∷◌, Bool, codes, Option, Some, None}
 use Rattle.jm_json.specs.Call.{Call as Invocation, error_of}
-use Rattle.jm_json.specs.Invoked.{call_of}
+use Rattle.jm_json.specs.Invocations.{call_of}
 use Rattle.jm_json.specs.Tree.{Tree}
 use Rattle.jm_json.specs.declared.invocation.Created.{Created}
 use Rattle.jm_base.specs.declared.identifiers.Kind.TheVariants.{Mailbox as OfMailbox, Email as OfEmail, Thread as OfThread}
 use Rattle.mail_records.specs.Histories.{History, blobs_of}
 use Rattle.mail_records.specs.States.{state_of}
-use Rattle.mail_view.specs.Gets.{Got, invalid, too_large, got, get_in}
+use Rattle.mail_view.specs.Gets.{Got, invalid, too_large, got, get_of_kind}
+use Rattle.mail_view.specs.Parses.{parse_in}
 use Rattle.mail_counts.specs.Plans.{Ground, ground_of_history}
 use Rattle.mailbox_set.specs.Plans.{Outcome, set_outcome}
 use Rattle.mailbox_set.specs.Plans as sets
+use Rattle.change_calls.specs.Responses as change
+use Rattle.change_calls.specs.Responses.{changes_outcome}
 use Rattle.account_book.specs.declared.asks.Ask.{Ask}
 use Rattle.account_book.specs.declared.asks.Ask.TheVariants.{Method, Upload, Blob, Fetch, Place, States}
 use Rattle.account_book.specs.declared.asks.Call.{Call}
@@ -22,7 +25,7 @@ use Rattle.account_book.specs.declared.plans.Plan.{Plan}
 use Rattle.mail_calls.specs.BlobPlans.{bytes_named, upload_plan}
 use Rattle.mail_calls.specs.Methods.{method_named}
 use Rattle.mail_calls.specs.declared.methods.Method.{Method as MailMethod}
-use Rattle.mail_calls.specs.declared.methods.Method.TheVariants.{MailboxGet, MailboxSet}
+use Rattle.mail_calls.specs.declared.methods.Method.TheVariants.{Get, Changes, MailboxSet, EmailParse}
 
 -- nothing is answered, and nothing changed
 abbrev pub silent : Plan
@@ -34,7 +37,11 @@ reading answer = record { out = answer; blobs = []; edits = [] }
 
 -- one response, and nothing made or changed
 abbrev pub answered : Invocation → Plan
-answered response = record { out = Replies (record { responses = response ∷ []; made = [] }); blobs = []; edits = [] }
+answered response = record {
+  out = Replies (record { responses = response ∷ []; made = [] });
+  blobs = [];
+  edits = [];
+}
 
 -- an error of this type
 abbrev pub refused : Invocation → List ℕ → Plan
@@ -44,18 +51,28 @@ refused c kind = answered (error_of kind c.id)
 abbrev pub response_to : Invocation → Tree → Invocation
 response_to c args = record { name = c.name; args = args; id = c.id }
 
--- the plan of a get
+-- the plan of a get, or of a parse
 abbrev pub get_plan : Invocation → Got → Plan
 get_plan c (invalid name) = refused c (codes "invalidArguments")
 get_plan c too_large = refused c (codes "requestTooLarge")
 get_plan c (got t) = answered (response_to c t)
+
+-- the plan of a call for changes
+abbrev pub changes_plan : Invocation → change.Outcome → Plan
+changes_plan c (change.invalid name) = refused c (codes "invalidArguments")
+changes_plan c change.cannot_tell = refused c (codes "cannotCalculateChanges")
+changes_plan c (change.replied reply) = answered (response_to c reply)
 
 -- the plan of a set
 abbrev pub set_plan : Invocation → Outcome → Plan
 set_plan c (sets.invalid name) = refused c (codes "invalidArguments")
 set_plan c sets.too_large = refused c (codes "requestTooLarge")
 set_plan c sets.state_mismatch = refused c (codes "stateMismatch")
-set_plan c (sets.planned p) = record { out = Replies (record { responses = response_to c p.reply ∷ []; made = p.made }); blobs = []; edits = p.edits }
+set_plan c (sets.planned p) = record {
+  out = Replies (record { responses = response_to c p.reply ∷ []; made = p.made });
+  blobs = [];
+  edits = p.edits;
+}
 
 -- what a set of mailboxes is planned on
 abbrev pub ground_in : History → Ground
@@ -66,9 +83,13 @@ ground_in h = ground_of_history h
 -- moment.
 abbrev pub plan_by : History → Invocation → List Created → Bool → ℕ → Option MailMethod → Plan
 plan_by h c made read_only moment None = refused c (codes "unknownMethod")
-plan_by h c made read_only moment (Some MailboxGet) = get_plan c (get_in h c.args read_only)
+plan_by h c made read_only moment (Some (Get kind)) =
+    get_plan c (get_of_kind kind h c.args read_only)
+plan_by h c made read_only moment (Some (Changes kind)) =
+    changes_plan c (changes_outcome h kind c.args)
 plan_by h c made read_only moment (Some MailboxSet) =
     set_plan c (set_outcome (ground_in h) c.args made)
+plan_by h c made read_only moment (Some EmailParse) = get_plan c (parse_in h c.args)
 
 -- the plan of a method, by its name
 abbrev pub method_plan : History → Invocation → List Created → Bool → ℕ → Plan

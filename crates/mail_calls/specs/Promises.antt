@@ -4,7 +4,7 @@ use Rattle.std.specs.List.{AllByRecursion}
 use Rattle.mail_records.specs.Commits.{IsFormed, IsFormedEdit}
 use Rattle.mail_records.specs.Contents.{Content, NextAtMost}
 use Rattle.mail_records.specs.Edits.{AllFit, IsSmall, after_edits}
-use Rattle.mail_records.specs.Histories.{History, Committed, IsFounded, IsSound, NamesThread, HasOneThread, entry_edits, entry_blobs, edits_of, blobs_of, content_of, end_of, end_after, empty_history, grown}
+use Rattle.mail_records.specs.Histories.{History, Committed, IsFounded, IsSound, NamesThread, HasOneThread, entry_edits, entry_blobs, edits_of, blobs_of, content_of, end_of, end_after, empty_history, grown, max_floor}
 use Rattle.mail_records.specs.declared.edits.Edit.{Edit}
 use Rattle.mail_records.specs.declared.edits.Edit.TheVariants.{PutMailbox}
 use Rattle.mail_records.specs.declared.edits.Commit.{Commit}
@@ -12,7 +12,7 @@ use Rattle.mail_records.specs.declared.edits.Stamp.{Stamp}
 use Rattle.mail_records.specs.declared.records.Email.{Email}
 use Rattle.mail_records.specs.declared.records.Summary.{Summary}
 use Rattle.mail_records.proofs.Growth.{AllFit-append, NextAtMost-after_edits, all_map}
-use Rattle.mail_records.specs.Moved.{moved_up}
+use Rattle.mail_records.specs.FloorMoves.{moved_up}
 use Rattle.mail_records.proofs.Moved.{IsFounded-moved_up, IsSound-moved_up, blobs_of-moved_up, content_of-moved_up, end_of-moved_up}
 use Rattle.mail_records.proofs.Prefixes.{IsFounded-empty, IsFounded-grown_by, IsSound-empty, edits_of-grown, content_of-grown, end_of-grown, blobs_of-grown}
 use Rattle.mail_summary.specs.Summaries.{summary}
@@ -56,7 +56,8 @@ plan_formed h call moment stamp whole = (call_keeps h call moment whole).formed
 pub plan_keeps : (h : History) (call : Call) (moment : ℕ) (stamp : Stamp) → IsWholeMail h
     → IsWithin edit_bytes h (call_plan h call moment).edits
     → IsWholeMail (grown h (Committed (commit_of (call_plan h call moment) stamp)))
-plan_keeps h call moment stamp whole within = grown_whole h (call_plan h call moment) stamp whole (call_keeps h call moment whole) within
+plan_keeps h call moment stamp whole within =
+    grown_whole h (call_plan h call moment) stamp whole (call_keeps h call moment whole) within
 
 upload_reads : (b : Bool) (number : ℕ) (bytes : List ℕ) → (upload_if b number bytes).edits ≡ []
 upload_reads true number bytes = refl
@@ -65,7 +66,8 @@ upload_reads false number bytes = refl
 ask_reads : (h : History) (ask : Ask) (call : Call) (moment : ℕ)
     → IsPlanFor ask (ask_plan h ask call.made call.read_only moment)
 ask_reads h (Method c) call moment = tt
-ask_reads h (Upload bytes) call moment = upload_reads (has_room (length bytes) (blobs_of h)) (length (blobs_of h) + 1) bytes
+ask_reads h (Upload bytes) call moment =
+    upload_reads (has_room (length bytes) (blobs_of h)) (length (blobs_of h) + 1) bytes
 ask_reads h (Blob name) call moment = (refl, refl)
 ask_reads h (Fetch c) call moment = (refl, refl)
 ask_reads h (Place c carried) call moment = tt
@@ -93,7 +95,7 @@ whole_blobs h whole = whole.blobs
 
 -- ---- a floor that moves up
 
-pub whole_moves : (h : History) (c : ℕ) → end_after h c ≤ 2 ^ 52 → IsWholeMail h
+pub whole_moves : (h : History) (c : ℕ) → end_after h c ≤ max_floor → IsWholeMail h
     → IsWholeMail (moved_up h c)
 whole_moves h c low w =
     let content : content_of h ≡ content_of (moved_up h c) = sym (content_of-moved_up h c) in
@@ -105,10 +107,19 @@ whole_moves h c low w =
       founded = IsFounded-moved_up h c low w.founded w.sound;
       sound = IsSound-moved_up h c w.sound;
       tidy = subst IsTidy content w.tidy;
-      messages = subst (λ (x : Content). AllByRecursion (HasMessage summary (blobs_of (moved_up h c))) x.emails) content (subst (λ (bs : List (List ℕ)). AllByRecursion (HasMessage summary bs) (content_of h).emails) blobs w.messages);
+      messages =
+          subst
+          (λ (x : Content). AllByRecursion (HasMessage summary (blobs_of (moved_up h c))) x.emails)
+          content
+          (subst
+          (λ (bs : List (List ℕ)). AllByRecursion (HasMessage summary bs) (content_of h).emails)
+          blobs
+          w.messages);
       blobs = subst AreBlobsFew blobs w.blobs;
       limit = omega (arith, bytes, within);
-      next = subst (λ n. NextAtMost (n + 1) (content_of (moved_up h c))) last (subst (NextAtMost (end_of h + 1)) content w.next);
+      next =
+          subst (λ n. NextAtMost (n + 1) (content_of (moved_up h c))) last
+          (subst (NextAtMost (end_of h + 1)) content w.next);
     }
 
 -- ---- refusals have no part
@@ -124,28 +135,46 @@ same_whole summary h g founded floor base edits blobs w =
     record {
       founded = founded;
       sound = record {
-        fits = subst (AllFit g.base) edits (subst (λ (c : Content). AllFit c (edits_of h)) base w.sound.fits);
+        fits =
+            subst (AllFit g.base) edits
+            (subst (λ (c : Content). AllFit c (edits_of h)) base w.sound.fits);
         one_thread = (
           one.0,
           record {
-            in_base = subst (λ (c : Content). AllByRecursion (λ (x : Email). one.0 x.number ≡ x.thread) c.emails) base one.1.in_base;
+            in_base =
+                subst
+                (λ (c : Content). AllByRecursion (λ (x : Email). one.0 x.number ≡ x.thread)
+                c.emails)
+                base
+                one.1.in_base;
             in_edits = subst (AllByRecursion (NamesThread one.0)) edits one.1.in_edits;
           },
         );
       };
       tidy = subst IsTidy content w.tidy;
-      messages = subst (λ (c : Content). AllByRecursion (HasMessage summary (blobs_of g)) c.emails) content (subst (λ (bs : List (List ℕ)). AllByRecursion (HasMessage summary bs) (content_of h).emails) blobs w.messages);
+      messages =
+          subst (λ (c : Content). AllByRecursion (HasMessage summary (blobs_of g)) c.emails)
+          content
+          (subst
+          (λ (bs : List (List ℕ)). AllByRecursion (HasMessage summary bs) (content_of h).emails)
+          blobs
+          w.messages);
       blobs = subst AreBlobsFew blobs w.blobs;
       limit = subst (λ (es : List Edit). edit_bytes es ≤ MAX_EDIT_BYTES) edits w.limit;
-      next = subst (λ n. NextAtMost (n + 1) (content_of g)) last (subst (NextAtMost (end_of h + 1)) content w.next);
+      next =
+          subst (λ n. NextAtMost (n + 1) (content_of g)) last
+          (subst (NextAtMost (end_of h + 1)) content w.next);
     }
 
 pub whole_ignores : (h : History) → IsWholeMail (without_refusals h) ↔ IsWholeMail h
 whole_ignores h =
     let edits = edits_of-without_refusals h in
-    let blobs = blobs_of-without_refusals h in (
-      λ whole. same_whole summary (without_refusals h) h (IsFounded-with_refusals h whole.founded) refl refl edits blobs whole,
-      λ whole. same_whole summary h (without_refusals h) (IsFounded-without_refusals h whole.founded) refl refl (sym edits) (sym blobs) whole,
+    let blobs = blobs_of-without_refusals h in
+    let g = without_refusals h in (
+      λ whole. same_whole summary g h (IsFounded-with_refusals h whole.founded) refl refl
+          edits blobs whole,
+      λ whole. same_whole summary h g (IsFounded-without_refusals h whole.founded) refl refl
+          (sym edits) (sym blobs) whole,
     )
 
 pub whole_empty : IsWholeMail empty_history

@@ -1,5 +1,6 @@
--- When an account is valid: its history is founded and sound, its records are tidy, its emails are those of its blobs, and it
--- is within the limits. What is kept of a message besides its bytes is a parameter.
+-- When an account is valid: its history is founded and sound, its records are tidy, its emails are
+-- those of its blobs, and it is within the limits. What is kept of a message besides its bytes is a
+-- parameter.
 use Rattle.std.specs.Prelude.{ℕ, ◌+◌, ◌≤◌, List}
 use Rattle.std.specs.List.{AllByRecursion}
 use Rattle.mail_records.specs.Contents.{NextAtMost}

@@ -109,9 +109,9 @@ fn read_named(
     }
 }
 
-/// Returns the plan that answers the bytes which a text names: those of a blob, or the decoded
-/// bytes of a leaf of the message that a
-/// blob holds (RFC 8620, section 6.2; RFC 8621, section 4.1.4).
+/// Returns the plan that answers the bytes which a string names: those of a blob, or the decoded
+/// bytes of a leaf of the message that a blob holds (RFC 8620, section 6.2; RFC 8621, section
+/// 4.1.4).
 #[tactic(auto, using(crate::proofs::Rooms::bytes_are))]
 pub(crate) fn plan_bytes(alloc: Global, account: &Account, name: &str) -> Result<Plan, NoMemory>
     ensures { IfOk result
@@ -130,7 +130,8 @@ fn state_in(account: &Account, kind: Kind) -> u64
 
 /// Returns the plan that answers the state of each kind of record (RFC 8620, section 5.1).
 pub(crate) fn plan_states(alloc: Global, account: &Account) -> Plan
-    ensures { result ≡ reading (Out.States (state_of account.now.history kind.Mailbox) (state_of account.now.history kind.Email) (state_of account.now.history kind.Thread)) }
+    ensures { result ≡ reading (Out.States (state_of account.now.history kind.Mailbox)
+        (state_of account.now.history kind.Email) (state_of account.now.history kind.Thread)) }
 {
     let mailbox = state_in(account, Kind::Mailbox);
     let email = state_in(account, Kind::Email);

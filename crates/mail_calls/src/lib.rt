@@ -1,12 +1,18 @@
-//! The rules of a mail account: what each method plans over its history (RFC 8621), and when the account is valid.
+//! The rules of a mail account: what each method plans over its history (RFC 8621), and when the
+//! account is valid.
 #![tactic(auto)]
 
 mod blobs;
+mod laws;
 mod methods;
 mod plans;
 mod rules;
 #[cfg(test)]
 mod tests;
 
+pub use laws::{
+    planned_edits_keep_accounts_valid, plans_say_which_puts_change_only_counts,
+    summaries_can_be_kept,
+};
 pub use methods::Method;
 pub use rules::MailRules;

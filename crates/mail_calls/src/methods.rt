@@ -2,13 +2,21 @@
 ghost use Rattle.std.specs.Prelude.{◌≡◌};
 ghost use Rattle.mail_calls.specs.Methods.{method_named};
 
+use jm_base::Kind;
+
 /// A method of mail that is built.
 #[derive(Clone, Copy, Debug, PartialEq, Eq)]
 pub enum Method {
-    /// `Mailbox/get` (RFC 8621, section 2.1).
-    MailboxGet,
+    /// The `/get` of a kind: `Mailbox/get`, `Thread/get` or `Email/get` (RFC 8621, sections 2.1,
+    /// 3.1 and 4.2).
+    Get(Kind),
+    /// The `/changes` of a kind: `Mailbox/changes`, `Thread/changes` or `Email/changes` (RFC 8621,
+    /// sections 2.2, 3.2 and 4.3).
+    Changes(Kind),
     /// `Mailbox/set` (RFC 8621, section 2.5).
     MailboxSet,
+    /// `Email/parse` (RFC 8621, section 4.9).
+    EmailParse,
 }
 
 /// Returns the method of a name, or None if no method that is built has the name.
@@ -16,10 +24,28 @@ pub(crate) fn read_method(name: &str) -> Option<Method>
     ensures { result ≡ method_named name.now }
 {
     if name == "Mailbox/get" {
-        return Some(Method::MailboxGet);
+        return Some(Method::Get(Kind::Mailbox));
+    }
+    if name == "Thread/get" {
+        return Some(Method::Get(Kind::Thread));
+    }
+    if name == "Email/get" {
+        return Some(Method::Get(Kind::Email));
+    }
+    if name == "Mailbox/changes" {
+        return Some(Method::Changes(Kind::Mailbox));
+    }
+    if name == "Thread/changes" {
+        return Some(Method::Changes(Kind::Thread));
+    }
+    if name == "Email/changes" {
+        return Some(Method::Changes(Kind::Email));
     }
     if name == "Mailbox/set" {
         return Some(Method::MailboxSet);
+    }
+    if name == "Email/parse" {
+        return Some(Method::EmailParse);
     }
     None
 }

@@ -1,16 +1,19 @@
 // Plans of methods, each with its one response.
-ghost use Rattle.std.specs.Prelude.{◌≡◌, ◌∷◌, [], IfOk};
-ghost use Rattle.jm_json.specs.Invoked.{call_of};
+ghost use Rattle.std.specs.Prelude.{◌≡◌, ◌∷◌, [], IfErr, IfOk};
+ghost use Rattle.jm_json.specs.Invocations.{call_of};
 ghost use Rattle.jm_json.specs.Json.{tree_of};
-ghost use Rattle.mail_view.specs.Gets.{get_in};
+ghost use Rattle.mail_view.specs.Gets.{get_of_kind};
+ghost use Rattle.mail_view.specs.Parses.{parse_in};
 ghost use Rattle.mailbox_set.specs.Plans.{set_outcome};
-ghost use Rattle.mail_calls.specs.Plans.{answered, get_plan, ground_in, method_plan, refused, response_to, set_plan, silent};
+ghost use Rattle.change_calls.specs.Responses.{ExplainsCall, changes_outcome, replied};
+ghost use Rattle.mail_calls.specs.Plans.{answered, changes_plan, get_plan, ground_in, method_plan, refused, response_to, set_plan, silent};
 ghost use Rattle.account_book.specs.Accounts.{IsBounded};
 
 use crate::blobs::plan_reading;
 use crate::methods::{Method, read_method};
 use account_book::{Account, Out, Plan};
-use get_calls::{GetFault, get};
+use change_calls::{CallFault, answer_changes};
+use get_calls::{GetFault, get, parse};
 use jm_base::{Blobs, Kind, NoMemory};
 use jm_json::{Invocation, Invocations, Json, Made, Replied};
 use mail_counts::SetFault;
@@ -81,21 +84,69 @@ fn plan_response(alloc: Global, call: &Invocation, args: Json) -> Result<Plan, N
     plan_with(alloc, response, Made::new(alloc), Edits::new(alloc))
 }
 
-// Returns the plan of a Mailbox/get (RFC 8621, section 2.1).
+// Returns the plan of a get of records of a kind (RFC 8621, sections 2.1, 3.1 and 4.2).
 fn plan_get(
     alloc: Global,
+    kind: Kind,
     account: &Account,
     call: &Invocation,
     read_only: bool,
 ) -> Result<Plan, NoMemory>
-    ensures { IfOk result
-        (λ p. p ≡ get_plan (call_of call.now) (get_in account.now.history (tree_of call.now.args) read_only)) }
+    ensures { IfOk result (λ p. p ≡ get_plan (call_of call.now)
+        (get_of_kind kind account.now.history (tree_of call.now.args) read_only)) }
 {
-    match get(alloc, Kind::Mailbox, account, &call.args, read_only) {
+    match get(alloc, kind, account, &call.args, read_only) {
         Ok(args) => plan_response(alloc, call, args),
         Err(GetFault::Invalid(_)) => plan_error(alloc, call, "invalidArguments"),
         Err(GetFault::TooLarge) => plan_error(alloc, call, "requestTooLarge"),
         Err(GetFault::NoMemory) => Err(NoMemory),
+    }
+}
+
+// Returns the plan of an Email/parse (RFC 8621, section 4.9).
+fn plan_parse(alloc: Global, account: &Account, call: &Invocation) -> Result<Plan, NoMemory>
+    ensures { IfOk result (λ p. p ≡ get_plan (call_of call.now)
+        (parse_in account.now.history (tree_of call.now.args))) }
+{
+    match parse(alloc, account, &call.args) {
+        Ok(args) => plan_response(alloc, call, args),
+        Err(GetFault::Invalid(_)) => plan_error(alloc, call, "invalidArguments"),
+        Err(GetFault::TooLarge) => plan_error(alloc, call, "requestTooLarge"),
+        Err(GetFault::NoMemory) => Err(NoMemory),
+    }
+}
+
+// Returns the arguments of the response to a call for the changes of a kind.
+fn find_changes(
+    alloc: Global,
+    account: &Account,
+    kind: Kind,
+    args: &Json,
+) -> Result<Json, CallFault>
+    ensures reply { IfOk result (λ j. changes_outcome account.now.history kind (tree_of args.now)
+        ≡ replied (tree_of j)) }
+    ensures fault { IfErr result (λ fault. ExplainsCall fault
+        (changes_outcome account.now.history kind (tree_of args.now))) }
+{
+    account.edits_fit();
+    answer_changes(alloc, account.log(), kind, args)
+}
+
+// Returns the plan of a call for the changes of a kind (RFC 8620, section 5.2).
+fn plan_changes(
+    alloc: Global,
+    kind: Kind,
+    account: &Account,
+    call: &Invocation,
+) -> Result<Plan, NoMemory>
+    ensures { IfOk result (λ p. p ≡ changes_plan (call_of call.now)
+        (changes_outcome account.now.history kind (tree_of call.now.args))) }
+{
+    match find_changes(alloc, account, kind, &call.args) {
+        Ok(args) => plan_response(alloc, call, args),
+        Err(CallFault::Invalid(_)) => plan_error(alloc, call, "invalidArguments"),
+        Err(CallFault::CannotCalculate) => plan_error(alloc, call, "cannotCalculateChanges"),
+        Err(CallFault::NoMemory) => Err(NoMemory),
     }
 }
 
@@ -107,8 +158,8 @@ fn plan_set(
     made: &Made,
 ) -> Result<Plan, NoMemory>
     requires { IsBounded account.now.history }
-    ensures { IfOk result
-        (λ p. p ≡ set_plan (call_of call.now) (set_outcome (ground_in account.now.history) (tree_of call.now.args) made.now)) }
+    ensures { IfOk result (λ p. p ≡ set_plan (call_of call.now)
+        (set_outcome (ground_in account.now.history) (tree_of call.now.args) made.now)) }
 {
     match plan_mailbox_set(alloc, account.content(), account.log(), &call.args, made) {
         Ok(plan) => {
@@ -139,7 +190,9 @@ pub(crate) fn plan_method(
 {
     match read_method(call.name.as_str()) {
         None => plan_error(alloc, call, "unknownMethod"),
-        Some(Method::MailboxGet) => plan_get(alloc, account, call, read_only),
+        Some(Method::Get(kind)) => plan_get(alloc, kind, account, call, read_only),
+        Some(Method::Changes(kind)) => plan_changes(alloc, kind, account, call),
         Some(Method::MailboxSet) => plan_set(alloc, account, call, made),
+        Some(Method::EmailParse) => plan_parse(alloc, account, call),
     }
 }

@@ -7,8 +7,8 @@ use account_book::{Account, Ask, Call, Plan, Rules};
 use jm_base::NoMemory;
 use std::alloc::Global;
 
-/// The rules of mail accounts. What a call plans stands in `specs/Plans.antt`, and when an account is valid in
-/// `specs/Whole.antt`.
+/// The rules of mail accounts. `specs/Plans.antt` says what a call plans, and `specs/Whole.antt`
+/// when an account is valid.
 #[derive(Drop)]
 pub struct MailRules;
 
@@ -46,7 +46,8 @@ impl Rules for MailRules {
 
     ghost formed = { λ r h call moment stamp low whole. plan_formed h call moment stamp whole };
 
-    ghost keeps = { λ r h call moment stamp low whole within. plan_keeps h call moment stamp whole within };
+    ghost keeps = { λ r h call moment stamp low whole within.
+        plan_keeps h call moment stamp whole within };
 
     ghost reads = { λ r h call moment low whole. plan_reads h call moment };
 

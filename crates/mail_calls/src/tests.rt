@@ -1,4 +1,5 @@
-// Calls on a book by the rules of mail. The expected answers are those of RFC 8620, sections 3.6.2, 5.1, 5.3, 6.1 and 6.2.
+// Calls on a book by the rules of mail. The expected answers are those of RFC 8620, sections 3.6.2, 5.1 to 5.3 and 6.1,
+// and RFC 8621, section 4.9.
 use crate::MailRules;
 use crate::blobs::has_room;
 use account_book::{Ask, Book, Call, Out};
@@ -71,31 +72,57 @@ fn answers(
     }
 }
 
+// Calls in turn on an account in which nothing has been yet: the method, its arguments, and those of the answer.
+const CALLS: &[(&str, &str, &str)] = &[
+    (
+        "Mailbox/set",
+        "{\"accountId\":\"A\",\"ifInState\":\"0\"}",
+        "{\"accountId\":\"A\",\"created\":null,\"destroyed\":null,\"newState\":\"0\",\"notCreated\":null,\"notDestroyed\":null,\"notUpdated\":null,\"oldState\":\"0\",\"updated\":null}",
+    ),
+    (
+        "Mailbox/set",
+        "{\"accountId\":\"A\",\"ifInState\":\"1\"}",
+        "{\"type\":\"stateMismatch\"}",
+    ),
+    (
+        "Mailbox/get",
+        "{\"accountId\":\"A\",\"ids\":null}",
+        "{\"accountId\":\"A\",\"list\":[],\"notFound\":[],\"state\":\"0\"}",
+    ),
+    ("Mailbox/get", "{}", "{\"type\":\"invalidArguments\"}"),
+    (
+        "Thread/get",
+        "{\"accountId\":\"A\",\"ids\":[\"T1\"]}",
+        "{\"accountId\":\"A\",\"list\":[],\"notFound\":[\"T1\"],\"state\":\"0\"}",
+    ),
+    ("Email/get", "{}", "{\"type\":\"invalidArguments\"}"),
+    (
+        "Email/parse",
+        "{\"accountId\":\"A\",\"blobIds\":[]}",
+        "{\"accountId\":\"A\",\"notFound\":null,\"notParsable\":null,\"parsed\":null}",
+    ),
+    (
+        "Thread/changes",
+        "{\"accountId\":\"A\",\"sinceState\":\"0\"}",
+        "{\"accountId\":\"A\",\"created\":[],\"destroyed\":[],\"hasMoreChanges\":false,\"newState\":\"0\",\"oldState\":\"0\",\"updated\":[]}",
+    ),
+    (
+        "Email/changes",
+        "{\"accountId\":\"A\",\"sinceState\":\"1\"}",
+        "{\"type\":\"cannotCalculateChanges\"}",
+    ),
+    ("Thread/set", "{}", "{\"type\":\"unknownMethod\"}"),
+];
+
 #[test]
 fn performs_the_methods_of_mail(rt: HostRuntime) -> Result<(), Fail> {
     let alloc = rt.alloc();
     let mut book = Book::begin(alloc, MailRules)?;
-    let rows = [
-        (
-            "Mailbox/set",
-            "{\"accountId\":\"A\",\"ifInState\":\"0\"}",
-            "{\"accountId\":\"A\",\"created\":null,\"destroyed\":null,\"newState\":\"0\",\"notCreated\":null,\"notDestroyed\":null,\"notUpdated\":null,\"oldState\":\"0\",\"updated\":null}",
-        ),
-        (
-            "Mailbox/get",
-            "{\"accountId\":\"A\",\"ids\":null}",
-            "{\"accountId\":\"A\",\"list\":[],\"notFound\":[],\"state\":\"0\"}",
-        ),
-        ("Mailbox/get", "{}", "{\"type\":\"invalidArguments\"}"),
-        (
-            "Mailbox/set",
-            "{\"accountId\":\"A\",\"ifInState\":\"1\"}",
-            "{\"type\":\"stateMismatch\"}",
-        ),
-        ("Email/get", "{}", "{\"type\":\"unknownMethod\"}"),
-    ];
-    for (name, args, expected) in &rows {
-        assert!(rt; answers(alloc, &mut book, name, args, expected)?);
+    for (name, args, expected) in CALLS {
+        assert!(rt;
+            answers(alloc, &mut book, name, args, expected)?,
+            "{name} {args}"
+        );
     }
     Ok(())
 }

@@ -16,6 +16,7 @@ use Rattle.mail_records.specs.declared.edits.Edit.{Edit}
 use Rattle.mail_records.specs.declared.edits.Edit.TheVariants.{PutMailbox, DropMailbox, PutEmail, DropEmail, PutThread, DropThread}
 use Rattle.mail_records.proofs.Tables.{All-put, All-kept}
 use Rattle.mail_records.proofs.Growth.{found, all_map}
+use Rattle.mail_counts.specs.CountsFlag.{AreCountsFlagsRight}
 use Rattle.mail_counts.specs.Derived.{LeavesEmails}
 use Rattle.mail_counts.specs.Tidy.{IsTidy, IsTidyEmail}
 use Rattle.plan_promises.specs.Messages.{IsMessageOf, HasMessage, IsFormedSummary}
@@ -171,12 +172,13 @@ puts_none P (DropEmail number thread ∷ es) leave = absurd (true≢false leave.
 puts_none P (PutThread item was ∷ es) leave = let rest = puts_none P es leave.1 in ((tt, rest.0), (tt, rest.1))
 puts_none P (DropThread number ∷ es) leave = let rest = puts_none P es leave.1 in ((tt, rest.0), (tt, rest.1))
 
--- edits that leave emails as they are need only fit and leave the content tidy
-pub planned_mailboxes : (summary : List ℕ → Summary) (blobs : List (List ℕ)) (c : Content) (es : List Edit) → AllFit c es → AllByRecursion LeavesEmails es → IsTidy (after_edits c es) → IsPlanned summary blobs c es
-planned_mailboxes summary blobs c es fit leave tidy = record {
+-- edits that leave emails as they are need only fit, leave the content tidy and have right flags
+pub planned_mailboxes : (summary : List ℕ → Summary) (blobs : List (List ℕ)) (c : Content) (es : List Edit) → AllFit c es → AllByRecursion LeavesEmails es → IsTidy (after_edits c es) → AreCountsFlagsRight c es → IsPlanned summary blobs c es
+planned_mailboxes summary blobs c es fit leave tidy flags = record {
   fits = fit;
   kept = kept_by es c leave;
   delivered = (puts_none (IsDelivered summary blobs) es leave).1;
   filed = (puts_none IsFiled es leave).0;
   tidy = tidy;
+  flags = flags;
 }

@@ -4,6 +4,7 @@ use Rattle.std.specs.Prelude.{◌≡◌, ℕ, ◌-◌, ◌≤◌, List, [], leng
 use Rattle.std.specs.Option.{ForSome}
 use Rattle.jm_base.specs.UtcDates.{IsUtcDate}
 use Rattle.mail_records.specs.Commits.{TextsRise}
+use Rattle.mail_records.specs.declared.limits.TheConstants.{MAX_LINKS_PER_EMAIL}
 use Rattle.mail_records.specs.declared.records.Email.{Email}
 use Rattle.mail_records.specs.declared.records.Summary.{Summary}
 
@@ -19,9 +20,9 @@ pub record HasMessage
   pub there : e.blob ≤ length blobs
   pub message : IsMessageOf summary e (slice_index_or blobs (e.blob - 1) [])
 
--- A summary can be kept: its links are at most 100 and rise, and its date is of the years 0001 to
--- 9999.
+-- A summary can be kept: its links are at most `MAX_LINKS_PER_EMAIL` and rise, and its date is of
+-- the years 0001 to 9999.
 pub record IsFormedSummary (s : Summary) : Type 0 where
-  pub few_links : length s.links ≤ 100
+  pub few_links : length s.links ≤ MAX_LINKS_PER_EMAIL
   pub links_rise : TextsRise s.links
   pub sent : ForSome s.sent IsUtcDate

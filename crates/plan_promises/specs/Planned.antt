@@ -1,7 +1,8 @@
 -- What the plan of a set, an import or a copy promises of its edits, so that they leave a valid
--- account (RFC 8620, 5.3; RFC 8621, 4). A plan of mailboxes that leaves emails as they are promises
--- that its edits fit and leave the content tidy, and nothing else (`planned_mailboxes`). One that
--- changes emails promises the rest:
+-- account (RFC 8620, 5.3; RFC 8621, 4), and `updatedProperties` of Mailbox/changes is right (RFC
+-- 8621, 2.2). A plan of mailboxes that leaves emails as they are promises that its edits fit, leave
+-- the content tidy, and say rightly which puts change only counts, and nothing else
+-- (`planned_mailboxes`). One that changes emails promises the rest:
 --
 -- * an email that is there keeps its message: a put of it changes its mailboxes and keywords alone;
 -- * an email that is new has its message among the account's blobs and those of the plan;
@@ -12,10 +13,12 @@ use Rattle.jm_base.specs.UtcDates.{IsUtcDate}
 use Rattle.mail_records.specs.Commits.{NumbersRise, TextsRise}
 use Rattle.mail_records.specs.Contents.{Content, email_at}
 use Rattle.mail_records.specs.Edits.{AllFit, after_edit, after_edits}
+use Rattle.mail_records.specs.declared.limits.TheConstants.{MAX_MAILBOXES_PER_EMAIL}
 use Rattle.mail_records.specs.declared.records.Email.{Email}
 use Rattle.mail_records.specs.declared.records.Summary.{Summary}
 use Rattle.mail_records.specs.declared.edits.Edit.{Edit}
 use Rattle.mail_records.specs.declared.edits.Edit.TheVariants.{PutMailbox, DropMailbox, PutEmail, DropEmail, PutThread, DropThread}
+use Rattle.mail_counts.specs.CountsFlag.{AreCountsFlagsRight}
 use Rattle.mail_counts.specs.Tidy.{IsTidy}
 use Rattle.plan_promises.specs.Messages.{HasMessage}
 
@@ -31,7 +34,7 @@ pub record HaveOneMessage (old new : Email) : Type 0 where
   pub received : old.received ≡ new.received
   pub summary : old.summary ≡ new.summary
 
--- an email that is put in the place of one keeps its message
+-- an email that replaces one keeps its message
 abbrev pub KeepsMessage : Content → Edit → Type 0
 KeepsMessage c (PutEmail item was) =
     (old : Email) → email_at c item.number ≡ Some old → HaveOneMessage old item
@@ -62,9 +65,9 @@ PutsNewEmail P _ = ⊤
 
 -- ---- each email that is put
 
--- an email is filed: in at most 64 mailboxes, and they and its keywords rise
+-- an email is filed: in at most `MAX_MAILBOXES_PER_EMAIL` mailboxes, and they and its keywords rise
 pub record IsFiled (e : Email) : Type 0 where
-  pub few_mailboxes : length e.mailboxes ≤ 64
+  pub few_mailboxes : length e.mailboxes ≤ MAX_MAILBOXES_PER_EMAIL
   pub mailboxes_rise : NumbersRise e.mailboxes
   pub keywords_rise : TextsRise e.keywords
 
@@ -80,3 +83,4 @@ pub record IsPlanned
   pub delivered : AllByRecursion (PutsNewEmail (IsDelivered summary blobs)) es
   pub filed : AllByRecursion (PutsEmail IsFiled) es
   pub tidy : IsTidy (after_edits c es)
+  pub flags : AreCountsFlagsRight c es

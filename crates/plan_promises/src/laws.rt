@@ -7,6 +7,7 @@ ghost use Rattle.mail_records.specs.Edits.{AllFit, AllKeepThread, IsSmall, after
 ghost use Rattle.mail_records.specs.declared.edits.Edit.{Edit};
 ghost use Rattle.mail_records.specs.declared.records.Email.{Email};
 ghost use Rattle.mail_records.specs.declared.records.Summary.{Summary};
+ghost use Rattle.mail_counts.specs.CountsFlag.{AreCountsFlagsRight};
 ghost use Rattle.mail_counts.specs.Derived.{LeavesEmails};
 ghost use Rattle.mail_counts.specs.Tidy.{IsTidy};
 ghost use Rattle.plan_promises.specs.Messages.{HasMessage, IsFormedSummary};
@@ -43,9 +44,10 @@ pub fn planned_edits_leave_messages()
         → AllByRecursion (HasMessage summary blobs) (after_edits c es).emails }
 {}
 
-/// Edits that leave emails as they are are those of a plan if they fit and leave the content tidy.
+/// Edits that leave emails as they are are those of a plan if they fit, leave the content tidy, and
+/// have the flag `counts` exactly at the puts that change only the counts of a mailbox.
 pub fn edits_of_mailboxes_are_planned()
     ensures { (summary : List ℕ → Summary) (blobs : List (List ℕ)) (c : Content) (es : List Edit)
         → AllFit c es → AllByRecursion LeavesEmails es → IsTidy (after_edits c es)
-        → IsPlanned summary blobs c es }
+        → AreCountsFlagsRight c es → IsPlanned summary blobs c es }
 {}

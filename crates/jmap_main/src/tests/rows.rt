@@ -70,7 +70,7 @@ const ANSWERED: &[(&str, &str)] = &[
         "{\"methodResponses\":[[\"error\",{\"type\":\"unknownMethod\"},\"0\"]],\"sessionState\":\"0\"}\n",
     ),
     (
-        "{\"using\":[\"urn:ietf:params:jmap:mail\"],\"methodCalls\":[[\"Mailbox/changes\",{\"accountId\":\"A1\"},\"0\"]]}",
+        "{\"using\":[\"urn:ietf:params:jmap:mail\"],\"methodCalls\":[[\"EmailSubmission/changes\",{\"accountId\":\"A1\"},\"0\"]]}",
         "{\"methodResponses\":[[\"error\",{\"type\":\"unknownMethod\"},\"0\"]],\"sessionState\":\"0\"}\n",
     ),
     (
@@ -109,6 +109,23 @@ const ANSWERED: &[(&str, &str)] = &[
     (
         "{\"using\":[\"urn:ietf:params:jmap:core\",\"urn:ietf:params:jmap:mail\"],\"methodCalls\":[[\"Mailbox/set\",{\"accountId\":\"A1\",\"create\":{\"a\":{\"name\":\"A\",\"parentId\":\"#b\"},\"b\":{\"name\":\"B\"},\"c\":{\"name\":\"C\",\"parentId\":\"#z\"}}},\"0\"]],\"createdIds\":{\"x\":\"M7\"}}\n",
         "{\"createdIds\":{\"a\":\"M2\",\"b\":\"M1\",\"x\":\"M7\"},\"methodResponses\":[[\"Mailbox/set\",{\"accountId\":\"A1\",\"created\":{\"a\":{\"id\":\"M2\",\"isSubscribed\":true,\"myRights\":{\"mayAddItems\":true,\"mayCreateChild\":true,\"mayDelete\":true,\"mayReadItems\":true,\"mayRemoveItems\":true,\"mayRename\":true,\"maySetKeywords\":true,\"maySetSeen\":true,\"maySubmit\":false},\"role\":null,\"sortOrder\":0,\"totalEmails\":0,\"totalThreads\":0,\"unreadEmails\":0,\"unreadThreads\":0},\"b\":{\"id\":\"M1\",\"isSubscribed\":true,\"myRights\":{\"mayAddItems\":true,\"mayCreateChild\":true,\"mayDelete\":true,\"mayReadItems\":true,\"mayRemoveItems\":true,\"mayRename\":true,\"maySetKeywords\":true,\"maySetSeen\":true,\"maySubmit\":false},\"parentId\":null,\"role\":null,\"sortOrder\":0,\"totalEmails\":0,\"totalThreads\":0,\"unreadEmails\":0,\"unreadThreads\":0}},\"destroyed\":null,\"newState\":\"2\",\"notCreated\":{\"c\":{\"properties\":[\"parentId\"],\"type\":\"invalidProperties\"}},\"notDestroyed\":null,\"notUpdated\":null,\"oldState\":\"0\",\"updated\":null},\"0\"]],\"sessionState\":\"0\"}\n",
+    ),
+    // Two mailboxes are created by one set; their changes in two pages, of which the first ends within
+    // the commit; no change of other kinds; a state of the future, a maximum of none, the present
+    // state, and a number with leading zeros.
+    (
+        "{\"using\":[\"urn:ietf:params:jmap:core\",\"urn:ietf:params:jmap:mail\"],\"methodCalls\":[[\"Mailbox/set\",{\"accountId\":\"A1\",\"create\":{\"a\":{\"name\":\"A\"},\"b\":{\"name\":\"B\"}}},\"0\"],[\"Mailbox/changes\",{\"accountId\":\"A1\",\"maxChanges\":1,\"sinceState\":\"0\"},\"1\"],[\"Mailbox/changes\",{\"accountId\":\"A1\",\"#sinceState\":{\"resultOf\":\"1\",\"name\":\"Mailbox/changes\",\"path\":\"/newState\"}},\"2\"],[\"Email/changes\",{\"accountId\":\"A1\",\"sinceState\":\"0\"},\"3\"],[\"Thread/changes\",{\"accountId\":\"A1\",\"sinceState\":\"2\"},\"4\"],[\"Mailbox/changes\",{\"accountId\":\"A1\",\"sinceState\":\"3\"},\"5\"],[\"Mailbox/changes\",{\"accountId\":\"A1\",\"maxChanges\":0,\"sinceState\":\"3\"},\"6\"],[\"Mailbox/changes\",{\"accountId\":\"A1\",\"sinceState\":\"2\"},\"7\"],[\"Mailbox/changes\",{\"accountId\":\"A1\",\"sinceState\":\"007\"},\"8\"]]}\n",
+        "{\"methodResponses\":[[\"Mailbox/set\",{\"accountId\":\"A1\",\"created\":{\"a\":{\"id\":\"M1\",\"isSubscribed\":true,\"myRights\":{\"mayAddItems\":true,\"mayCreateChild\":true,\"mayDelete\":true,\"mayReadItems\":true,\"mayRemoveItems\":true,\"mayRename\":true,\"maySetKeywords\":true,\"maySetSeen\":true,\"maySubmit\":false},\"parentId\":null,\"role\":null,\"sortOrder\":0,\"totalEmails\":0,\"totalThreads\":0,\"unreadEmails\":0,\"unreadThreads\":0},\"b\":{\"id\":\"M2\",\"isSubscribed\":true,\"myRights\":{\"mayAddItems\":true,\"mayCreateChild\":true,\"mayDelete\":true,\"mayReadItems\":true,\"mayRemoveItems\":true,\"mayRename\":true,\"maySetKeywords\":true,\"maySetSeen\":true,\"maySubmit\":false},\"parentId\":null,\"role\":null,\"sortOrder\":0,\"totalEmails\":0,\"totalThreads\":0,\"unreadEmails\":0,\"unreadThreads\":0}},\"destroyed\":null,\"newState\":\"2\",\"notCreated\":null,\"notDestroyed\":null,\"notUpdated\":null,\"oldState\":\"0\",\"updated\":null},\"0\"],[\"Mailbox/changes\",{\"accountId\":\"A1\",\"created\":[\"M1\"],\"destroyed\":[],\"hasMoreChanges\":true,\"newState\":\"1\",\"oldState\":\"0\",\"updated\":[],\"updatedProperties\":null},\"1\"],[\"Mailbox/changes\",{\"accountId\":\"A1\",\"created\":[\"M2\"],\"destroyed\":[],\"hasMoreChanges\":false,\"newState\":\"2\",\"oldState\":\"1\",\"updated\":[],\"updatedProperties\":null},\"2\"],[\"Email/changes\",{\"accountId\":\"A1\",\"created\":[],\"destroyed\":[],\"hasMoreChanges\":false,\"newState\":\"0\",\"oldState\":\"0\",\"updated\":[]},\"3\"],[\"Thread/changes\",{\"accountId\":\"A1\",\"created\":[],\"destroyed\":[],\"hasMoreChanges\":false,\"newState\":\"0\",\"oldState\":\"2\",\"updated\":[]},\"4\"],[\"error\",{\"type\":\"cannotCalculateChanges\"},\"5\"],[\"error\",{\"type\":\"invalidArguments\"},\"6\"],[\"Mailbox/changes\",{\"accountId\":\"A1\",\"created\":[],\"destroyed\":[],\"hasMoreChanges\":false,\"newState\":\"2\",\"oldState\":\"2\",\"updated\":[],\"updatedProperties\":null},\"7\"],[\"error\",{\"type\":\"cannotCalculateChanges\"},\"8\"]],\"sessionState\":\"0\"}\n",
+    ),
+    // Gets of identifiers that name nothing, and of a property that no thread has.
+    (
+        "{\"using\":[\"urn:ietf:params:jmap:core\",\"urn:ietf:params:jmap:mail\"],\"methodCalls\":[[\"Thread/get\",{\"accountId\":\"A1\",\"ids\":[\"T1\",\"E1\",\"T1\"]},\"0\"],[\"Email/get\",{\"accountId\":\"A1\",\"ids\":[\"E7\"],\"properties\":[\"subject\"]},\"1\"],[\"Email/get\",{\"accountId\":\"A1\",\"ids\":null},\"2\"],[\"Thread/get\",{\"accountId\":\"A1\",\"ids\":[],\"properties\":[\"subject\"]},\"3\"]]}\n",
+        "{\"methodResponses\":[[\"Thread/get\",{\"accountId\":\"A1\",\"list\":[],\"notFound\":[\"T1\",\"E1\"],\"state\":\"0\"},\"0\"],[\"Email/get\",{\"accountId\":\"A1\",\"list\":[],\"notFound\":[\"E7\"],\"state\":\"0\"},\"1\"],[\"Email/get\",{\"accountId\":\"A1\",\"list\":[],\"notFound\":[],\"state\":\"0\"},\"2\"],[\"error\",{\"type\":\"invalidArguments\"},\"3\"]],\"sessionState\":\"0\"}\n",
+    ),
+    // A message is uploaded and parsed, and an identifier of no blob is not found.
+    (
+        "+RnJvbTogQW5uIDxhbm5AeC5leGFtcGxlPg0KU3ViamVjdDogSGkNCg0KU2VlIHlvdS4NCg==\n{\"using\":[\"urn:ietf:params:jmap:core\",\"urn:ietf:params:jmap:mail\"],\"methodCalls\":[[\"Email/parse\",{\"accountId\":\"A1\",\"blobIds\":[\"b1\",\"b2\"],\"properties\":[\"subject\",\"from\",\"preview\"]},\"0\"],[\"Email/parse\",{\"accountId\":\"A1\"},\"1\"]]}\n",
+        "{\"accountId\":\"A1\",\"blobId\":\"b1\",\"size\":52,\"type\":\"application/octet-stream\"}\n{\"methodResponses\":[[\"Email/parse\",{\"accountId\":\"A1\",\"notFound\":[\"b2\"],\"notParsable\":null,\"parsed\":{\"b1\":{\"from\":[{\"email\":\"ann@x.example\",\"name\":\"Ann\"}],\"preview\":\"See you.\",\"subject\":\"Hi\"}}},\"0\"],[\"error\",{\"type\":\"invalidArguments\"},\"1\"]],\"sessionState\":\"0\"}\n",
     ),
     // One set makes a mailbox, the next one within it, by its creation id; a get shows both, and the next
     // one those of its list.
@@ -162,7 +179,7 @@ const ERRORS: &[(&str, &str)] = &[
         "stateMismatch",
     ),
     (
-        "[\"Thread/get\",{\"accountId\":\"A1\"},\"0\"]",
+        "[\"Thread/set\",{\"accountId\":\"A1\"},\"0\"]",
         "unknownMethod",
     ),
 ];

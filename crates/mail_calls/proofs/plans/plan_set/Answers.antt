@@ -1,5 +1,5 @@
 use Rattle.std.proofs.Common.{◌≡◌, refl, sym, ◌∙◌, codes, subst}
-use Rattle.jm_json.specs.Invoked.{call_of}
+use Rattle.jm_json.specs.Invocations.{call_of}
 use Rattle.jm_json.specs.Json.{tree_of}
 use Rattle.mail_counts.specs.declared.plan.SetFault.{SetFault}
 use Rattle.mailbox_set.specs.Plans.{ExplainsSet, ground_of, invalid, too_large, state_mismatch, plan_of, set_outcome}

@@ -2,7 +2,7 @@ use Rattle.std.proofs.Common.{rules, ◌≡◌, length}
 use Rattle.mail_records.specs.Histories.{Committed, grown}
 use Rattle.record_codec.specs.Sizes.{edit_bytes}
 use Rattle.account_book.specs.Replies.{IsIdle, IsWithin, commit_of}
-use Rattle.account_book.proofs.Answering.{IsReply-unavailable, IsReply-committed}
+use Rattle.account_book.proofs.Answering.{IsReply-unavailable, IsReply-committed, none_of_same, none_of_commit}
 use Rattle.account_book.proofs.book.Book.perform.Goals as goal
 
 pub returns-in_default-clause-reply : goal.returns-in_default-clause-reply
@@ -26,3 +26,10 @@ returns-clause-reply g c =
     let grows : c.enter.new.self.history ≡ grown h (Committed (commit_of p c.args.stamp)) = c.in_ok-enter.ensures.ok in
     IsReply-committed (g.R.Rules.plan_of c.args.self.now.rules) h c.enter.new.self.history p c.count-before.result c.count.result c.args.moment c.args.call.now c.args.stamp
     count more c.in_ok-plan.ensures.plan some within grows
+
+pub returns-in_default-clause-kept : goal.returns-in_default-clause-kept
+returns-in_default-clause-kept g c = none_of_same c.args.self.now.history
+
+pub returns-clause-kept : goal.returns-clause-kept
+returns-clause-kept g c =
+    none_of_commit c.args.self.now.history c.enter.new.self.history (commit_of c.in_ok-plan.plan c.args.stamp) c.in_ok-enter.ensures.ok

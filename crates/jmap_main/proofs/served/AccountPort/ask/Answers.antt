@@ -1,5 +1,6 @@
-use Rattle.std.proofs.Common.{◌∙◌, ap, length}
+use Rattle.std.proofs.Common.{◌∙◌, ap, length, subst}
 use Rattle.mail_records.specs.Histories.{History}
+use Rattle.account_book.specs.Replies.{NoneRefused}
 use Rattle.jmap_main.proofs.Performed.{answered}
 use Rattle.jmap_main.proofs.served.AccountPort.ask.Goals as goal
 
@@ -8,4 +9,5 @@ returns-in-Ok-clause-answered c =
     let old = c.args.self.now in
     let new = c.perform.new.self.history in
     let done = c.in-Ok.done in
-    answered old new c.args.call.now c.stamp-stamp.result done.before done.after done.out (c.in-Ok.ensures.before ∙ ap (λ (h : History). length h.entries) c.self.view_is) c.in-Ok.ensures.after (c.in-Ok.ensures.begins ∙ c.self.view_is) (c.in-Ok.ensures.reply 0)
+    answered old new c.args.call.now c.stamp-stamp.result done.before done.after done.out
+    (subst (λ (h : History). NoneRefused h new) c.self.view_is c.in-Ok.ensures.kept) (c.in-Ok.ensures.before ∙ ap (λ (h : History). length h.entries) c.self.view_is) c.in-Ok.ensures.after (c.in-Ok.ensures.begins ∙ c.self.view_is) (c.in-Ok.ensures.reply 0)

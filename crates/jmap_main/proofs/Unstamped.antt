@@ -1,0 +1,84 @@
+-- What is answered from a history is the same whatever stamps its entries have.
+use Rattle.std.proofs.Common.{◌≡◌, ℕ, ◌+◌, zero, suc, List, [], ◌∷◌, ◌++◌, map, length, Bool, cond, Option, Some, None, unwrap_or, refl, ap, ap₂, ◌∙◌, codes}
+use Rattle.jm_base.specs.declared.identifiers.Kind.{Kind}
+use Rattle.jm_base.specs.declared.identifiers.Kind.TheVariants.{Mailbox, Email, Thread}
+use Rattle.jm_json.specs.Find.{as_object}
+use Rattle.jm_json.specs.Tree.{Tree}
+use Rattle.mail_records.specs.Histories.{History, Entry, Committed, Refused, blobs_in, blobs_of, content_of, edits_in, end_of, entry_blobs, entry_edits}
+use Rattle.mail_records.specs.States.{state_of}
+use Rattle.mail_records.specs.declared.edits.Edit.{Edit}
+use Rattle.mail_view.specs.Gets.{get_emails, get_of_kind}
+use Rattle.mail_view.specs.Parses.{parse_emails, parse_in}
+use Rattle.change_calls.specs.Changes.{answered, answer_since, answer_within, greatest_upto, is_state_of, may_end, maximum_of, page_of, page_end, reached_state}
+use Rattle.change_calls.specs.declared.page.ChangePage.{ChangePage}
+use Rattle.change_calls.specs.Responses.{changes_outcome, invalid_argument, max_in, outcome_by, outcome_of_members, outcome_with, string_in}
+use Rattle.jmap_main.specs.Stamps.{unstamped, unstamped_entry}
+
+edits_of_entry : (e : Entry) → entry_edits (unstamped_entry e) ≡ entry_edits e
+edits_of_entry (Committed commit) = refl
+edits_of_entry (Refused stamp) = refl
+
+pub edits_unstamped : (es : List Entry) → edits_in (map unstamped_entry es) ≡ edits_in es
+edits_unstamped [] = refl
+edits_unstamped (e ∷ es) = ap₂ (λ (a b : List Edit). a ++ b) (edits_of_entry e) (edits_unstamped es)
+
+blobs_of_entry : (e : Entry) → entry_blobs (unstamped_entry e) ≡ entry_blobs e
+blobs_of_entry (Committed commit) = refl
+blobs_of_entry (Refused stamp) = refl
+
+pub blobs_unstamped : (es : List Entry) → blobs_in (map unstamped_entry es) ≡ blobs_in es
+blobs_unstamped [] = refl
+blobs_unstamped (e ∷ es) = ap₂ (λ (a b : List (List ℕ)). a ++ b) (blobs_of_entry e) (blobs_unstamped es)
+
+-- ---- gets
+
+pub get_unstamped : (h : History) (args : Tree) (read_only : Bool) (kind : Kind) → get_of_kind kind (unstamped h) args read_only ≡ get_of_kind kind h args read_only
+get_unstamped h args read_only Mailbox = rw (edits_unstamped h.entries) refl
+get_unstamped h args read_only Email =
+    ap (λ (bs : List (List ℕ)). get_emails (content_of (unstamped h)) (h.base_blobs ++ bs) (state_of (unstamped h) Email) args) (blobs_unstamped h.entries)
+    ∙ rw (edits_unstamped h.entries) refl
+get_unstamped h args read_only Thread = rw (edits_unstamped h.entries) refl
+
+pub parse_unstamped : (h : History) (args : Tree) → parse_in (unstamped h) args ≡ parse_in h args
+parse_unstamped h args = ap (λ (bs : List (List ℕ)). parse_emails (h.base_blobs ++ bs) args) (blobs_unstamped h.entries)
+
+-- ---- changes
+
+page_unstamped : (h : History) (kind : Kind) (from upto : ℕ) → page_of (unstamped h) kind from upto ≡ page_of h kind from upto
+page_unstamped h kind from upto = rw (edits_unstamped h.entries) refl
+
+same_greatest : (f g : ℕ → Bool) → ((n : ℕ) → f n ≡ g n) → (n : ℕ) → greatest_upto f n ≡ greatest_upto g n
+same_greatest f g same zero = ap (λ (b : Bool). cond b (Some 0) None) (same 0)
+same_greatest f g same (suc n) = ap₂ (λ (b : Bool) (o : Option ℕ). cond b (Some (suc n)) o) (same (suc n)) (same_greatest f g same n)
+
+end_unstamped : (h : History) (kind : Kind) (max : Option ℕ) (from upto : ℕ) → may_end (unstamped h) kind max from upto ≡ may_end h kind max from upto
+end_unstamped h kind max from upto = rw (edits_unstamped h.entries) refl
+
+page_end_unstamped : (h : History) (kind : Kind) (max : Option ℕ) (from : ℕ) → page_end (unstamped h) kind max from ≡ page_end h kind max from
+page_end_unstamped h kind max from =
+    ap (λ (o : Option ℕ). unwrap_or o from) (same_greatest (may_end (unstamped h) kind max from) (may_end h kind max from) (end_unstamped h kind max from) (end_of (unstamped h)))
+    ∙ ap (λ (es : List Edit). unwrap_or (greatest_upto (may_end h kind max from) (h.floor + length es)) from) (edits_unstamped h.entries)
+
+since_unstamped : (h : History) (kind : Kind) (max : Option ℕ) (o : Option ℕ) → answer_since (unstamped h) kind max o ≡ answer_since h kind max o
+since_unstamped h kind max None = refl
+since_unstamped h kind max (Some from) =
+    ap (λ (upto : ℕ). answered (page_of (unstamped h) kind from upto)) (page_end_unstamped h kind max from) ∙ ap (λ (p : ChangePage). answered p) (page_unstamped h kind from (page_end h kind max from))
+
+reached_unstamped : (h : History) (kind : Kind) (text : List ℕ) → reached_state (unstamped h) kind text ≡ reached_state h kind text
+reached_unstamped h kind text = ap (λ (es : List Edit). greatest_upto (is_state_of h kind text) (h.floor + length es)) (edits_unstamped h.entries)
+
+within_unstamped : (h : History) (kind : Kind) (text : List ℕ) (o : Option (Option ℕ)) → answer_within (unstamped h) kind text o ≡ answer_within h kind text o
+within_unstamped h kind text None = refl
+within_unstamped h kind text (Some max) = ap (answer_since (unstamped h) kind max) (reached_unstamped h kind text) ∙ since_unstamped h kind max (reached_state h kind text)
+
+with_unstamped : (h : History) (kind : Kind) (ms : List (List ℕ × Tree)) (o : Option (List ℕ)) → outcome_with (unstamped h) kind ms o ≡ outcome_with h kind ms o
+with_unstamped h kind ms (Some name) = refl
+with_unstamped h kind ms None =
+    ap (outcome_by kind (string_in (codes "accountId") ms) (string_in (codes "sinceState") ms)) (within_unstamped h kind (string_in (codes "sinceState") ms) (maximum_of (max_in ms)))
+
+members_unstamped : (h : History) (kind : Kind) (o : Option (List (List ℕ × Tree))) → outcome_of_members (unstamped h) kind o ≡ outcome_of_members h kind o
+members_unstamped h kind None = refl
+members_unstamped h kind (Some ms) = with_unstamped h kind ms (invalid_argument ms)
+
+pub changes_unstamped : (h : History) (kind : Kind) (args : Tree) → changes_outcome (unstamped h) kind args ≡ changes_outcome h kind args
+changes_unstamped h kind args = members_unstamped h kind (as_object args)
