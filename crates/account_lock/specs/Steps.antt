@@ -1,4 +1,4 @@
--- What each atomic step tells the thread that makes it: the seat before, the number that the step
+-- What each atomic step shows the thread that makes it: the seat before, the number that the step
 -- found in its word, the seat after. A seat is a view and the slots that are out with it, each with
 -- its value.
 use Rattle.std.specs.Prelude.{◌≡◌, ◌≢◌, ℕ, ◌%◌, ◌^◌, ◌≤◌, true, false, List, [], ◌∷◌, length, Option, Some, None}

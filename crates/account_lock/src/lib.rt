@@ -9,17 +9,17 @@
 //! of passes that were joined with it, are exactly those that were given under them.
 #![tactic(auto)]
 
+mod account_view;
 mod limits;
 mod lock;
 mod rule;
-mod standing;
 mod steps;
 #[cfg(test)]
 mod tests;
 mod view;
 
+pub use account_view::AccountView;
 pub use limits::MAX_NAMES;
 pub use lock::{AccountLock, Pass};
 pub use rule::Turns;
-pub use standing::Standing;
 pub use view::PassView;

@@ -3,9 +3,9 @@ ghost use Rattle.std.specs.Prelude.{◌≡◌, ◌<◌, ◌^◌, ◌+◌, ◌∷
 ghost use Rattle.account_lock.specs.Entries.{under, StartsWith, ExtendsUnder};
 ghost use Rattle.account_lock.specs.Passes.{KeepsEnded, IsLast, HasEndedAll, HasNoOthers, root_of, split_off, taken_in};
 
+use crate::account_view::AccountView;
 use crate::limits::MAX_NAMES;
 use crate::rule::{Naming, Turns};
-use crate::standing::Standing;
 use crate::steps::{await_turn, draw_ticket, lay_back, lift, look_back};
 use crate::view::PassView;
 use atomic_table::{Badge, Refused, Table};
@@ -23,11 +23,11 @@ use std::sync::Wait;
 /// that is dropped while its holder has the value keeps the turn forever, and every other `take`
 /// waits forever.
 #[derive(Drop)]
-pub struct AccountLock<B: Standing> {
+pub struct AccountLock<B: AccountView> {
     pub(crate) table: Table<Option<Box<B>>, PassView, Snapshot<Box<B>>, Turns<B>, Global>,
 }
 
-impl<B: Standing> Model for AccountLock<B> {
+impl<B: AccountView> Model for AccountLock<B> {
     ghost use Rattle.account_lock.specs.Views.{LockFacts};
     ghost use Rattle.account_lock.specs.Steps.{IsLockTable};
 
@@ -65,7 +65,7 @@ impl Model for Pass {
 }
 
 // Returns a list of one slot with the value in it, or the value if memory runs out.
-fn one_slot<B: Standing>(alloc: Global, value: Box<B>) -> Result<Vec<Option<Box<B>>>, Box<B>>
+fn one_slot<B: AccountView>(alloc: Global, value: Box<B>) -> Result<Vec<Option<Box<B>>>, Box<B>>
     ensures ok { IfOk result (λ v. v.items ≡ Some value ∷ []) }
     ensures err { IfErr result (λ b. b ≡ value) }
 {
@@ -79,7 +79,7 @@ fn one_slot<B: Standing>(alloc: Global, value: Box<B>) -> Result<Vec<Option<Box<
     }
 }
 
-impl<B: Standing> AccountLock<B> {
+impl<B: AccountView> AccountLock<B> {
     /// Returns the lock and its root. The value has no entry since its start. If memory runs out,
     /// the value comes back.
     pub fn build(alloc: Global, value: Box<B>) -> Result<(AccountLock<B>, Pass), Box<B>>

@@ -1,9 +1,9 @@
-// The rule of the table under a lock, and what each of its steps tells the thread that makes it.
+// The rule of the table under a lock, and what each of its steps shows the thread that makes it.
 //
 // The rule is a fact about the words, the slot and the views of all passes. The table keeps it
 // between any two steps, and each step is proved to keep it. So a thread can rely on it whatever
 // the others do.
-use crate::standing::Standing;
+use crate::account_view::AccountView;
 use crate::view::PassView;
 use atomic_table::{Join, Play, Seat, Shared, Split, TableRule};
 use std::marker::PhantomData;
@@ -14,7 +14,7 @@ pub struct Turns<B> {
     of: PhantomData<B>,
 }
 
-impl<B: Standing> TableRule<Option<Box<B>>, PassView, Snapshot<Box<B>>> for Turns<B> {
+impl<B: AccountView> TableRule<Option<Box<B>>, PassView, Snapshot<Box<B>>> for Turns<B> {
     ghost use Rattle.account_lock.specs.Rule.{IsKept};
     ghost use Rattle.account_lock.specs.Views.{rooted};
 
@@ -38,7 +38,7 @@ pub(crate) struct DrawTicket<B> {
     of: PhantomData<B>,
 }
 
-impl<B: Standing> Play<Option<Box<B>>, PassView> for DrawTicket<B> {
+impl<B: AccountView> Play<Option<Box<B>>, PassView> for DrawTicket<B> {
     ghost use Rattle.account_lock.specs.Steps.{drew};
 
     ghost then = { λ _. drew };
@@ -49,7 +49,7 @@ pub(crate) struct TryTicket<B> {
     of: PhantomData<B>,
 }
 
-impl<B: Standing> Play<Option<Box<B>>, PassView> for TryTicket<B> {
+impl<B: AccountView> Play<Option<Box<B>>, PassView> for TryTicket<B> {
     ghost use Rattle.account_lock.specs.Steps.{tried};
 
     ghost then = { λ s. tried s.first };
@@ -61,7 +61,7 @@ pub(crate) struct WatchServing<B> {
     of: PhantomData<B>,
 }
 
-impl<B: Standing> Play<Option<Box<B>>, PassView> for WatchServing<B> {
+impl<B: AccountView> Play<Option<Box<B>>, PassView> for WatchServing<B> {
     ghost use Rattle.account_lock.specs.Steps.{watched};
 
     ghost then = { λ _. watched (λ b. B.entries b.value) (λ b. record {
@@ -75,7 +75,7 @@ pub(crate) struct LeaveEmpty<B> {
     of: PhantomData<B>,
 }
 
-impl<B: Standing> Play<Option<Box<B>>, PassView> for LeaveEmpty<B> {
+impl<B: AccountView> Play<Option<Box<B>>, PassView> for LeaveEmpty<B> {
     ghost use Rattle.account_lock.specs.Steps.{left_empty};
 
     ghost then = { λ _. left_empty };
@@ -86,7 +86,7 @@ pub(crate) struct TakeEmpty<B> {
     of: PhantomData<B>,
 }
 
-impl<B: Standing> Play<Option<Box<B>>, PassView> for TakeEmpty<B> {
+impl<B: AccountView> Play<Option<Box<B>>, PassView> for TakeEmpty<B> {
     ghost use Rattle.account_lock.specs.Steps.{took_empty};
 
     ghost then = { λ _. took_empty };
@@ -97,7 +97,7 @@ pub(crate) struct PassTurn<B> {
     of: PhantomData<B>,
 }
 
-impl<B: Standing> Play<Option<Box<B>>, PassView> for PassTurn<B> {
+impl<B: AccountView> Play<Option<Box<B>>, PassView> for PassTurn<B> {
     ghost use Rattle.account_lock.specs.Steps.{passed_on};
 
     ghost then = { λ _. passed_on (λ b. B.entries b.value) };
@@ -106,16 +106,16 @@ impl<B: Standing> Play<Option<Box<B>>, PassView> for PassTurn<B> {
 // The parked word is raised to the turn over which a thread parks, and nothing else changes.
 pub(crate) struct MarkParked;
 
-impl<B: Standing> Play<Option<Box<B>>, PassView> for MarkParked {
+impl<B: AccountView> Play<Option<Box<B>>, PassView> for MarkParked {
     ghost use Rattle.account_lock.specs.Steps.{unchanged};
 
     ghost then = { λ _. unchanged };
 }
 
-// Nothing changes. It tells what follows from the rule once a pass was joined.
+// Nothing changes. The step shows what follows from the rule once a pass was joined.
 pub(crate) struct LookBack;
 
-impl<B: Standing> Play<Option<Box<B>>, PassView> for LookBack {
+impl<B: AccountView> Play<Option<Box<B>>, PassView> for LookBack {
     ghost use Rattle.account_lock.specs.Steps.{looked_back};
 
     ghost then = { λ _. looked_back };

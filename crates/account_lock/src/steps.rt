@@ -3,11 +3,11 @@ ghost use Rattle.std.specs.Prelude.{◌≡◌, ◌%◌, ◌^◌, ◌<◌, ◌∷
 ghost use Rattle.account_lock.specs.Entries.{StartsWith, ExtendsUnder, under};
 ghost use Rattle.account_lock.specs.Steps.{IsLockTable, Got, drew};
 
+use crate::account_view::AccountView;
 use crate::rule::{
     DrawTicket, LeaveEmpty, LockSeat, LookBack, MarkParked, PassTurn, TakeEmpty, TryTicket,
     WatchServing, Words,
 };
-use crate::standing::Standing;
 use std::hint;
 use std::sync::Wait;
 
@@ -31,7 +31,7 @@ const LOOKS_BEFORE_DRAWING: u32 = 3 * (LOOKS_BEFORE_PARKING + 1);
 // so that threads that don't run mostly hold none, and those that run needn't wait for them. A
 // thread that has parked some times without finding the lock free draws in any case, and so has its
 // turn in the order of tickets.
-pub(crate) fn draw_ticket<B: Standing, R: Wait>(
+pub(crate) fn draw_ticket<B: AccountView, R: Wait>(
     rt: &R,
     words: &Words<B>,
     seat: &mut LockSeat<B>,
@@ -53,7 +53,7 @@ pub(crate) fn draw_ticket<B: Standing, R: Wait>(
 }
 
 // Draws the ticket with this number if the ticket word still shows it, and returns whether it did.
-fn try_ticket<B: Standing>(words: &Words<B>, seat: &mut LockSeat<B>, found: u64) -> bool
+fn try_ticket<B: AccountView>(words: &Words<B>, seat: &mut LockSeat<B>, found: u64) -> bool
     requires table { (seat.old.table_id ≡ words.now.table_id) × IsLockTable words.now.table_id }
     requires ready { (seat.old.me.0.waits ≡ false) × (0 < seat.old.me.0.name) }
     ensures table { seat.new.table_id ≡ seat.old.table_id }
@@ -65,7 +65,7 @@ fn try_ticket<B: Standing>(words: &Words<B>, seat: &mut LockSeat<B>, found: u64)
 }
 
 // Waits until the ticket is served. The thread then has the slot, with the value in it.
-pub(crate) fn await_turn<B: Standing, R: Wait>(
+pub(crate) fn await_turn<B: AccountView, R: Wait>(
     rt: &R,
     words: &Words<B>,
     seat: &mut LockSeat<B>,
@@ -93,7 +93,7 @@ pub(crate) fn await_turn<B: Standing, R: Wait>(
 
 // Proceeds to the next look, and returns how many there were. A waiter looks a thousand times,
 // since most turns are short, and then parks until somebody passes a turn on.
-fn look_again<B: Standing, R: Wait>(
+fn look_again<B: AccountView, R: Wait>(
     rt: &R,
     words: &Words<B>,
     seat: &mut LockSeat<B>,
@@ -114,7 +114,7 @@ fn look_again<B: Standing, R: Wait>(
 // Parks while the serving word is as it was found, until somebody passes that turn on. It first
 // writes over which turn it parks into the parked word. Whoever passes that turn on finds it there,
 // or else passed the turn on before, and then the thread doesn't park.
-fn park<B: Standing, R: Wait>(rt: &R, words: &Words<B>, seat: &mut LockSeat<B>, found: u64)
+fn park<B: AccountView, R: Wait>(rt: &R, words: &Words<B>, seat: &mut LockSeat<B>, found: u64)
     requires table { (seat.old.table_id ≡ words.now.table_id) × IsLockTable words.now.table_id }
     ensures { (seat.new.table_id ≡ seat.old.table_id) × (seat.new.me ≡ seat.old.me) }
 {
@@ -123,7 +123,7 @@ fn park<B: Standing, R: Wait>(rt: &R, words: &Words<B>, seat: &mut LockSeat<B>, 
 }
 
 // Takes the value out of the slot, once the turn has come.
-pub(crate) fn lift<B: Standing>(words: &Words<B>, seat: &mut LockSeat<B>) -> Box<B>
+pub(crate) fn lift<B: AccountView>(words: &Words<B>, seat: &mut LockSeat<B>) -> Box<B>
     requires table { (seat.old.table_id ≡ words.now.table_id) × IsLockTable words.now.table_id }
     requires ready { (seat.old.me.0.turn ≡ true) × ((y : _) × (seat.old.me.1 ≡ (0, Some y) ∷ [])) }
     ensures table { seat.new.table_id ≡ seat.old.table_id }
@@ -139,7 +139,7 @@ pub(crate) fn lift<B: Standing>(words: &Words<B>, seat: &mut LockSeat<B>) -> Box
 
 // Puts the value back into the slot, and passes the turn on. All parked threads are woken, since
 // only one has the next ticket.
-pub(crate) fn lay_back<B: Standing>(words: &Words<B>, seat: &mut LockSeat<B>, value: Box<B>)
+pub(crate) fn lay_back<B: AccountView>(words: &Words<B>, seat: &mut LockSeat<B>, value: Box<B>)
     requires table { (seat.old.table_id ≡ words.now.table_id) × IsLockTable words.now.table_id }
     requires ready { (seat.old.me.0.away ≡ true) × (seat.old.me.0.turn ≡ true)
         × (seat.old.me.1 ≡ []) }
@@ -174,7 +174,7 @@ pub(crate) fn lay_back<B: Standing>(words: &Words<B>, seat: &mut LockSeat<B>, va
 }
 
 // Loads a word after a pass was joined, to learn what the rule says then.
-pub(crate) fn look_back<B: Standing>(words: &Words<B>, seat: &mut LockSeat<B>)
+pub(crate) fn look_back<B: AccountView>(words: &Words<B>, seat: &mut LockSeat<B>)
     requires table { (seat.old.table_id ≡ words.now.table_id) × IsLockTable words.now.table_id }
     ensures seat { (seat.new.table_id ≡ seat.old.table_id) × (seat.new.me ≡ seat.old.me) }
     ensures heard { StartsWith seat.old.me.0.seen seat.old.me.0.heard }

@@ -3,26 +3,31 @@
 use Rattle.std.specs.Prelude.{◌≡◌, ◌⊎◌, ℕ, List, [], ◌∷◌, ◌++◌, Bool, false, cond, ◌==◌}
 use Rattle.serde_json.specs.Written.{compact_text}
 use Rattle.jm_json.specs.Tree.{Tree}
-use Rattle.jm_json.specs.Data.{data_of}
+use Rattle.jm_json.specs.JsonValues.{data_of}
 use Rattle.jm_json.specs.Json.{tree_of}
 use Rattle.jm_json.specs.Call.{Call}
 use Rattle.jm_json.specs.declared.invocation.Created.{Created}
 use Rattle.jm_json.specs.declared.invocation.Replied.{Replied}
 use Rattle.batch_lines.specs.declared.upload.Uploaded.{Uploaded}
+use Rattle.batch_lines.specs.Lines.{line_feed}
 use Rattle.batch_lines.specs.Uploads.{HasBegunUpload, IsUploadAnswer}
 use Rattle.method_batch.specs.Outcome.{IsAnswer, HasBegunAnswer}
 use Rattle.method_batch.specs.declared.outcome.Outcome.{Outcome}
 
 -- a JSON value as a line of text, with its line feed
 abbrev pub line_text : Tree → List ℕ
-line_text t = compact_text (data_of t) ++ 10 ∷ []
+line_text t = compact_text (data_of t) ++ line_feed ∷ []
 
--- the line begins with the byte `+`
+-- the byte `+`, with which the line of an upload begins
+abbrev pub plus_sign : ℕ
+plus_sign = 43
+
+-- the line begins with `+`
 abbrev pub begins_with_plus : List ℕ → Bool
 begins_with_plus [] = false
-begins_with_plus (x ∷ xs) = x == 43
+begins_with_plus (x ∷ xs) = x == plus_sign
 
--- ---- the reply to one line, where the port goes from the state s to s' meanwhile
+-- ---- the reply to one line, while the port goes from the state s to s'
 
 -- A request: its Response, or the problem for which it is rejected, as a line of text.
 abbrev pub IsRequestReply : {S : Type 0} → (S → Call → List Created → Replied → S → Type 0) → S
@@ -37,24 +42,23 @@ abbrev pub IsUploadReply : {S : Type 0} → (S → List ℕ → Uploaded → S �
 IsUploadReply uploads s s' string reply =
     (t : Tree) × IsUploadAnswer uploads s s' string t × (reply ≡ line_text t)
 
--- An empty line has no reply, one that begins with `+` (the byte 43) is an upload, and any other
+-- An empty line has no reply, one that begins with `+` is an upload, and any other
 -- one is a request.
 abbrev pub IsLineReply : {S : Type 0} → (S → Call → List Created → Replied → S → Type 0) → (S
     → List ℕ → Uploaded → S → Type 0) → S → S → List ℕ → List ℕ → Type 0
 IsLineReply answers uploads s s' [] reply = (s' ≡ s) × (reply ≡ [])
 IsLineReply answers uploads s s' (x ∷ xs) reply =
-    cond (x == 43) (IsUploadReply uploads s s' xs reply)
+    cond (x == plus_sign) (IsUploadReply uploads s s' xs reply)
     (IsRequestReply answers s s' (x ∷ xs) reply)
 
 -- A line whose answer ended out of memory: of a request the first calls were performed, and no
--- other; an upload was performed
--- or not.
+-- other; an upload was performed or not.
 abbrev pub HasBegunLine : {S : Type 0} → (S → Call → List Created → Replied → S → Type 0) → (S
     → List ℕ → Uploaded → S → Type 0) → (S → Call → List Created → S → Type 0) → (S → List ℕ → S
     → Type 0) → S → S → List ℕ → Type 0
 HasBegunLine answers uploads stops halts s s' [] = s' ≡ s
 HasBegunLine answers uploads stops halts s s' (x ∷ xs) =
-    cond (x == 43) (HasBegunUpload uploads halts s s' xs)
+    cond (x == plus_sign) (HasBegunUpload uploads halts s s' xs)
     (HasBegunAnswer answers stops s s' (x ∷ xs))
 
 -- ---- the replies to lines

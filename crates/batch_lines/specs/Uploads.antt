@@ -7,7 +7,8 @@ use Rattle.jm_json.specs.Tree.{Tree, number, text, object, fields_of}
 use Rattle.method_batch.specs.Outcome.{problem_tree}
 use Rattle.method_batch.specs.declared.outcome.Problem.TheVariants.{NotRequest}
 use Rattle.blob_ids.specs.BlobIds.{blob_text}
-use Rattle.batch_lines.specs.declared.limits.TheConstants.{MAX_UPLOAD_BYTES, MAX_UPLOAD_CHARACTERS}
+use Rattle.jm_base.specs.declared.limits.TheConstants.{MAX_UPLOAD_BYTES}
+use Rattle.batch_lines.specs.declared.limits.TheConstants.{MAX_UPLOAD_CHARACTERS}
 use Rattle.batch_lines.specs.declared.upload.Uploaded.{Uploaded}
 use Rattle.batch_lines.specs.declared.upload.Uploaded.TheVariants.{Kept, Full, Failed}
 

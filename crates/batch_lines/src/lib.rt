@@ -8,7 +8,7 @@ mod lines;
 mod upload;
 
 pub use fault::LinesFault;
-pub use limits::{MAX_INPUT_BYTES, MAX_UPLOAD_BYTES, MAX_UPLOAD_CHARACTERS};
+pub use limits::{MAX_INPUT_BYTES, MAX_UPLOAD_CHARACTERS};
 pub use line::append_line;
 pub use lines::answer_lines;
 pub use upload::{UploadPort, Uploaded};

@@ -1,10 +1,7 @@
 // The limits of an input, and the sizes of buffers.
 
 /// The most bytes that an input of lines may have: 1 GiB.
-pub const MAX_INPUT_BYTES: u64 = 1073741824;
-
-/// The most bytes that an upload may have (RFC 8620, section 6.1: maxSizeUpload).
-pub const MAX_UPLOAD_BYTES: u64 = 50_000_000;
+pub const MAX_INPUT_BYTES: u64 = 1_073_741_824;
 
 /// The characters of the base64 of an upload of the most bytes: four for each three bytes that are
 /// begun.
@@ -18,8 +15,5 @@ pub(crate) const MAX_HELD_REQUEST_BYTES: usize = 10_000_001;
 /// upload may have.
 pub(crate) const MAX_HELD_UPLOAD_BYTES: usize = 66_666_670;
 
-/// The bytes that are read at once.
-pub(crate) const READ_BUFFER_BYTES: usize = 65536;
-
 /// Replies are written as soon as this many bytes of them wait.
-pub(crate) const REPLY_BUFFER_BYTES: usize = 65536;
+pub(crate) const REPLY_BUFFER_BYTES: usize = 65_536;

@@ -6,10 +6,10 @@ ghost use Rattle.batch_lines.specs.Input.{seen, HasAnsweredInput, HasBegunInput}
 ghost use Rattle.batch_lines.specs.Faults.{ExplainsFault, StopsFor};
 
 use crate::fault::LinesFault;
-use crate::limits::{MAX_INPUT_BYTES, READ_BUFFER_BYTES, REPLY_BUFFER_BYTES};
+use crate::limits::{MAX_INPUT_BYTES, REPLY_BUFFER_BYTES};
 use crate::line::{cut_line, end_line, hold};
 use crate::upload::UploadPort;
-use jm_base::{Bytes, NoMemory};
+use jm_base::{Bytes, NoMemory, READ_BUFFER_BYTES};
 use jm_edge::{Sink, Source, put_all};
 use jm_json::Scratch;
 use std::alloc::Global;
@@ -143,10 +143,12 @@ fn answer_ended_line<P: UploadPort, O: Sink>(
     out: &mut O,
 ) -> Result<(), LinesFault>
     ensures ok { OnOk result (HasAnsweredAndPut P.answers
-        P.uploads port.old port.new (line.old ++ last.now) replies.old replies.new (O.held out.old) (O.held out.new)) }
+        P.uploads port.old port.new (line.old ++ last.now) replies.old replies.new
+        (O.held out.old) (O.held out.new)) }
     ensures begun { OnOk result (line.new ≡ []) }
     ensures err { OnErr result (HasStoppedAndPut P.answers P.uploads P.stops
-        P.halts port.old port.new (line.old ++ last.now) replies.old (O.held out.old) (O.held out.new)) }
+        P.halts port.old port.new (line.old ++ last.now) replies.old
+        (O.held out.old) (O.held out.new)) }
     ensures later { O.faults out.old ≤ O.faults out.new }
     ensures reason { IfErr result (λ e. StopsFor e (O.faults out.old) (O.faults out.new)) }
 {

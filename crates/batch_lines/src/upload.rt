@@ -1,16 +1,17 @@
 // Uploads, each a line that begins with `+` (RFC 8620, section 6.1).
 ghost use Rattle.std.specs.Prelude.{◌≡◌, ◌≤◌, ℕ, List, Some, IfOk, OnErr};
+ghost use Rattle.jm_base.specs.declared.limits.TheConstants.{MAX_UPLOAD_BYTES};
 ghost use Rattle.jm_json.specs.Json.{tree_of};
 ghost use Rattle.method_batch.specs.Outcome.{problem_tree};
 ghost use Rattle.method_batch.specs.declared.outcome.Problem.TheVariants as problem;
 ghost use Rattle.batch_lines.specs.Uploads.{HasBegunBytes, HasBegunUpload, IsAnswerToBytes, IsUploadAnswer, base64_bytes, failure_tree, limit_tree, upload_tree};
 ghost use Rattle.batch_lines.specs.declared.upload.Uploaded.{Uploaded as TheUploaded};
 
-use crate::limits::{MAX_UPLOAD_BYTES, MAX_UPLOAD_CHARACTERS};
+use crate::limits::MAX_UPLOAD_CHARACTERS;
 use base64::DecodeAllocError;
 use base64::engine::general_purpose::STANDARD;
 use blob_ids::{BlobId, write_blob_id};
-use jm_base::{Bytes, NoMemory, Text};
+use jm_base::{Bytes, MAX_UPLOAD_BYTES, NoMemory, Text};
 use jm_json::{Json, Members};
 use method_batch::{Outcome, Port, Problem};
 use std::alloc::Global;
@@ -85,7 +86,7 @@ fn show_failure(alloc: Global) -> Result<Json, NoMemory>
     Ok(Json::Object(members))
 }
 
-// Returns what is shown of the answer to an upload of so many bytes.
+// Returns the JSON view of the answer to an upload of so many bytes.
 fn show_upload(alloc: Global, size: u64, uploaded: Uploaded) -> Result<Json, NoMemory>
     requires { size ≤ MAX_UPLOAD_BYTES }
     ensures { IfOk result (λ t. tree_of t ≡ upload_tree size uploaded) }
@@ -115,7 +116,7 @@ fn upload_bytes<P: UploadPort>(alloc: Global, port: &mut P, bytes: Bytes) -> Res
     ensures err { OnErr result (HasBegunBytes P.uploads P.halts port.old port.new (Some bytes)) }
 {
     let size = bytes.len() as u64;
-    if size > MAX_UPLOAD_BYTES {
+    if size > MAX_UPLOAD_BYTES as u64 {
         return show_limit(alloc, "maxSizeUpload");
     }
     match port.upload(alloc, bytes) {

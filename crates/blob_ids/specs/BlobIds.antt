@@ -7,21 +7,29 @@ use Rattle.std.specs.Str.Parse.{digits_value}
 use Rattle.jm_base.specs.declared.identifiers.TheConstants.{NUMBER_LIMIT}
 use Rattle.blob_ids.specs.declared.ids.BlobId.{BlobId}
 
+-- the byte `b`, which an identifier begins with
+abbrev pub blob_letter : ℕ
+blob_letter = 98
+
+-- the byte `-`, before the number of a leaf
+abbrev pub dash : ℕ
+dash = 45
+
 -- ---- as they are written
 
 -- `b`, and the blob's number in decimal
 abbrev pub blob_text : ℕ → List ℕ
-blob_text number = 98 ∷ decimal number
+blob_text number = blob_letter ∷ decimal number
 
 -- a leaf's has a dash after that, and the leaf's number in decimal
 abbrev pub leaf_text : Option ℕ → List ℕ
 leaf_text None = []
-leaf_text (Some leaf) = 45 ∷ decimal leaf
+leaf_text (Some leaf) = dash ∷ decimal leaf
 
 abbrev pub blob_id_text : BlobId → List ℕ
 blob_id_text id = blob_text id.blob ++ leaf_text id.leaf
 
--- the numbers of an identifier are below 2^53
+-- the numbers of an identifier are below `NUMBER_LIMIT`
 pub record IsBlobId (id : BlobId) : Type 0 where
   pub blob : id.blob < NUMBER_LIMIT
   pub leaf : ForSome id.leaf (λ n. n < NUMBER_LIMIT)
@@ -31,18 +39,18 @@ pub record IsBlobId (id : BlobId) : Type 0 where
 abbrev pub number_if : ℕ → List ℕ → Option ℕ
 number_if n text = cond (nat_lt n NUMBER_LIMIT && bytes_eq (decimal n) text) (Some n) None
 
--- the number below 2^53 whose decimal the text is
+-- the number below `NUMBER_LIMIT` whose decimal the string is
 abbrev pub number_in : List ℕ → Option ℕ
 number_in text = number_if (digits_value 10 text) text
 
--- the text before its first dash, and what follows the dash
+-- the string before its first dash, and what follows the dash
 abbrev pub before_dash : List ℕ → List ℕ
 before_dash [] = []
-before_dash (x ∷ xs) = cond (x == 45) [] (x ∷ before_dash xs)
+before_dash (x ∷ xs) = cond (x == dash) [] (x ∷ before_dash xs)
 
 abbrev pub after_dash : List ℕ → Option (List ℕ)
 after_dash [] = None
-after_dash (x ∷ xs) = cond (x == 45) (Some xs) (after_dash xs)
+after_dash (x ∷ xs) = cond (x == dash) (Some xs) (after_dash xs)
 
 abbrev pub blob_with : Option ℕ → Option BlobId
 blob_with None = None
@@ -64,7 +72,7 @@ id_with blob (Some leaf) = leaf_with (number_in blob) (number_in leaf)
 abbrev pub numbers_in : List ℕ → Option BlobId
 numbers_in text = id_with (before_dash text) (after_dash text)
 
--- the identifier that a text is
+-- the identifier that a string is
 abbrev pub blob_id_in : List ℕ → Option BlobId
 blob_id_in [] = None
-blob_id_in (x ∷ xs) = cond (x == 98) (numbers_in xs) None
+blob_id_in (x ∷ xs) = cond (x == blob_letter) (numbers_in xs) None

@@ -40,7 +40,7 @@ fn cut_at_dash(text: &[u8]) -> Option<Cut<'_>>
     }
 }
 
-// Returns the number below 2^53 whose decimal a text is.
+// Returns the number below `NUMBER_LIMIT` whose decimal a string is.
 fn read_number(text: &[u8]) -> Option<u64>
     ensures { result ≡ number_in text.now }
 {
@@ -80,7 +80,7 @@ fn read_numbers(text: &[u8]) -> Option<BlobId>
 
 /// Returns the identifier that a text is, or None if it is none: `b` and the blob's number in
 /// decimal, and for a leaf a dash and
-/// the leaf's number in decimal. The numbers are below 2^53 and have no leading zero.
+/// the leaf's number in decimal. The numbers are below `NUMBER_LIMIT` and have no leading zero.
 pub fn read_blob_id(text: &[u8]) -> Option<BlobId>
     ensures { result ≡ blob_id_in text.now }
 {

@@ -1,9 +1,8 @@
--- What is added to lists, and what follows a place of them.
+-- What is added to lists, and what follows an index of them.
 use Rattle.std.proofs.Common.{◌≡◌, ℕ, zero, suc, ◌<◌, ◌≤◌, Bool, true, List, [], ◌∷◌, ◌++◌, length, take, drop, get_or, refl, ap, append_assoc, append-nil, arith}
 use Rattle.std.specs.Prelude.{is_some, if◌then◌else◌}
-use Rattle.mime_type.specs.Node.{Node}
-use Rattle.mime_type.specs.PartTrees.{none, part_count}
-use Rattle.mime_type.specs.Joined.{tree_of, joined}
+use Rattle.mime_type.specs.PartTrees.{Node, none, part_count}
+use Rattle.mime_type.specs.PartViews.{tree_of, joined}
 use Rattle.mime_type.specs.declared.part.Part.{Part}
 use Rattle.body_lists.specs.Lists.{Lists, Open, Place, both, nothing, or_else, ended, inside, item_gives, leaf_gives}
 
@@ -27,7 +26,7 @@ part_size [] i d h = absurd (omega arith)
 part_size (p ∷ ps) zero d h = omega arith
 part_size (p ∷ ps) (suc i) d h = omega (arith, part_size ps i d (omega arith))
 
--- a list that got nothing by the time the other is looked at
+-- a list to which nothing was added when the other is looked at
 pub or_else-twice : (a b : List ℕ) → or_else a (or_else b a) ≡ or_else a b
 or_else-twice [] [] = refl
 or_else-twice [] (n ∷ ns) = refl

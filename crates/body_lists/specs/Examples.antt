@@ -1,8 +1,7 @@
 -- Trees of messages for examples.
 use Rattle.std.specs.Prelude.{ℕ, List, ◌++◌, Option, Some, None, codes}
 use Rattle.mime_codec.specs.declared.coding.Coding.TheVariants.{Plain}
-use Rattle.mime_type.specs.Node.{Node}
-use Rattle.mime_type.specs.PartTrees.{PartTrees, none, part}
+use Rattle.mime_type.specs.PartTrees.{Node, PartTrees, none, part}
 
 abbrev pub node : Option ℕ → List ℕ → Option (List ℕ) → Option (List ℕ) → Option (List ℕ) → Node
 node number media boundary disposition name = record {

@@ -1,3 +1,3 @@
 pub mod Lists
-pub mod Shown
+pub mod Views
 pub mod Examples

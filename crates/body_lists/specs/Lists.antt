@@ -2,10 +2,9 @@
 -- section 4.1.4).
 use Rattle.std.specs.Prelude.{ℕ, Bool, true, false, ◌&&◌, ◌||◌, not, List, [], ◌∷◌, ◌++◌, Option, Some, None, is_some, nat_eq, bytes_eq, codes, if◌then◌else◌}
 use Rattle.std.specs.List.{starts_with}
-use Rattle.mime_type.specs.Node.{Node}
-use Rattle.mime_type.specs.PartTrees.{PartTrees, none, part}
+use Rattle.mime_type.specs.PartTrees.{Node, PartTrees, none, part}
 
--- numbers of leaves, in walk order
+-- numbers of leaves (partId), in walk order
 pub record Lists : Type 0 where
   pub text : List ℕ
   pub html : List ℕ
@@ -14,7 +13,7 @@ pub record Lists : Type 0 where
 abbrev pub nothing : Lists
 nothing = record { text = []; html = []; attachments = [] }
 
--- what is added first, and what is added later
+-- the numbers that are added first, then those that are added later
 abbrev pub both : Lists → Lists → Lists
 both a b = record {
   text = a.text ++ b.text;
@@ -22,7 +21,7 @@ both a b = record {
   attachments = a.attachments ++ b.attachments;
 }
 
--- whether text and html are open: a list that is closed takes nothing
+-- whether the lists text and html are open: nothing is added to a closed list
 pub record Open : Type 0 where
   pub text : Bool
   pub html : Bool
@@ -71,7 +70,7 @@ abbrev pub is_attached : Option (List ℕ) → Bool
 is_attached None = false
 is_attached (Some disposition) = bytes_eq disposition (codes "attachment")
 
--- whether a leaf may be shown where it stands: no attachment, of a type that can be shown, and the
+-- whether a leaf may be shown where it is: no attachment, of a type that can be shown, and the
 -- first of its list, or else media or without a name, and in no related list
 abbrev pub is_shown_in_place : Place → Bool → Node → Bool
 is_shown_in_place place first x =
@@ -90,10 +89,10 @@ leaf_in text html attachments x = record {
   attachments = number_if attachments x;
 }
 
--- in an alternative plain text closes html and the other way round, for the rest of this list and
+-- in an alternative plain text closes html, and HTML closes text, for the rest of this list and
 -- what that contains. It isn't so in the list of the alternative itself.
-abbrev pub open_behind : Place → Bool → Open → Node → Open
-open_behind place first open' x =
+abbrev pub open_after : Place → Bool → Open → Node → Open
+open_after place first open' x =
     if is_shown_in_place place first x && (place.within && not place.alternative)
     then record { text = open'.text && not (is_html x); html = open'.html && not (is_plain x) }
     else open'
@@ -103,49 +102,49 @@ abbrev pub among_alternatives : Open → Node → Lists
 among_alternatives open' x =
     leaf_in (open'.text && is_plain x) (open'.html && is_html x) (not (is_plain x || is_html x)) x
 
--- elsewhere an item goes to text and to html; media that one of them doesn't take are attachments
+-- elsewhere an item is added to text and to html; media that aren't added to both are attachments
 -- too
 abbrev pub among_others : Open → Node → Lists
 among_others open' x =
     leaf_in open'.text open'.html (is_media x && not (open'.text && open'.html)) x
 
--- what a leaf gives
+-- what a leaf adds
 abbrev pub leaf_gives : Place → Bool → Open → Node → Lists
 leaf_gives place first open' x =
     if not (is_shown_in_place place first x) then leaf_in false false true x
     else (if place.alternative then among_alternatives open' x
-    else among_others (open_behind place first open' x) x)
+    else among_others (open_after place first open' x) x)
 
--- what replaces a list that got nothing
+-- another list in place of an empty one
 abbrev pub or_else : List ℕ → List ℕ → List ℕ
 or_else [] other = other
 or_else (n ∷ ns) other = n ∷ ns
 
--- at the end of an alternative: of text and html, both open, one that got nothing gets what the
--- other got
+-- at the end of an alternative, if text and html are both open: one to which nothing was added gets
+-- what was added to the other
 abbrev pub ended : Place → Open → Lists → Lists
 ended place open' new =
     if place.alternative && (open'.text && open'.html)
     then record new { text = or_else new.text new.html; html = or_else new.html new.text }
     else new
 
--- what an item gives, where the parts within it give this
+-- what an item adds, if the parts within it add this
 abbrev pub item_gives : Place → Bool → Open → Node → Lists → Lists
 item_gives place first open' x new =
     if is_multipart x then ended (inside place x) open' new else leaf_gives place first open' x
 
--- what the items of a list give, from one on that is its first or isn't. What is closed within an
+-- what the items of a list add, from one on that is its first or isn't. What is closed within an
 -- item is open again after it.
 abbrev pub given : Place → Bool → Open → PartTrees → Lists
 given place first open' none = nothing
 given place first open' (part x inner later) =
     both (item_gives place first open' x (given (inside place x) true open' inner))
-    (given place false (open_behind place first open' x) later)
+    (given place false (open_after place first open' x) later)
 
 -- the lists of a message by its tree
 abbrev pub lists_in : PartTrees → Lists
 lists_in tree = given top true (record { text = true; html = true }) tree
 
--- those of a part with these within it
+-- the lists of a part with these parts within it
 abbrev pub body_lists : Node → PartTrees → Lists
 body_lists x inner = lists_in (part x inner none)

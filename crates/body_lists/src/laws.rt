@@ -1,10 +1,10 @@
-// What the lists are of examples.
+// The lists of examples.
 ghost use Rattle.std.specs.Prelude.{◌≡◌, [], ◌∷◌, codes};
 ghost use Rattle.mime_type.specs.PartTrees.{none};
 ghost use Rattle.body_lists.specs.Lists.{lists_in};
 ghost use Rattle.body_lists.specs.Examples.{attached, example, leaf, multipart, named};
 
-/// The example of RFC 8621, section 4.1.4, and small ones.
+/// The lists of the example of RFC 8621, section 4.1.4, and of small ones.
 pub fn lists_of_examples()
     ensures example { lists_in example ≡ record {
       text = 1 ∷ 2 ∷ 3 ∷ 4 ∷ 10 ∷ [];

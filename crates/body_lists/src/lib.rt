@@ -8,4 +8,5 @@ mod tests;
 mod walk;
 
 pub use laws::lists_of_examples;
+pub use place::{is_html, is_plain};
 pub use walk::{BodyLists, lists};

@@ -1,8 +1,8 @@
-// Where an item stands, and what that says of it.
+// The list that an item is in, and what that says of it (RFC 8621, section 4.1.4).
 ghost use Rattle.std.specs.Prelude.{◌≡◌};
-ghost use Rattle.mime_type.specs.Joined.{node_of};
-ghost use Rattle.body_lists.specs.Lists.{is_plain as plain_node, is_html as html_node, is_media as media_node, is_attached as attached_by, is_shown_in_place, top as top_place, inside as place_inside, open_behind};
-ghost use Rattle.body_lists.specs.Shown.{open_of, place_of};
+ghost use Rattle.mime_type.specs.PartViews.{node_of};
+ghost use Rattle.body_lists.specs.Lists.{is_plain as plain_node, is_html as html_node, is_media as media_node, is_attached as attached_by, is_shown_in_place, top as top_place, inside as place_inside, open_after};
+ghost use Rattle.body_lists.specs.Views.{open_of, place_of};
 
 use mime_type::Part;
 
@@ -17,26 +17,28 @@ pub struct Place {
     pub within: bool,
 }
 
-/// Whether text and HTML still take items.
+/// Whether items are still added to the lists of text and of HTML.
 #[derive(Clone, Copy)]
 pub struct Open {
     pub text: bool,
     pub html: bool,
 }
 
+/// Returns whether a part is plain text: its type is `text/plain`.
 pub fn is_plain(part: &Part) -> bool
     ensures { result ≡ plain_node (node_of part.now) }
 {
     part.media.as_bytes() == b"text/plain".as_slice()
 }
 
+/// Returns whether a part is HTML: its type is `text/html`.
 pub fn is_html(part: &Part) -> bool
     ensures { result ≡ html_node (node_of part.now) }
 {
     part.media.as_bytes() == b"text/html".as_slice()
 }
 
-/// An image, a sound or a film.
+/// Returns whether a part is an image, a sound or a film.
 pub fn is_media(part: &Part) -> bool
     ensures { result ≡ media_node (node_of part.now) }
 {
@@ -54,7 +56,7 @@ fn is_attached(part: &Part) -> bool
 }
 
 impl Place {
-    /// The list of the message alone, as in a mixed multipart.
+    /// Returns the list of the message alone, as in a mixed multipart.
     pub fn top() -> Place
         ensures { place_of result ≡ top_place }
     {
@@ -65,7 +67,7 @@ impl Place {
         }
     }
 
-    /// The list of a multipart that is in this one.
+    /// Returns the list of a multipart that is in this one.
     pub fn inside(self, part: &Part) -> Place
         ensures { place_of result ≡ place_inside (place_of self) (node_of part.now) }
     {
@@ -79,7 +81,7 @@ impl Place {
         }
     }
 
-    /// Whether a part may be shown here, as the first of the list or not.
+    /// Returns whether a part may be shown here, as the first of the list or not.
     pub fn shows(self, first: bool, part: &Part) -> bool
         ensures { result ≡ is_shown_in_place (place_of self) first (node_of part.now) }
     {
@@ -94,9 +96,9 @@ impl Place {
 }
 
 impl Open {
-    /// What takes items after a part.
-    pub fn behind(self, place: Place, first: bool, part: &Part) -> Open
-        ensures { open_of result ≡ open_behind (place_of place) first (open_of self)
+    /// Returns which lists are open after a part.
+    pub fn after(self, place: Place, first: bool, part: &Part) -> Open
+        ensures { open_of result ≡ open_after (place_of place) first (open_of self)
             (node_of part.now) }
     {
         if place.shows(first, part) && place.within && !place.alternative {

@@ -1,9 +1,9 @@
 // The lists of a message, filled in one walk of its parts.
 ghost use Rattle.std.specs.Prelude.{◌≡◌, true, ◌++◌, ◌≤◌, take, drop, length, IfOk, OnOk};
 ghost use Rattle.mime_type.specs.PartTrees.{PartTrees, none};
-ghost use Rattle.mime_type.specs.Joined.{node_of, tree_of, joined};
-ghost use Rattle.body_lists.specs.Lists.{Lists, body_lists, both, given, inside, leaf_in, leaf_gives, ended, item_gives, nothing, number_if, open_behind, or_else};
-ghost use Rattle.body_lists.specs.Shown.{lists_of, open_of, place_of};
+ghost use Rattle.mime_type.specs.PartViews.{node_of, tree_of, joined};
+ghost use Rattle.body_lists.specs.Lists.{Lists, body_lists, both, given, inside, leaf_in, leaf_gives, ended, item_gives, nothing, number_if, open_after, or_else};
+ghost use Rattle.body_lists.specs.Views.{lists_of, open_of, place_of};
 
 use crate::place::{Open, Place, is_html, is_media, is_plain};
 use jm_base::{NoMemory, Numbers};
@@ -13,15 +13,15 @@ use std::alloc::Global;
 /// Numbers of leaves, each list in the order of the message.
 #[derive(Drop)]
 pub struct BodyLists {
-    /// The leaves that are shown where HTML isn't.
+    /// The leaves that are shown if HTML isn't (textBody).
     pub text: Numbers,
-    /// The leaves that are shown where HTML is.
+    /// The leaves that are shown if HTML is (htmlBody).
     pub html: Numbers,
-    /// The leaves that are in neither, and media that only one of the two takes.
+    /// The leaves that are in neither, and media that are in only one of the two (attachments).
     pub attachments: Numbers,
 }
 
-/// Puts a number at the end where it is chosen.
+/// Adds the number of a part at the end, if it is chosen.
 fn push_if(chosen: bool, numbers: &mut Numbers, part: &Part) -> Result<(), NoMemory>
     ensures { OnOk result (numbers.new ≡ numbers.old ++ number_if chosen (node_of part.now)) }
 {
@@ -35,7 +35,7 @@ fn push_if(chosen: bool, numbers: &mut Numbers, part: &Part) -> Result<(), NoMem
 }
 
 impl BodyLists {
-    /// Puts a leaf at the end of the lists that are chosen.
+    /// Adds a leaf at the end of the lists that are chosen.
     fn push(
         &mut self,
         text: bool,
@@ -51,6 +51,7 @@ impl BodyLists {
         push_if(attachments, &mut self.attachments, part)
     }
 
+    /// Adds a leaf to the lists that it belongs to.
     fn push_leaf(
         &mut self,
         place: Place,
@@ -75,13 +76,14 @@ impl BodyLists {
                 part,
             );
         }
-        let taking = taking.behind(place, first, part);
-        let beside = is_media(part) && !(taking.text && taking.html);
-        self.push(taking.text, taking.html, beside, part)
+        let taking = taking.after(place, first, part);
+        let attached = is_media(part) && !(taking.text && taking.html);
+        self.push(taking.text, taking.html, attached, part)
     }
 }
 
-/// Where nothing follows a place in one list, puts there what follows a place in another.
+/// If a list ends at the index `from`, adds there what is in another list from the index `place`
+/// on.
 fn fill(
     alloc: Global,
     numbers: &mut Numbers,
@@ -101,7 +103,7 @@ fn fill(
 }
 
 impl BodyLists {
-    /// Ends the list of a multipart whose items follow these places.
+    /// Ends the list of a multipart whose items are from these indexes on.
     fn end(
         &mut self,
         alloc: Global,
@@ -124,7 +126,7 @@ impl BodyLists {
     }
 }
 
-/// Adds what an item gives.
+/// Adds the leaves of an item.
 #[cycle(lists)]
 fn add_part(
     alloc: Global,
@@ -136,7 +138,8 @@ fn add_part(
 ) -> Result<(), NoMemory>
     ensures { OnOk result (lists_of out.new ≡ both (lists_of out.old)
         (item_gives (place_of place) first (open_of taking) (node_of part.now)
-        (given (inside (place_of place) (node_of part.now)) true (open_of taking) part.now.parts))) }
+        (given (inside (place_of place) (node_of part.now)) true (open_of taking)
+        part.now.parts))) }
 {
     if part.boundary.is_none() {
         return out.push_leaf(place, first, taking, part);
@@ -148,7 +151,7 @@ fn add_part(
     out.end(alloc, place, taking, text, html)
 }
 
-/// Adds what the items of a list give.
+/// Adds the leaves of the items of a list.
 #[cycle(lists)]
 fn add_parts(
     alloc: Global,
@@ -164,14 +167,14 @@ fn add_parts(
     let mut taking = taking;
     for part in parts {
         add_part(alloc, out, place, first, taking, part)?;
-        taking = taking.behind(place, first, part);
+        taking = taking.after(place, first, part);
         first = false;
     }
     Ok(())
 }
 
-/// The leaves of a part that are its text, its HTML and its attachments, in time linear in the
-/// parts.
+/// Returns the leaves of a part that are its text, its HTML and its attachments (RFC 8621, section
+/// 4.1.4), in time linear in the parts. It fails only if memory runs out.
 pub fn lists(alloc: Global, part: &Part) -> Result<BodyLists, NoMemory>
     ensures { IfOk result (λ l. lists_of l ≡ body_lists (node_of part.now) part.now.parts) }
 {

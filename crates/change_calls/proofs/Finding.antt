@@ -9,7 +9,7 @@ use Rattle.mail_records.specs.States.{Reaches, last_position, state_at}
 use Rattle.mail_records.proofs.Reached.{state_at-end}
 use Rattle.state_log.specs.Logs.{IsLogOf, Notes, ids_in, log_end}
 use Rattle.state_log.proofs.Agreement.{Reaches-history, Reaches-log, log_end-of, state_of-log}
-use Rattle.change_calls.specs.Changes.{answer_of, answer_since, answer_within, answered, bad_maximum, cannot_calculate, maximum_of, page_end, page_of, reached_state}
+use Rattle.change_calls.specs.Changes.{answer_of, answer_since, answer_within, answered, invalid_maximum, cannot_calculate, maximum_of, page_end, page_of, reached_state}
 use Rattle.change_calls.specs.declared.page.ChangePage.{ChangePage}
 use Rattle.change_calls.proofs.Exact.{reached_state-none, reached_state-read}
 
@@ -45,7 +45,7 @@ answer_page h kind text asked max from page maximum state is =
 pub answer_untold : (h : History) (kind : Kind) (text : List ℕ) (asked : Option ℤ) (max : Option ℕ) → Some max ≡ maximum_of asked → None ≡ reached_state h kind text → answer_of h kind text asked ≡ cannot_calculate
 answer_untold h kind text asked max maximum state = ap (answer_within h kind text) (sym maximum) ∙ ap (answer_since h kind max) (sym state)
 
-pub answer_bad : (h : History) (kind : Kind) (text : List ℕ) (asked : Option ℤ) → None ≡ maximum_of asked → answer_of h kind text asked ≡ bad_maximum
-answer_bad h kind text asked maximum = ap (answer_within h kind text) (sym maximum)
+pub answer_invalid : (h : History) (kind : Kind) (text : List ℕ) (asked : Option ℤ) → None ≡ maximum_of asked → answer_of h kind text asked ≡ invalid_maximum
+answer_invalid h kind text asked maximum = ap (answer_within h kind text) (sym maximum)
 
-pub ruleset answers = (answer_page, answer_untold, answer_bad)
+pub ruleset answers = (answer_page, answer_untold, answer_invalid)

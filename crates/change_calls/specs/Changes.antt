@@ -127,7 +127,7 @@ reached_state h kind text = greatest_upto (is_state_of h kind text) (end_of h)
 -- what a call for changes is answered
 pub data Answer : Type 0 where
   answered : (page : ChangePage) → Answer
-  bad_maximum : Answer
+  invalid_maximum : Answer
   cannot_calculate : Answer
 
 abbrev pub answer_since : History → Kind → Option ℕ → Option ℕ → Answer
@@ -135,7 +135,7 @@ answer_since h kind max None = cannot_calculate
 answer_since h kind max (Some from) = answered (page_of h kind from (page_end h kind max from))
 
 abbrev pub answer_within : History → Kind → List ℕ → Option (Option ℕ) → Answer
-answer_within h kind text None = bad_maximum
+answer_within h kind text None = invalid_maximum
 answer_within h kind text (Some max) = answer_since h kind max (reached_state h kind text)
 
 -- The answer to a call for the changes of a kind since a state, with a maximum or none. The
@@ -143,11 +143,11 @@ answer_within h kind text (Some max) = answer_since h kind max (reached_state h 
 abbrev pub answer_of : History → Kind → List ℕ → Option ℤ → Answer
 answer_of h kind text max = answer_within h kind text (maximum_of max)
 
--- why there is no page; out of memory explains itself
-abbrev pub Explains : ChangeFault → Answer → Type 0
-Explains CannotCalculate a = a ≡ cannot_calculate
-Explains BadMaximum a = a ≡ bad_maximum
-Explains NoMemory a = ⊤
+-- a call for changes fails with this fault instead of this answer; memory may run out in any call
+abbrev pub ChangesFail : ChangeFault → Answer → Type 0
+ChangesFail CannotCalculate a = a ≡ cannot_calculate
+ChangesFail BadMaximum a = a ≡ invalid_maximum
+ChangesFail NoMemory a = ⊤
 
 -- the log is that of the history, whose edits fit one after the other
 pub record IsKeptBy (l : Notes) (h : History) : Type 0 where

@@ -42,8 +42,8 @@ pub record BringsUpToDate (h : History) (from upto : ℕ) : Type 0 where
   pub threads : (n : ℕ) → brought h OfThread from upto thread_at n ≡ thread_at (content_at h upto) n
 
 -- The next page continues from the new state of a page as from the position where the page ends:
--- the records of the kind are the same at both, and whatever the later position, the edits of the
--- kind since both name the same records.
+-- both have the same records of the kind, and for every later position the edits of the kind since
+-- both name the same records.
 pub record GoesOn (h : History) (kind : Kind) (state p : ℕ) : Type 0 where
   pub reached : Reaches h kind state
   pub same : SameRecords kind (content_at h p) (content_at h state)

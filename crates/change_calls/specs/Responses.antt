@@ -9,7 +9,7 @@ use Rattle.mail_records.specs.Histories.{History}
 use Rattle.method_args.specs.Arguments.{Form, find_invalid, integer_in, text_in}
 use Rattle.method_args.specs.declared.form.Presence.TheVariants.{Required, Nullable}
 use Rattle.method_args.specs.declared.form.Shape.TheVariants.{String, Integer}
-use Rattle.change_calls.specs.Changes.{Answer, answered, bad_maximum, cannot_calculate, answer_of}
+use Rattle.change_calls.specs.Changes.{Answer, answered, invalid_maximum, cannot_calculate, answer_of}
 use Rattle.change_calls.specs.declared.page.ChangePage.{ChangePage}
 use Rattle.change_calls.specs.declared.response.CallFault.{CallFault}
 use Rattle.change_calls.specs.declared.response.CallFault.TheVariants.{Invalid, CannotCalculate, NoMemory}
@@ -86,8 +86,8 @@ page_tree kind account since page =
 
 -- ---- the outcome of a call
 
--- An argument is invalid (none is named where the arguments are no object), or the state is not one
--- from which changes can be told, or these are the arguments of the response.
+-- An argument is invalid (the name is empty if the arguments are no object), or the changes since
+-- the state cannot be calculated, or these are the arguments of the response.
 pub data Outcome : Type 0 where
   invalid : (argument : List ℕ) → Outcome
   cannot_tell : Outcome
@@ -95,7 +95,7 @@ pub data Outcome : Type 0 where
 
 abbrev pub outcome_by : Kind → List ℕ → List ℕ → Answer → Outcome
 outcome_by kind account since (answered page) = replied (page_tree kind account since page)
-outcome_by kind account since bad_maximum = invalid (codes "maxChanges")
+outcome_by kind account since invalid_maximum = invalid (codes "maxChanges")
 outcome_by kind account since cannot_calculate = cannot_tell
 
 abbrev pub outcome_with : History → Kind → List (List ℕ × Tree) → Option (List ℕ) → Outcome

@@ -139,7 +139,7 @@ pub fn collect_numbers(
     Ok(Numbers::from_vec(numbers))
 }
 
-/// Whether each record that is there before and after was changed only in its counts.
+/// Returns whether each record that is there before and after was changed only in its counts.
 pub fn are_counts(marks: &BTreeMap<u64, Mark>) -> bool
     ensures { result ≡ are_counts marks.now.entries }
 {

@@ -3,7 +3,7 @@ ghost use Rattle.std.specs.Prelude.{◌≡◌, ◌≤◌, ◌==◌, false, not, 
 ghost use Rattle.mail_records.specs.Histories.{History};
 ghost use Rattle.mail_records.specs.States.{state_at};
 ghost use Rattle.state_log.specs.Logs.{IsLogOf, log_end};
-ghost use Rattle.change_calls.specs.Changes.{Explains, IsKeptBy, answer_of, answered, is_some_there, maximum_of, page_end, page_of, positive, reached_state};
+ghost use Rattle.change_calls.specs.Changes.{ChangesFail, IsKeptBy, answer_of, answered, is_some_there, maximum_of, page_end, page_of, positive, reached_state};
 ghost use Rattle.change_calls.specs.Marks.{page_with};
 
 use crate::marks::{Mark, are_counts, collect_numbers, mark_notes};
@@ -145,7 +145,7 @@ pub fn changes(
     ensures page { IfOk result (λ page. (h : History) → IsKeptBy log.now h
         → answer_of h kind since.now max ≡ answered page) }
     ensures fault { IfErr result (λ fault. (h : History) → IsKeptBy log.now h
-        → Explains fault (answer_of h kind since.now max)) }
+        → ChangesFail fault (answer_of h kind since.now max)) }
 {
     match read_maximum(max) {
         Some(max) => match find_state(log, kind, since) {

@@ -13,9 +13,9 @@ use Rattle.filter_terms.specs.EmailTerms.{email_term_holds, keyword_holds}
 use Rattle.filter_terms.specs.Filters.{by_operator, conditions_say, holds, if_joined, if_term_holds, items_say, list_says, members_hold, operator_in}
 use Rattle.filter_terms.specs.Laws.{EmailsDecide, MailboxesDecide}
 use Rattle.filter_terms.specs.Names.{operator_of, term_of}
-use Rattle.filter_terms.specs.Seen.{AMailbox, AnEmail, Seen, Target, of_thread, seen_in}
+use Rattle.filter_terms.specs.Targets.{AMailbox, AnEmail, Seen, Target, of_thread, seen_in}
 use Rattle.filter_terms.specs.Texts.{MessageTexts}
-use Rattle.filter_terms.specs.Wide.{conditions_wide, is_wide, is_wide_email, is_wide_term, is_wide_test, items_wide, list_wide, members_wide, object_wide}
+use Rattle.filter_terms.specs.ThreadScope.{conditions_wide, is_wide, is_wide_email, is_wide_term, is_wide_test, items_wide, list_wide, members_wide, object_wide}
 use Rattle.filter_terms.specs.declared.terms.KeywordTest.{KeywordTest}
 use Rattle.filter_terms.specs.declared.terms.KeywordTest.TheVariants.{AllInThread, SomeInThread, NoneInThread, Has, HasNot}
 use Rattle.filter_terms.specs.declared.terms.EmailTerm.{EmailTerm}

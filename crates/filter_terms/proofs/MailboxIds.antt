@@ -11,7 +11,7 @@ use Rattle.jm_base.specs.declared.identifiers.Kind.TheVariants.{Mailbox as OfMai
 use Rattle.mail_counts.specs.Views.{mailbox_id}
 use Rattle.method_args.specs.Arguments.{passes}
 use Rattle.filter_terms.specs.EmailTerms.{is_mailbox_id}
-use Rattle.filter_terms.specs.Ready.{is_other_than}
+use Rattle.filter_terms.specs.Compiled.{is_other_than}
 use Rattle.filter_terms.proofs.Lists.{any_same}
 
 abbrev IsIdText : List ℕ → ℕ → Type 0

@@ -1,15 +1,15 @@
 -- What terms say, by their kind.
 use Rattle.std.proofs.Common.{◌≡◌, List, [], ◌∷◌, map, Bool, true, Vec, Global, refl, sym, ap, ◌∙◌}
 use Rattle.filter_terms.specs.Filters.{joined}
-use Rattle.filter_terms.specs.Ready.{condition_says, mailbox_condition_says, says_step, says, say_all}
-use Rattle.filter_terms.specs.Seen.{Target}
+use Rattle.filter_terms.specs.Compiled.{condition_says, mailbox_condition_says, says_step, says, say_all}
+use Rattle.filter_terms.specs.Targets.{Target}
 use Rattle.filter_terms.specs.declared.terms.Operator.{Operator}
 use Rattle.filter_terms.specs.declared.conditions.EmailCondition.{EmailCondition}
 use Rattle.filter_terms.specs.declared.conditions.MailboxCondition.{MailboxCondition}
-use Rattle.filter_terms.specs.declared.ready.Terms.{Terms}
-use Rattle.filter_terms.specs.declared.ready.Terms.TheVariants.{Always, OfEmail, OfMailbox, Join, rolls-Always, rolls-OfEmail, rolls-OfMailbox, rolls-Join}
-use Rattle.filter_terms.specs.declared.ready.Terms.TheOpen.{Always as Always-F, OfEmail as OfEmail-F, OfMailbox as OfMailbox-F, Join as Join-F}
-use Rattle.filter_terms.specs.declared.ready.Terms.TheFolds.{fold-roll-Terms}
+use Rattle.filter_terms.specs.declared.compiled.Terms.{Terms}
+use Rattle.filter_terms.specs.declared.compiled.Terms.TheVariants.{Always, OfEmail, OfMailbox, Join, rolls-Always, rolls-OfEmail, rolls-OfMailbox, rolls-Join}
+use Rattle.filter_terms.specs.declared.compiled.Terms.TheOpen.{Always as Always-F, OfEmail as OfEmail-F, OfMailbox as OfMailbox-F, Join as Join-F}
+use Rattle.filter_terms.specs.declared.compiled.Terms.TheFolds.{fold-roll-Terms}
 
 said : (x : Target) (ts : List Terms) → map (λ (f : Target → Bool). f x) (map says ts) ≡ say_all ts x
 said x [] = refl

@@ -14,7 +14,7 @@ use Rattle.mail_records.proofs.Unique.{key_equal}
 use Rattle.mail_records.specs.declared.entries.Threaded.{Threaded}
 use Rattle.mail_records.specs.declared.records.Email.{Email}
 use Rattle.method_args.specs.Arguments.{passes}
-use Rattle.filter_terms.specs.Seen.{of_thread}
+use Rattle.filter_terms.specs.Targets.{of_thread}
 use Rattle.filter_terms.proofs.Lists.{In, all_at, all_from, any_found, any_here, found_in, in_found, in_kept, in_map, map_in, of_kept, same_tests}
 
 -- the key of an entry, whatever the email

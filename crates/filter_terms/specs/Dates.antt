@@ -2,11 +2,12 @@
 use Rattle.std.specs.Prelude.{ℕ, ℤ, pos, List, take, drop, Bool, ◌&&◌, nat_le, Option, Some, None, if◌then◌else◌, codes}
 use Rattle.jiff_core.specs.Calendar.{days_in_month}
 use Rattle.jm_base.specs.UtcDates.{DateTime, date_time_in, date_time_seconds, is_end, is_laid_out}
+use Rattle.jm_base.specs.declared.utc_dates.TheConstants.{LAST_YEAR}
 
--- a day that the calendar has, of the years 0001 to 9999
+-- a day that the calendar has, of the years 1 to `LAST_YEAR`
 abbrev pub is_day : DateTime → Bool
 is_day c =
-    nat_le 1 c.year && nat_le c.year 9999 && nat_le 1 c.month && nat_le c.month 12
+    nat_le 1 c.year && nat_le c.year LAST_YEAR && nat_le 1 c.month && nat_le c.month 12
     && nat_le 1 c.day && nat_le c.day (days_in_month (pos c.year) c.month)
 
 -- a second of a day

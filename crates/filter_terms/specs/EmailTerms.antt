@@ -10,7 +10,7 @@ use Rattle.mail_counts.specs.Counts.{has_keyword}
 use Rattle.mail_counts.specs.Views.{mailbox_id}
 use Rattle.mail_records.specs.declared.records.Email.{Email}
 use Rattle.method_args.specs.Arguments.{as_count, as_flag, as_strings, passes}
-use Rattle.filter_terms.specs.Seen.{Seen}
+use Rattle.filter_terms.specs.Targets.{Seen}
 use Rattle.filter_terms.specs.Texts.{MessageTexts, has_field, has_text}
 use Rattle.filter_terms.specs.Values.{FieldTest, as_date, as_field_test}
 use Rattle.filter_terms.specs.declared.terms.KeywordTest.{KeywordTest}
@@ -18,7 +18,8 @@ use Rattle.filter_terms.specs.declared.terms.KeywordTest.TheVariants.{AllInThrea
 use Rattle.filter_terms.specs.declared.terms.EmailTerm.{EmailTerm}
 use Rattle.filter_terms.specs.declared.terms.EmailTerm.TheVariants.{InMailbox, InMailboxOtherThan, Before, After, MinSize, MaxSize, Keyword, HasAttachment, Contains, Header}
 
--- the text is the id of the mailbox of this number; ids are of numbers from 1 and below 2^53
+-- the text is the id of the mailbox of this number; ids are of numbers from 1 and below
+-- `NUMBER_LIMIT`
 abbrev pub is_mailbox_id : List ℕ → ℕ → Bool
 is_mailbox_id id m = nat_le 1 m && nat_lt m NUMBER_LIMIT && bytes_eq (mailbox_id m) id
 

@@ -13,7 +13,7 @@ use Rattle.method_args.specs.Arguments.{passes}
 use Rattle.filter_terms.specs.EmailTerms.{email_term_holds}
 use Rattle.filter_terms.specs.MailboxTerms.{mailbox_term_holds}
 use Rattle.filter_terms.specs.Names.{operator_of, term_of}
-use Rattle.filter_terms.specs.Seen.{Target, AnEmail, AMailbox, seen_at}
+use Rattle.filter_terms.specs.Targets.{Target, AnEmail, AMailbox, seen_at}
 use Rattle.filter_terms.specs.Texts.{MessageTexts}
 use Rattle.filter_terms.specs.declared.terms.Operator.{Operator}
 use Rattle.filter_terms.specs.declared.terms.Operator.TheVariants.{And, Or, Not}

@@ -32,7 +32,7 @@ fits_email HasAttachment t = is_some (as_flag t)
 fits_email (Contains place) t = is_some (as_text t)
 fits_email Header t = is_some (as_field_test t)
 
--- the same of a condition on mailboxes (RFC 8621, 2.3)
+-- the value is of the kind that the condition on mailboxes takes (RFC 8621, 2.3)
 abbrev pub fits_mailbox : MailboxTerm → Tree → Bool
 fits_mailbox ParentId t = is_some (as_nullable t)
 fits_mailbox Name t = is_some (as_text t)
@@ -50,19 +50,19 @@ fits (Some (OfMailbox term)) t = fits_mailbox term t
 abbrev pub misfit : Kind → List ℕ → Tree → Option (List ℕ)
 misfit kind k t = cond (fits (term_of kind k) t) None (Some k)
 
--- the first of a condition object
+-- the name of the first such condition of a condition object
 abbrev pub misfit_in : Kind → Fields → Option (List ℕ)
 misfit_in kind no_fields = None
 misfit_in kind (field k t fs) = option_or (misfit kind k t) (misfit_in kind fs)
 
--- `operator` is AND, OR or NOT
-abbrev pub bad_operator : Tree → Option (List ℕ)
-bad_operator t = cond (is_some (operator_of t)) None (Some (codes "operator"))
+-- the name `operator`, unless its value is AND, OR or NOT
+abbrev pub invalid_operator : Tree → Option (List ℕ)
+invalid_operator t = cond (is_some (operator_of t)) None (Some (codes "operator"))
 
 -- the fault of an object by its operator, that of its conditions, and that of its members
 abbrev pub object_fault : Option Tree → Option (List ℕ) → Option (List ℕ) → Option (List ℕ)
 object_fault None conditions members = members
-object_fault (Some operator) conditions members = option_or conditions (bad_operator operator)
+object_fault (Some operator) conditions members = option_or conditions (invalid_operator operator)
 
 -- the name of the argument, condition or member at fault in a tree that is no filter, or nothing
 -- where the tree is one; the name is empty where the tree is neither null nor an object
@@ -142,7 +142,7 @@ abbrev mutual
 abbrev pub IsFilter : Kind → Tree → Type 0
 IsFilter kind t = (invalid kind t ≡ None) × (unsupported kind t ≡ None)
 
--- the tree is refused with this fault
+-- reading the tree fails with this fault
 abbrev pub Refuses : Kind → Tree → TermFault → Type 0
 Refuses kind t (Invalid name) = invalid kind t ≡ Some name
 Refuses kind t (Unsupported name) = (invalid kind t ≡ None) × (unsupported kind t ≡ Some name)

@@ -6,9 +6,9 @@ use Rattle.jm_json.specs.Tree.{Tree, text, list, object, no_fields, field, trees
 use Rattle.mail_records.specs.Contents.{Content, email_at, mailbox_at}
 use Rattle.mail_records.specs.declared.records.Email.{Email}
 use Rattle.filter_terms.specs.Filters.{holds, matches}
-use Rattle.filter_terms.specs.Seen.{Target, of_thread}
+use Rattle.filter_terms.specs.Targets.{Target, of_thread}
 use Rattle.filter_terms.specs.Texts.{MessageTexts}
-use Rattle.filter_terms.specs.Wide.{is_wide}
+use Rattle.filter_terms.specs.ThreadScope.{is_wide}
 
 -- the operator of this name over these filters
 abbrev pub operation : List ℕ → List Tree → Tree
@@ -20,8 +20,8 @@ operation name ts =
 abbrev pub each_says : Kind → Target → List Tree → List Bool
 each_says kind x ts = map (λ t. holds kind x t) ts
 
--- Two contents have the same of an email: the email, and the emails of its thread where the filter
--- looks at them.
+-- Two contents are equal in what a filter looks at of an email: in the email itself, and in the
+-- emails of its thread if the filter looks at them.
 pub record SameSeen (wide : Bool) (c d : Content) (n : ℕ) : Type 0 where
   pub email : email_at c n ≡ email_at d n
   pub thread :

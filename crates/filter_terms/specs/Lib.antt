@@ -3,12 +3,12 @@ pub mod Texts
 pub mod Names
 pub mod Dates
 pub mod Values
-pub mod Seen
+pub mod Targets
 pub mod EmailTerms
 pub mod MailboxTerms
 pub mod Filters
 pub mod Forms
-pub mod Wide
+pub mod ThreadScope
 pub mod Views
-pub mod Ready
+pub mod Compiled
 pub mod Laws

@@ -10,7 +10,7 @@ pub record MessageTexts : Type 0 where
   pub fields : List ℕ → List (List ℕ)
   pub bodies : List (List ℕ)
 
--- the texts at a place; `text` is all the others together
+-- the texts that a condition looks at; `text` looks at those of all others
 abbrev pub texts_at : MessageTexts → Place → List (List ℕ)
 texts_at m From = m.fields (codes "From")
 texts_at m To = m.fields (codes "To")
@@ -22,7 +22,7 @@ texts_at m Text =
     m.fields (codes "From") ++ m.fields (codes "To") ++ m.fields (codes "Cc")
     ++ m.fields (codes "Bcc") ++ m.fields (codes "Subject") ++ m.bodies
 
--- some text at the place contains the needle
+-- one of the texts that the condition looks at contains the needle
 abbrev pub has_text : MessageTexts → Place → List ℕ → Bool
 has_text m place needle = some_contains needle (texts_at m place)
 

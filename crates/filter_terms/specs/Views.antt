@@ -4,7 +4,7 @@ use Rattle.std.specs.Prelude.{◌≡◌, ℕ, zero, suc, refl}
 use Rattle.std.specs.Coded.{Coded, code_by, coded×, coded_ℕ}
 use Rattle.jm_base.specs.declared.identifiers.Kind.{Kind}
 use Rattle.jm_base.specs.declared.identifiers.Kind.TheVariants.{Mailbox, Email, Thread}
-use Rattle.jm_json.specs.Code.{tree_code}
+use Rattle.jm_json.specs.TreeCodes.{tree_code}
 use Rattle.jm_json.specs.Tree.{Tree}
 
 pub record FilterTree : Type 0 where

@@ -3,10 +3,10 @@ ghost use Rattle.std.specs.Prelude.{◌≡◌, IfOk, map};
 ghost use Rattle.jm_json.specs.Json.{member_of, tree_of};
 ghost use Rattle.jm_json.specs.Tree.{fields_of, object, trees_of};
 ghost use Rattle.filter_terms.specs.Names.{term_of};
-ghost use Rattle.filter_terms.specs.Ready.{MeanConditions, MeanItems, MeanList, MeanMembers, Means, MeansTerm};
+ghost use Rattle.filter_terms.specs.Compiled.{MeanConditions, MeanItems, MeanList, MeanMembers, Means, MeansTerm};
 
+use crate::compiled::Terms;
 use crate::conditions::{read_email_condition, read_mailbox_condition};
-use crate::ready::Terms;
 use crate::terms::{Operator, Term, operator_of, term_of};
 use jm_base::{Kind, NoMemory};
 use jm_json::{Json, Member, Members};

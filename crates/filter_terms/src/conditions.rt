@@ -7,8 +7,8 @@ ghost use Rattle.jm_json.specs.Json.{tree_of};
 ghost use Rattle.mail_records.specs.declared.records.Mailbox.{Mailbox};
 ghost use Rattle.filter_terms.specs.EmailTerms.{email_term_holds, field_holds, is_in_mailbox, is_mailbox_id};
 ghost use Rattle.filter_terms.specs.MailboxTerms.{has_parent, mailbox_term_holds};
-ghost use Rattle.filter_terms.specs.Ready.{email_says, mailbox_says};
-ghost use Rattle.filter_terms.specs.Seen.{Seen};
+ghost use Rattle.filter_terms.specs.Compiled.{email_says, mailbox_says};
+ghost use Rattle.filter_terms.specs.Targets.{Seen};
 ghost use Rattle.filter_terms.specs.Texts.{MessageTexts, has_field};
 ghost use Rattle.filter_terms.specs.Values.{field_test};
 ghost use Rattle.method_args.specs.Arguments.{passes};
@@ -82,7 +82,7 @@ fn mailbox_numbers(alloc: Global, ids: &[&str]) -> Result<Numbers, NoMemory>
     Ok(numbers)
 }
 
-// The condition of a mailbox's id.
+// Returns the condition of a mailbox's id.
 fn in_mailbox_of(id: &Text) -> EmailCondition
     ensures { (texts : ℕ → MessageTexts) (s : Seen) → email_says texts s result
         ≡ is_in_mailbox id.now s.email }
@@ -185,7 +185,7 @@ fn contains(alloc: Global, place: Place, value: &Json) -> Result<EmailCondition,
     }
 }
 
-// The condition of the name of a header field and a text.
+// Returns the condition of the name of a header field and a text.
 #[tactic(auto, using(crate::proofs::Lowered::in_lower_case))]
 fn field_contains(alloc: Global, name: &str, needle: &str) -> Result<EmailCondition, NoMemory>
     ensures { IfOk result (λ c. (texts : ℕ → MessageTexts) (s : Seen) → email_says texts s c
@@ -196,7 +196,7 @@ fn field_contains(alloc: Global, name: &str, needle: &str) -> Result<EmailCondit
     Ok(EmailCondition::FieldContains(name, needle))
 }
 
-// The condition of the name of a header field, and perhaps a text.
+// Returns the condition of the name of a header field, and perhaps a text.
 fn field_condition(alloc: Global, strings: &[&str]) -> Result<EmailCondition, NoMemory>
     ensures { IfOk result (λ c. (texts : ℕ → MessageTexts) (s : Seen) → email_says texts s c
         ≡ passes (λ test. field_holds (texts s.email.blob) test)
@@ -247,7 +247,7 @@ pub(crate) fn read_email_condition(
     }
 }
 
-// The condition of a parent's id.
+// Returns the condition of a parent's id.
 fn has_parent(id: &Text) -> MailboxCondition
     ensures { (m : Mailbox) → mailbox_says m result ≡ has_parent (Some id.now) m.parent }
 {

@@ -5,8 +5,8 @@ ghost use Rattle.mail_counts.specs.Counts.{has_keyword, is_in};
 ghost use Rattle.mail_records.specs.Contents.{email_at};
 ghost use Rattle.method_args.specs.Arguments.{passes};
 ghost use Rattle.filter_terms.specs.EmailTerms.{keyword_holds};
-ghost use Rattle.filter_terms.specs.Ready.{email_says, is_other_than};
-ghost use Rattle.filter_terms.specs.Seen.{of_thread, seen_in};
+ghost use Rattle.filter_terms.specs.Compiled.{email_says, is_other_than};
+ghost use Rattle.filter_terms.specs.Targets.{of_thread, seen_in};
 
 use crate::conditions::EmailCondition;
 use crate::terms::KeywordTest;

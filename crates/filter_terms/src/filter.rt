@@ -5,16 +5,16 @@ ghost use Rattle.filter_terms.specs.Texts.{MessageTexts};
 ghost use Rattle.jm_json.specs.Json.{tree_of};
 ghost use Rattle.filter_terms.specs.Filters.{holds, matches};
 ghost use Rattle.filter_terms.specs.Forms.{IsFilter, Refuses};
-ghost use Rattle.filter_terms.specs.Seen.{AMailbox, AnEmail, seen_in};
-ghost use Rattle.filter_terms.specs.Wide;
+ghost use Rattle.filter_terms.specs.Targets.{AMailbox, AnEmail, seen_in};
+ghost use Rattle.filter_terms.specs.ThreadScope;
 
 use crate::compile::compile;
+use crate::compiled::{Terms, email_holds, mailbox_holds};
 use crate::faults::TermFault;
-use crate::form::invalid;
-use crate::ready::{Terms, email_holds, mailbox_holds};
+use crate::invalid::invalid;
 use crate::texts::Texts2;
+use crate::thread_scope::tree_is_wide;
 use crate::unsupported::unsupported;
-use crate::wide::tree_is_wide;
 use jm_base::{Kind, NoMemory, Text};
 use jm_json::{Json, copy};
 use mail_records::{Content, Email, Mailbox};
@@ -40,9 +40,9 @@ impl Model for Filter {
 
     ghost use Rattle.std.specs.Prelude.{◌≡◌};
     ghost use Rattle.jm_json.specs.Json.{tree_of};
-    ghost use Rattle.filter_terms.specs.Ready.{Means};
+    ghost use Rattle.filter_terms.specs.Compiled.{Means};
     ghost use Rattle.filter_terms.specs.Forms.{IsFilter};
-    ghost use Rattle.filter_terms.specs.Wide.{is_wide};
+    ghost use Rattle.filter_terms.specs.ThreadScope.{is_wide};
 
     ghost view = { λ f. record { kind = f.kind; tree = tree_of f.tree } };
 
@@ -60,10 +60,10 @@ pub fn read_filter(alloc: Global, kind: Kind, tree: &Json) -> Result<Filter, Ter
     ensures err { IfErr result (λ e. Refuses kind (tree_of tree.now) e) }
 {
     if let Some(name) = invalid(kind, tree) {
-        return Err(TermFault::Invalid(text_of(alloc, name)?));
+        return Err(TermFault::Invalid(Text::from_str(alloc, name)?));
     }
     if let Some(name) = unsupported(kind, tree) {
-        return Err(TermFault::Unsupported(text_of(alloc, name)?));
+        return Err(TermFault::Unsupported(Text::from_str(alloc, name)?));
     }
     let terms = compile(alloc, kind, tree)?;
     let over_thread = tree_is_wide(kind, tree);
@@ -75,15 +75,9 @@ pub fn read_filter(alloc: Global, kind: Kind, tree: &Json) -> Result<Filter, Ter
     })
 }
 
-fn text_of(alloc: Global, name: &str) -> Result<Text, NoMemory>
-    ensures { IfOk result (λ t. t ≡ name.now) }
-{
-    Text::from_str(alloc, name)
-}
-
 /// Returns whether a filter looks at the other emails of an email's thread.
 pub fn is_wide(filter: &Filter) -> bool
-    ensures { result ≡ Wide.is_wide filter.now.kind filter.now.tree }
+    ensures { result ≡ ThreadScope.is_wide filter.now.kind filter.now.tree }
 {
     filter.over_thread
 }

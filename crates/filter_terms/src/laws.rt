@@ -6,11 +6,11 @@ ghost use Rattle.jm_base.specs.declared.identifiers.Kind.{Kind};
 ghost use Rattle.jm_json.specs.Tree.{Tree, null, no_fields, object};
 ghost use Rattle.filter_terms.specs.Filters.{holds};
 ghost use Rattle.filter_terms.specs.Laws.{EmailsDecide, MailboxesDecide, each_says, operation};
-ghost use Rattle.filter_terms.specs.Seen.{Target};
+ghost use Rattle.filter_terms.specs.Targets.{Target};
 
-/// Whether a filter matches depends on the record alone: on the mailbox, or on the email and, where
-/// the filter looks at them, on the emails of its thread. In two contents that have the same of
-/// these the filter matches in both or in neither (RFC 8620, section 5.6).
+/// Whether a filter matches depends on the record alone: on the mailbox, or on the email and, if
+/// the filter looks at them, on the emails of its thread. If these are equal in two contents, the
+/// filter matches in both or in neither (RFC 8620, section 5.6).
 pub fn filters_see_only_their_record()
     ensures emails { EmailsDecide }
     ensures mailboxes { MailboxesDecide }

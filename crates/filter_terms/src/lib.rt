@@ -1,28 +1,28 @@
 //! Filters of Mailbox/query and Email/query: which JSON trees are filters, and which records they
 //! match (RFC 8620, section 5.5; RFC 8621, sections 2.3 and 4.4.1).
 //!
-//! [`read_filter`] reads a [`Filter`] once, with its dates, numbers, keywords and texts ready.
+//! [`read_filter`] reads a [`Filter`] once, with its dates, numbers, keywords and texts.
 //! [`matches`] says whether the filter matches a record of a content. What a message contains is
 //! asked of a [`Texts2`].
 #![tactic(auto)]
 
 mod compile;
+mod compiled;
 mod conditions;
 mod containment;
 mod emails;
 mod faults;
 mod filter;
-mod form;
+mod invalid;
 mod laws;
 mod mailboxes;
-mod ready;
 mod terms;
 #[cfg(test)]
 mod tests;
 mod texts;
+mod thread_scope;
 mod unsupported;
 mod values;
-mod wide;
 
 pub use containment::contains;
 pub use emails::{all_in_thread_have, has_keyword, some_in_thread_has};

@@ -2,7 +2,7 @@
 ghost use Rattle.std.specs.Prelude.{◌≡◌, ◌==◌, not, is_some, Some};
 ghost use Rattle.method_args.specs.Arguments.{passes};
 ghost use Rattle.filter_terms.specs.MailboxTerms.{has_role};
-ghost use Rattle.filter_terms.specs.Ready.{mailbox_says};
+ghost use Rattle.filter_terms.specs.Compiled.{mailbox_says};
 
 use crate::conditions::MailboxCondition;
 use crate::containment::contains;

@@ -50,7 +50,7 @@ pub(crate) enum Term {
     OfMailbox(MailboxTerm),
 }
 
-/// What joins filters to one.
+/// An operator that joins filters into one.
 #[derive(Clone, Copy, Debug, PartialEq, Eq)]
 pub(crate) enum Operator {
     And,

@@ -7,7 +7,7 @@ use jm_base::NoMemory;
 /// Where in a message a condition looks for a text.
 #[derive(Clone, Copy, Debug, PartialEq, Eq)]
 pub enum Place {
-    /// In all of the other places.
+    /// In all of the fields and texts below.
     Text,
     /// In the fields From.
     From,
@@ -27,8 +27,8 @@ pub enum Place {
 pub trait Texts2 {
     ghost texts: { Self → ℕ → MessageTexts };
 
-    /// Returns whether some text at a place of the message in a blob contains the needle. An empty
-    /// needle is contained if there is a text at all.
+    /// Returns whether one of the texts that a condition looks at contains the needle, of the
+    /// message in a blob. An empty needle is contained if there is a text at all.
     fn has(&self, blob: u64, place: Place, needle: &[u8]) -> Result<bool, NoMemory>
         ensures { IfOk result (λ b. b ≡ has_text (texts self.now blob) place needle.now) };
 

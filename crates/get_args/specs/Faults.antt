@@ -5,9 +5,9 @@ use Rattle.get_args.specs.declared.fault.WantedFault.{WantedFault}
 use Rattle.get_args.specs.declared.fault.WantedFault.TheVariants.{Invalid, NoMemory}
 
 -- the fault names the invalid argument, or memory ran out
-abbrev pub Explains : WantedFault → Reading → Type 0
-Explains (Invalid name) reading = reading ≡ invalid name
-Explains NoMemory reading = ⊤
+abbrev pub ReadingFails : WantedFault → Reading → Type 0
+ReadingFails (Invalid name) reading = reading ≡ invalid name
+ReadingFails NoMemory reading = ⊤
 
 -- the fault blames the argument of this name, for which there is this cause, or memory ran out
 abbrev pub Blames : List ℕ → Type 0 → WantedFault → Type 0

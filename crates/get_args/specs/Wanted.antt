@@ -1,4 +1,5 @@
--- What the arguments of an Email/get or an Email/parse ask to be shown (RFC 8621, 4.2 and 4.9).
+-- The properties that the arguments of an Email/get or an Email/parse ask for (RFC 8621, 4.2 and
+-- 4.9).
 use Rattle.std.specs.Prelude.{⊤, ℕ, Bool, true, List, [], ◌∷◌, ◌++◌, map, Option, Some, None, option_map, option_and_then, codes, if◌then◌else◌}
 use Rattle.jm_json.specs.Tree.{Tree, boolean, text, list, object, trees_of, fields_of}
 use Rattle.jm_json.specs.Find.{find, as_object}
@@ -22,7 +23,7 @@ metadata_names =
     codes "blobId" ∷ codes "threadId" ∷ codes "mailboxIds" ∷ codes "keywords" ∷ codes "size"
     ∷ codes "receivedAt" ∷ []
 
--- the properties that are shown if none are named
+-- the properties that are returned if none are named
 abbrev pub default_names : Bool → List (List ℕ)
 default_names parse = if parse then message_names else metadata_names ++ message_names
 
@@ -49,7 +50,7 @@ abbrev pub names_by : List (List ℕ) → Option Tree → Option (List (List ℕ
 names_by names None = Some names
 names_by names (Some t) = as_strings t
 
--- an email is always shown with its id (RFC 8620, 5.1)
+-- an email is always returned with its id (RFC 8620, 5.1)
 abbrev pub with_id : Bool → List (List ℕ) → List (List ℕ)
 with_id parse names = if parse then names else codes "id" ∷ names
 
@@ -100,7 +101,7 @@ wanted_by (Some args) parse =
       most_bytes = most;
     })))))))
 
--- what the arguments of a get ask to be shown, or those of a parse
+-- the properties that the arguments of a get ask for, or those of a parse
 abbrev pub wanted_in : Tree → Bool → Reading
 wanted_in args parse = wanted_by (as_object args) parse
 

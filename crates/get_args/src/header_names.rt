@@ -49,7 +49,7 @@ const URL_FIELDS: [&str; 6] = [
 
 const RAW_FIELDS: [&str; 2] = ["Return-Path", "Received"];
 
-// Whether the name is one of these, in either case.
+// Returns whether the name is one of these, in either case.
 fn is_one_of(names: &[&str], name: &str) -> bool
     ensures { result ≡ Names.is_one_of (map (λ t. t.now) names.now) name.now }
 {
@@ -97,7 +97,7 @@ fn is_raw_field(name: &str) -> bool
     is_one_of(&RAW_FIELDS, name)
 }
 
-// Whether the name is none of those above.
+// Returns whether the name is none of those above.
 fn is_other(name: &str) -> bool
     ensures { result ≡ Names.is_other name.now }
 {
@@ -109,7 +109,7 @@ fn is_other(name: &str) -> bool
         || is_raw_field(name))
 }
 
-// Whether a field of this name may be asked for in this form.
+// Returns whether a field of this name may be asked for in this form.
 fn is_allowed(form: Form, name: &str) -> bool
     ensures { result ≡ Names.is_allowed form name.now }
 {
@@ -123,7 +123,7 @@ fn is_allowed(form: Form, name: &str) -> bool
     }
 }
 
-// The form of a name such as asText.
+// Returns the form of a name such as asText.
 fn form_named(text: &str) -> Option<Form>
     ensures { result ≡ Names.form_named text.now }
 {
@@ -163,14 +163,14 @@ fn are_name_bytes(bytes: &[u8]) -> bool
     true
 }
 
-// Whether a field may have this name.
+// Returns whether a field may have this name.
 fn is_field_name(name: &str) -> bool
     ensures { result ≡ Names.is_field_name name.now }
 {
     0 < name.len() && are_name_bytes(name.as_bytes())
 }
 
-// A field that is asked for, where it may be asked for in this form.
+// Returns a field that is asked for, if it may be asked for in this form.
 fn if_field(
     alloc: Global,
     name: &str,
@@ -186,7 +186,7 @@ fn if_field(
     Ok(Some(HeaderProperty { field, form, all }))
 }
 
-// A field that is asked for, in the form of a name such as asText.
+// Returns a field that is asked for, in the form of a name such as asText.
 fn in_form(
     alloc: Global,
     name: &str,
@@ -201,7 +201,7 @@ fn in_form(
     }
 }
 
-// The string before the first colon, and the string after it.
+// Returns the string before the first colon, and the string after it.
 fn split_colon(text: &str) -> Option<(&str, &str)>
     ensures { option_map halves result ≡ at_colon text.now }
 {
@@ -228,7 +228,7 @@ fn after_name(alloc: Global, name: &str, text: &str) -> Result<Option<HeaderProp
     }
 }
 
-// A field by its name, with `all`, a form, or a form and `all` after it.
+// Returns a field by its name, with `all`, a form, or a form and `all` after it.
 fn field_asked(alloc: Global, text: &str) -> Result<Option<HeaderProperty>, NoMemory>
     ensures { IfOk result (λ o. o ≡ field_asked text.now) }
 {
@@ -247,8 +247,8 @@ pub(crate) fn read_header_property(
     ensures { IfOk result (λ o. o ≡ header_named text.now) }
 {
     match split_colon(text) {
-        Some((front, rest)) => {
-            if front != "header" {
+        Some((prefix, rest)) => {
+            if prefix != "header" {
                 return Ok(None);
             }
             field_asked(alloc, rest)

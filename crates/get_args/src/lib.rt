@@ -2,8 +2,8 @@
 //! asks for (RFC 8620, section 5.1; RFC 8621, sections 4.2 and 4.9).
 //!
 //! [`read_selection`] and [`find_hidden_properties`] read what every get has; [`read_wanted`] reads
-//! what an Email/get or an Email/parse asks to be shown of a message. An invalid argument is a
-//! [`WantedFault`]. Arguments of other names are ignored.
+//! the properties of a message that an Email/get or an Email/parse asks for. An invalid argument is
+//! a [`WantedFault`]. Arguments of other names are ignored.
 #![tactic(auto)]
 
 mod fault;

@@ -11,7 +11,7 @@ use crate::property::{
 use jm_base::{NoMemory, Sequence, Text};
 use std::alloc::Global;
 
-// The properties of an email that name no header field.
+// Returns the properties of an email that name no header field.
 fn own_property(name: &str) -> Option<Property>
     ensures { result ≡ Names.own_property name.now }
 {
@@ -50,7 +50,7 @@ fn own_property(name: &str) -> Option<Property>
     }
 }
 
-// The property that names a header field.
+// Returns the property that names a header field.
 fn field_property(alloc: Global, name: &str) -> Result<Option<Property>, NoMemory>
     ensures { IfOk result (λ o. o ≡ option_map last_field (field_form name.now)) }
 {
@@ -65,7 +65,7 @@ fn field_property(alloc: Global, name: &str) -> Result<Option<Property>, NoMemor
     }
 }
 
-// The property that is a header field.
+// Returns the property that is a header field.
 fn header_property(alloc: Global, name: &str) -> Result<Option<Property>, NoMemory>
     ensures { IfOk result (λ o. o ≡ option_map Property.Header (Names.header_named name.now)) }
 {
@@ -75,7 +75,7 @@ fn header_property(alloc: Global, name: &str) -> Result<Option<Property>, NoMemo
     }
 }
 
-// The property of an email that a name means, if it means one.
+// Returns the property of an email that a name means, if it means one.
 fn property_named(alloc: Global, name: &str) -> Result<Option<Property>, NoMemory>
     ensures { IfOk result (λ o. o ≡ Names.property_named name.now) }
 {
@@ -88,7 +88,7 @@ fn property_named(alloc: Global, name: &str) -> Result<Option<Property>, NoMemor
     header_property(alloc, name)
 }
 
-// The properties of a body part that are no fields of its header.
+// Returns the properties of a body part that are no fields of its header.
 fn own_part_property(name: &str) -> Option<PartProperty>
     ensures { result ≡ Names.own_part_property name.now }
 {
@@ -121,7 +121,7 @@ fn own_part_property(name: &str) -> Option<PartProperty>
     }
 }
 
-// The property of a body part that a name means, if it means one.
+// Returns the property of a body part that a name means, if it means one.
 fn part_property_named(alloc: Global, name: &str) -> Result<Option<PartProperty>, NoMemory>
     ensures { IfOk result (λ o. o ≡ Names.part_property_named name.now) }
 {
@@ -134,7 +134,7 @@ fn part_property_named(alloc: Global, name: &str) -> Result<Option<PartProperty>
     }
 }
 
-// The property of a name, with the name.
+// Returns the property of a name, with the name.
 fn named_property(alloc: Global, name: &str) -> Result<Option<NamedProperty>, NoMemory>
     ensures { IfOk result (λ o. o ≡ named_property name.now) }
 {

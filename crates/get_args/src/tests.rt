@@ -5,7 +5,7 @@ use jm_json::read;
 use std::alloc::Global;
 use std::test::Fail;
 
-// What arguments ask for, or the name of the one that is refused.
+// What arguments ask for, or the name of the one that is invalid.
 fn asked(alloc: Global, args: &str, parse: bool) -> Result<Result<Wanted, Text>, Fail> {
     let args = read(alloc, args.as_bytes())?;
     match read_wanted(alloc, &args, parse) {
@@ -70,7 +70,7 @@ fn an_argument_of_a_wrong_form_is_named(rt: HostRuntime) -> Result<(), Fail> {
         ("\"\"", ""),
         ("[]", ""),
         ("{\"bodyProperties\":null}", "bodyProperties"),
-        // A property of a part is none of an email, and the other way round.
+        // A property of a part is none of an email, nor one of an email of a part.
         ("{\"bodyProperties\":[\"preview\"]}", "bodyProperties"),
         ("{\"properties\":[\"partId\"]}", "properties"),
     ];
@@ -121,7 +121,7 @@ fn a_field_may_be_asked_for_in_its_forms(rt: HostRuntime) -> Result<(), Fail> {
         "header:From:asGroupedAddresses",
         "header:Received:asRaw",
     ];
-    let bad = [
+    let invalid = [
         "header",
         "header:",
         "header:A b",
@@ -138,7 +138,7 @@ fn a_field_may_be_asked_for_in_its_forms(rt: HostRuntime) -> Result<(), Fail> {
         let args = format!(in rt.alloc(); "{{\"properties\":[\"{name}\"]}}")?;
         assert!(rt; asked(rt.alloc(), args.as_str(), true)?.is_ok(), "{name}");
     }
-    for name in bad {
+    for name in invalid {
         let args = format!(in rt.alloc(); "{{\"properties\":[\"{name}\"]}}")?;
         assert!(rt; asked(rt.alloc(), args.as_str(), true)?.is_err(), "{name}");
     }

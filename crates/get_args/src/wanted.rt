@@ -1,9 +1,10 @@
-// What an Email/get or an Email/parse asks to be shown of a message (RFC 8621, 4.2 and 4.9).
+// The properties of a message that an Email/get or an Email/parse asks for (RFC 8621, sections 4.2
+// and 4.9).
 ghost use Rattle.std.specs.Prelude.{◌≡◌, Some, None, true, IfOk, IfErr, codes, map, option_map};
 ghost use Rattle.jm_json.specs.Json.{tree_of};
 ghost use Rattle.jm_json.specs.Tree.{text};
 ghost use Rattle.method_args.specs.Arguments.{count_in, flag_in};
-ghost use Rattle.get_args.specs.Faults.{Blames, Explains};
+ghost use Rattle.get_args.specs.Faults.{Blames, ReadingFails};
 ghost use Rattle.get_args.specs.Wanted.{asked, default_names, names_by, parts_in, properties_in, read_arguments, wanted_by, wanted_in, with_id};
 
 use crate::WantedFault;
@@ -15,7 +16,7 @@ use jm_json::{Items, Json, Members};
 use method_args::{find_given, read_count, read_flag, strings_of};
 use std::alloc::Global;
 
-/// What is to be shown of a message.
+/// The properties of a message that a client asks for.
 #[derive(Drop)]
 pub struct Wanted {
     /// The properties of the email, by the names that the client used.
@@ -89,7 +90,7 @@ fn default_names(alloc: Global, parse: bool) -> Result<Vec<&'static str>, NoMemo
     Ok(names)
 }
 
-// The names that an argument lists, or these if it is absent.
+// Returns the names that an argument lists, or these if it is absent.
 fn names_by<'a>(
     alloc: Global,
     names: &[&'static str],
@@ -104,7 +105,7 @@ fn names_by<'a>(
     }
 }
 
-// With `id`, which is always shown of an email.
+// Returns these names, and `id` before those of an email, which is always returned with its id.
 fn with_id<'a>(alloc: Global, parse: bool, names: &[&'a str]) -> Result<Vec<&'a str>, NoMemory>
     ensures { IfOk result (λ v.
         map (λ t. t.now) v.items ≡ with_id parse (map (λ t. t.now) names.now)) }
@@ -117,7 +118,7 @@ fn with_id<'a>(alloc: Global, parse: bool, names: &[&'a str]) -> Result<Vec<&'a 
     Ok(all)
 }
 
-// The properties that are asked for, if each name is one's.
+// Returns the properties that are asked for, if each name is one's.
 fn properties_in(
     alloc: Global,
     args: &Members,
@@ -150,7 +151,7 @@ fn email_properties(
     }
 }
 
-// The properties of body parts that are asked for, if each name is one's.
+// Returns the properties of body parts that are asked for, if each name is one's.
 fn parts_in(alloc: Global, args: &Members) -> Result<Option<Sequence<NamedPartProperty>>, NoMemory>
     ensures { IfOk result (λ o. o ≡ parts_in args.now) }
 {
@@ -200,7 +201,7 @@ pub fn read_wanted_members(
     parse: bool,
 ) -> Result<Wanted, WantedFault>
     ensures ok { IfOk result (λ w. wanted_by (Some args.now) parse ≡ asked w) }
-    ensures err { IfErr result (λ fault. Explains fault (wanted_by (Some args.now) parse)) }
+    ensures err { IfErr result (λ fault. ReadingFails fault (wanted_by (Some args.now) parse)) }
 {
     let parts = part_properties(alloc, args)?;
     let all_values = flag(alloc, args, "fetchAllBodyValues")?;
@@ -218,14 +219,14 @@ pub fn read_wanted_members(
     })
 }
 
-/// Returns what the arguments of an Email/get ask to be shown of each email, or those of an
-/// Email/parse of each message (RFC 8621, sections 4.2 and 4.9).
+/// Returns the properties of each email that the arguments of an Email/get ask for, or those of
+/// each message that the arguments of an Email/parse ask for (RFC 8621, sections 4.2 and 4.9).
 ///
 /// Fails with `Invalid` if an argument has a wrong form or names an unknown property: it carries
 /// the first such name in byte order. Arguments of other names are ignored.
 pub fn read_wanted(alloc: Global, args: &Json, parse: bool) -> Result<Wanted, WantedFault>
     ensures ok { IfOk result (λ w. wanted_in (tree_of args.now) parse ≡ asked w) }
-    ensures err { IfErr result (λ fault. Explains fault (wanted_in (tree_of args.now) parse)) }
+    ensures err { IfErr result (λ fault. ReadingFails fault (wanted_in (tree_of args.now) parse)) }
 {
     match args.as_object() {
         Some(args) => read_wanted_members(alloc, args, parse),
@@ -233,7 +234,7 @@ pub fn read_wanted(alloc: Global, args: &Json, parse: bool) -> Result<Wanted, Wa
     }
 }
 
-// The names of the properties that the command line shows, as an argument has them.
+// Returns these names of properties as the items of an argument.
 fn name_items(alloc: Global, names: &[&str]) -> Result<Items, NoMemory>
     ensures { IfOk result (λ ts. ts ≡ map text (map (λ t. t.now) names.now)) }
 {
@@ -256,8 +257,8 @@ fn read_arguments(alloc: Global) -> Result<Json, NoMemory>
     Ok(Json::Object(args))
 }
 
-/// Returns what the command line shows of a message: the default properties of an Email/parse and
-/// bodyStructure, with the values of the text body.
+/// Returns the properties of a message that the command line prints: the default properties of an
+/// Email/parse and bodyStructure, with the values of the text body.
 pub fn wanted_for_read(alloc: Global) -> Result<Wanted, NoMemory>
     ensures { IfOk result (λ w. wanted_in read_arguments true ≡ asked w) }
 {

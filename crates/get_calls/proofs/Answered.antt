@@ -20,38 +20,38 @@ use Rattle.mail_view.specs.Records.{asked_count, asked_records, unknown_ids}
 use Rattle.mail_view.specs.Mailboxes.{mailbox_properties, mailbox_view}
 use Rattle.mail_view.specs.Threads.{thread_properties, thread_view}
 use Rattle.mail_view.specs.Gets.{Got, got, too_large, emails_by, got_unless, get_records, records_reply, reply_tree}
-use Rattle.get_calls.specs.Faults.{Explains, fault_of}
+use Rattle.get_calls.specs.Faults.{GetFails, fault_of}
 use Rattle.get_calls.specs.declared.fault.GetFault.{GetFault}
 use Rattle.get_calls.specs.Members.{mailbox_without, thread_without}
 use Rattle.get_calls.proofs.HiddenMembers.{shown_members, thread_members_shown}
 
 -- an argument that is invalid is the answer
-blamed : (fault : WantedFault) (found : Option (List ℕ)) (answer : Got) → Names fault found → Explains (fault_of fault) (got_unless found answer)
+blamed : (fault : WantedFault) (found : Option (List ℕ)) (answer : Got) → Names fault found → GetFails (fault_of fault) (got_unless found answer)
 blamed (wanted.Invalid name) found answer is = ap (λ o. got_unless o answer) is
 blamed wanted.NoMemory found answer is = tt
 
-blamed_next : (fault : WantedFault) (before found : Option (List ℕ)) (answer : Got) → before ≡ None → Names fault found → Explains (fault_of fault) (got_unless before (got_unless found answer))
+blamed_next : (fault : WantedFault) (before found : Option (List ℕ)) (answer : Got) → before ≡ None → Names fault found → GetFails (fault_of fault) (got_unless before (got_unless found answer))
 blamed_next fault before found answer none is =
-    subst (λ o. Explains (fault_of fault) (got_unless o (got_unless found answer))) (sym none) (blamed fault found answer is)
+    subst (λ o. GetFails (fault_of fault) (got_unless o (got_unless found answer))) (sym none) (blamed fault found answer is)
 
-blamed_by : (fault : WantedFault) (reading : Reading) (content : Content) (blobs : List (List ℕ)) (state : ℕ) (args : List (List ℕ × Tree)) → arguments.Explains fault reading
-    → Explains (fault_of fault) (emails_by content blobs state args reading)
+blamed_by : (fault : WantedFault) (reading : Reading) (content : Content) (blobs : List (List ℕ)) (state : ℕ) (args : List (List ℕ × Tree)) → arguments.ReadingFails fault reading
+    → GetFails (fault_of fault) (emails_by content blobs state args reading)
 blamed_by (wanted.Invalid name) reading content blobs state args is = ap (emails_by content blobs state args) is
 blamed_by wanted.NoMemory reading content blobs state args is = tt
 
 -- the same, of what the exit of a `?` returns
-pub refused_first : {T : Type 0} (r : Result T GetFault) (fault : WantedFault) (found : Option (List ℕ)) (answer : Got) → IsErrAnd r (λ e. e ≡ fault_of fault) → Names fault found → IfErr r (λ e. Explains e (got_unless found answer))
+pub refused_first : {T : Type 0} (r : Result T GetFault) (fault : WantedFault) (found : Option (List ℕ)) (answer : Got) → IsErrAnd r (λ e. e ≡ fault_of fault) → Names fault found → IfErr r (λ e. GetFails e (got_unless found answer))
 refused_first r fault found answer err is = let p = err_from_is_err_and r err in rw (p.1, p.2) (blamed fault found answer is)
 
 pub refused_next : {T : Type 0} (r : Result T GetFault) (fault : WantedFault) (before found : Option (List ℕ)) (answer : Got) → IsErrAnd r (λ e. e ≡ fault_of fault) → before ≡ None → Names fault found
-    → IfErr r (λ e. Explains e (got_unless before (got_unless found answer)))
+    → IfErr r (λ e. GetFails e (got_unless before (got_unless found answer)))
 refused_next r fault before found answer err none is = let p = err_from_is_err_and r err in rw (p.1, p.2) (blamed_next fault before found answer none is)
 
 pub refused_wanted : {T : Type 0} (r : Result T GetFault) (fault : WantedFault) (before : Option (List ℕ)) (reading : Reading) (content : Content) (blobs : List (List ℕ)) (state : ℕ) (args : List (List ℕ × Tree)) → IsErrAnd r (λ e. e ≡ fault_of fault)
-    → before ≡ None → arguments.Explains fault reading → IfErr r (λ e. Explains e (got_unless before (emails_by content blobs state args reading)))
+    → before ≡ None → arguments.ReadingFails fault reading → IfErr r (λ e. GetFails e (got_unless before (emails_by content blobs state args reading)))
 refused_wanted r fault before reading content blobs state args err none is =
     let p = err_from_is_err_and r err in
-    rw (p.1, p.2) (subst (λ o. Explains (fault_of fault) (got_unless o (emails_by content blobs state args reading))) (sym none) (blamed_by fault reading content blobs state args is))
+    rw (p.1, p.2) (subst (λ o. GetFails (fault_of fault) (got_unless o (emails_by content blobs state args reading))) (sym none) (blamed_by fault reading content blobs state args is))
 
 pub views : (read_only : Bool) (names : Option (List (List ℕ))) (ms : List Mailbox) → map (mailbox_without read_only (hidden_of names mailbox_properties)) ms ≡ map (mailbox_view read_only names) ms
 views read_only names [] = refl

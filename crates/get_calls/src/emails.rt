@@ -15,7 +15,7 @@ use mail_records::{Content, Email};
 use mail_view::view;
 use std::alloc::Global;
 
-// The email that an id names.
+// Returns the email that an id names.
 fn find_email<'a>(content: &'a Content, id: &str) -> Option<&'a Email>
     ensures { MatchOption result (email_named content.now.content.emails id.now ≡ None)
         (λ e. email_named content.now.content.emails id.now ≡ Some e.now) }
@@ -29,7 +29,7 @@ fn find_email<'a>(content: &'a Content, id: &str) -> Option<&'a Email>
     }
 }
 
-// The bytes of a blob, none if no blob has the number.
+// Returns the bytes of a blob, none if no blob has the number.
 fn find_blob(blobs: &BlobList, number: u64) -> &[u8]
     ensures { result.now ≡ blob_bytes blobs.now.blobs number }
 {
@@ -39,7 +39,7 @@ fn find_blob(blobs: &BlobList, number: u64) -> &[u8]
     }
 }
 
-// The view of an email.
+// Returns the view of an email.
 fn write_email(
     alloc: Global,
     blobs: &BlobList,
@@ -80,7 +80,7 @@ impl FoundRecords {
     }
 }
 
-// The emails that these ids name, each id once.
+// Returns the emails that these ids name, each id once.
 fn find_named(
     alloc: Global,
     content: &Content,
@@ -105,7 +105,7 @@ fn find_named(
     Ok(found)
 }
 
-// The views of these emails.
+// Returns the views of these emails.
 fn write_emails(
     alloc: Global,
     blobs: &BlobList,

@@ -9,7 +9,7 @@ pub enum GetFault {
     /// The argument of this name is missing or has a wrong form (RFC 8620, section 3.6.2:
     /// `invalidArguments`). The name is empty if the arguments are no object.
     Invalid(Text),
-    /// It asks for more than 500 objects (`requestTooLarge`).
+    /// It asks for more objects than `MAX_OBJECTS_PER_CALL` (`requestTooLarge`).
     TooLarge,
     NoMemory,
 }

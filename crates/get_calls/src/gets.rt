@@ -3,7 +3,7 @@ ghost use Rattle.std.specs.Prelude.{◌≡◌, IfOk, IfErr, map, option_map};
 ghost use Rattle.jm_json.specs.Json.{tree_of};
 ghost use Rattle.mail_records.specs.Histories.{blobs_of, content_of};
 ghost use Rattle.mail_records.specs.States.{state_of};
-ghost use Rattle.get_calls.specs.Faults.{Explains};
+ghost use Rattle.get_calls.specs.Faults.{GetFails};
 ghost use Rattle.mail_view.specs.Gets.{emails_got, get_emails, get_mailboxes, get_of_kind, get_threads, got, mailboxes_got, threads_got};
 ghost use Rattle.mail_view.specs.Records.{asked_count};
 
@@ -41,7 +41,7 @@ fn get_mailboxes_by(
     ensures ok { IfOk result (λ t.
         mailboxes_got content.now.content state read_only args.now ≡ got (tree_of t)) }
     ensures err { IfErr result (λ fault.
-        Explains fault (mailboxes_got content.now.content state read_only args.now)) }
+        GetFails fault (mailboxes_got content.now.content state read_only args.now)) }
 {
     let selection = read_selection(alloc, args)?;
     let hidden = find_hidden_properties(alloc, args, &MAILBOX_PROPERTIES)?;
@@ -61,7 +61,7 @@ fn get_threads_by(
     ensures ok { IfOk result (λ t.
         threads_got content.now.content state args.now ≡ got (tree_of t)) }
     ensures err { IfErr result (λ fault.
-        Explains fault (threads_got content.now.content state args.now)) }
+        GetFails fault (threads_got content.now.content state args.now)) }
 {
     let selection = read_selection(alloc, args)?;
     let hidden = find_hidden_properties(alloc, args, &THREAD_PROPERTIES)?;
@@ -82,7 +82,7 @@ fn get_emails_by(
     ensures ok { IfOk result (λ t.
         emails_got content.now.content blobs.now.blobs state args.now ≡ got (tree_of t)) }
     ensures err { IfErr result (λ fault.
-        Explains fault (emails_got content.now.content blobs.now.blobs state args.now)) }
+        GetFails fault (emails_got content.now.content blobs.now.blobs state args.now)) }
 {
     let selection = read_selection(alloc, args)?;
     let wanted = read_wanted_members(alloc, args, false)?;
@@ -98,7 +98,7 @@ fn get_emails_by(
 /// state of its mailboxes.
 ///
 /// Fails with `Invalid` if an argument is missing or has a wrong form, and else with `TooLarge` if
-/// it asks for more than 500 mailboxes.
+/// it asks for more mailboxes than `MAX_OBJECTS_PER_CALL`.
 pub fn get_mailboxes(
     alloc: Global,
     content: &Content,
@@ -109,7 +109,7 @@ pub fn get_mailboxes(
     ensures ok { IfOk result (λ t.
         get_mailboxes content.now.content state (tree_of args.now) read_only ≡ got (tree_of t)) }
     ensures err { IfErr result (λ fault.
-        Explains fault (get_mailboxes content.now.content state (tree_of args.now) read_only)) }
+        GetFails fault (get_mailboxes content.now.content state (tree_of args.now) read_only)) }
 {
     match args.as_object() {
         Some(args) => get_mailboxes_by(alloc, content, state, args, read_only),
@@ -121,7 +121,7 @@ pub fn get_mailboxes(
 /// the state of the account's threads.
 ///
 /// Fails with `Invalid` if an argument is missing or has a wrong form, and else with `TooLarge` if
-/// it asks for more than 500 threads.
+/// it asks for more threads than `MAX_OBJECTS_PER_CALL`.
 pub fn get_threads(
     alloc: Global,
     content: &Content,
@@ -131,7 +131,7 @@ pub fn get_threads(
     ensures ok { IfOk result (λ t.
         get_threads content.now.content state (tree_of args.now) ≡ got (tree_of t)) }
     ensures err { IfErr result (λ fault.
-        Explains fault (get_threads content.now.content state (tree_of args.now))) }
+        GetFails fault (get_threads content.now.content state (tree_of args.now))) }
 {
     match args.as_object() {
         Some(args) => get_threads_by(alloc, content, state, args),
@@ -143,8 +143,8 @@ pub fn get_threads(
 /// account with these blobs. `state` is the state of the account's emails.
 ///
 /// Fails with `Invalid` if an argument is missing or has a wrong form, and else with `TooLarge` if
-/// it asks for more than 500 emails. Of the blobs only what the properties need is read: nothing
-/// for those of the record, and the header alone for header fields.
+/// it asks for more emails than `MAX_OBJECTS_PER_CALL`. Of the blobs only what the properties need
+/// is read: nothing for those of the record, and the header alone for header fields.
 pub fn get_emails(
     alloc: Global,
     content: &Content,
@@ -156,7 +156,7 @@ pub fn get_emails(
         get_emails content.now.content blobs.now.blobs state (tree_of args.now)
         ≡ got (tree_of t)) }
     ensures err { IfErr result (λ fault.
-        Explains fault (get_emails content.now.content blobs.now.blobs state (tree_of args.now))) }
+        GetFails fault (get_emails content.now.content blobs.now.blobs state (tree_of args.now))) }
 {
     match args.as_object() {
         Some(args) => get_emails_by(alloc, content, blobs, state, args),
@@ -173,7 +173,7 @@ fn get_account_mailboxes(
     ensures ok { IfOk result (λ t.
         get_of_kind Kind.Mailbox account.now.history (tree_of args.now) read_only
         ≡ got (tree_of t)) }
-    ensures err { IfErr result (λ fault. Explains fault
+    ensures err { IfErr result (λ fault. GetFails fault
         (get_of_kind Kind.Mailbox account.now.history (tree_of args.now) read_only)) }
 {
     let state = account.log().state_of(Kind::Mailbox);
@@ -184,7 +184,7 @@ fn get_account_threads(alloc: Global, account: &Account, args: &Json) -> Result<
     ensures ok { IfOk result (λ t.
         get_threads (content_of account.now.history) (state_of account.now.history Kind.Thread)
         (tree_of args.now) ≡ got (tree_of t)) }
-    ensures err { IfErr result (λ fault. Explains fault
+    ensures err { IfErr result (λ fault. GetFails fault
         (get_threads (content_of account.now.history) (state_of account.now.history Kind.Thread)
         (tree_of args.now))) }
 {
@@ -196,7 +196,7 @@ fn get_account_emails(alloc: Global, account: &Account, args: &Json) -> Result<J
     ensures ok { IfOk result (λ t.
         get_emails (content_of account.now.history) (blobs_of account.now.history)
         (state_of account.now.history Kind.Email) (tree_of args.now) ≡ got (tree_of t)) }
-    ensures err { IfErr result (λ fault. Explains fault
+    ensures err { IfErr result (λ fault. GetFails fault
         (get_emails (content_of account.now.history) (blobs_of account.now.history)
         (state_of account.now.history Kind.Email) (tree_of args.now))) }
 {
@@ -208,7 +208,7 @@ fn get_account_emails(alloc: Global, account: &Account, args: &Json) -> Result<J
 /// account is read-only or not (RFC 8621, sections 2.1, 3.1 and 4.2).
 ///
 /// Fails with `Invalid` if an argument is missing or has a wrong form, and else with `TooLarge` if
-/// it asks for more than 500 objects.
+/// it asks for more objects than `MAX_OBJECTS_PER_CALL`.
 pub fn get(
     alloc: Global,
     kind: Kind,
@@ -219,7 +219,7 @@ pub fn get(
     ensures ok { IfOk result (λ t.
         get_of_kind kind account.now.history (tree_of args.now) read_only ≡ got (tree_of t)) }
     ensures err { IfErr result (λ fault.
-        Explains fault (get_of_kind kind account.now.history (tree_of args.now) read_only)) }
+        GetFails fault (get_of_kind kind account.now.history (tree_of args.now) read_only)) }
 {
     match kind {
         Kind::Mailbox => get_account_mailboxes(alloc, account, args, read_only),

@@ -30,7 +30,7 @@ pub(crate) const MAILBOX_PROPERTIES: [&str; 11] = [
     "unreadThreads",
 ];
 
-// The mailbox that an id names.
+// Returns the mailbox that an id names.
 fn find_mailbox<'a>(content: &'a Content, id: &str) -> Option<&'a Mailbox>
     ensures { MatchOption result (mailbox_named content.now.content.mailboxes id.now ≡ None)
         (λ m. mailbox_named content.now.content.mailboxes id.now ≡ Some m.now) }
@@ -44,7 +44,7 @@ fn find_mailbox<'a>(content: &'a Content, id: &str) -> Option<&'a Mailbox>
     }
 }
 
-// The view of a mailbox without these properties.
+// Returns the view of a mailbox without these properties.
 fn write_mailbox(
     alloc: Global,
     mailbox: &Mailbox,
@@ -84,7 +84,7 @@ impl FoundRecords {
     }
 }
 
-// The mailboxes that these ids name, each id once.
+// Returns the mailboxes that these ids name, each id once.
 fn find_named(
     alloc: Global,
     content: &Content,
@@ -109,7 +109,7 @@ fn find_named(
     Ok(found)
 }
 
-// The views of these mailboxes.
+// Returns the views of these mailboxes.
 fn write_mailboxes(
     alloc: Global,
     mailboxes: &[Mailbox],

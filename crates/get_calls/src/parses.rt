@@ -2,7 +2,7 @@
 ghost use Rattle.std.specs.Prelude.{◌≡◌, ◌==◌, ◌∷◌, ◌++◌, [], Some, true, length, IfOk, IfErr, OnOk, filter_map, map, option_map};
 ghost use Rattle.jm_json.specs.Json.{tree_of};
 ghost use Rattle.jm_json.specs.Tree.{text};
-ghost use Rattle.get_calls.specs.Faults.{Explains};
+ghost use Rattle.get_calls.specs.Faults.{GetFails};
 ghost use Rattle.mail_view.specs.Gets.{got};
 ghost use Rattle.mail_view.specs.Objects.{put_all};
 ghost use Rattle.method_args.specs.Arguments.{account_in};
@@ -31,7 +31,7 @@ struct ParsedBlobs {
     unknown: Items,
 }
 
-// The view of the decoded body of a leaf of a message, read as a message of its own.
+// Returns the view of the decoded body of a leaf of a message, read as a message of its own.
 fn write_leaf_view(
     alloc: Global,
     bytes: &[u8],
@@ -48,7 +48,7 @@ fn write_leaf_view(
     }
 }
 
-// The view of a blob, or of a leaf of the message that it holds.
+// Returns the view of a blob, or of a leaf of the message that it holds.
 fn write_blob_view(
     alloc: Global,
     bytes: &[u8],
@@ -65,7 +65,7 @@ fn write_blob_view(
     }
 }
 
-// The view of what a blob id of this form names.
+// Returns the view of what a blob id of this form names.
 fn write_id_view(
     alloc: Global,
     blobs: &BlobList,
@@ -82,7 +82,7 @@ fn write_id_view(
     }
 }
 
-// The view of what a string names, if it names a blob or a leaf.
+// Returns the view of what a string names, if it names a blob or a leaf.
 fn write_named_view(
     alloc: Global,
     blobs: &BlobList,
@@ -120,7 +120,7 @@ impl ParsedBlobs {
     }
 }
 
-// The views of what these blob ids name, each id once.
+// Returns the views of what these blob ids name, each id once.
 fn parse_each(
     alloc: Global,
     blobs: &BlobList,
@@ -156,7 +156,7 @@ fn has_no_members(members: &Members) -> bool
     members.as_slice().is_empty()
 }
 
-// The blob ids that name nothing, null if there are none.
+// Returns the blob ids that name nothing, null if there are none.
 #[tactic(auto, using(crate::proofs::Parsed::null_list, crate::proofs::Parsed::whole_list))]
 fn write_unknown(unknown: Items) -> Json
     ensures { tree_of result ≡ list_or_null unknown }
@@ -167,7 +167,7 @@ fn write_unknown(unknown: Items) -> Json
     Json::List(unknown)
 }
 
-// The views by blob id, null if there are none.
+// Returns the views by blob id, null if there are none.
 #[tactic(auto, using(crate::proofs::Parsed::null_object, crate::proofs::Parsed::whole_object))]
 fn write_views(views: Members) -> Json
     ensures { tree_of result ≡ object_or_null views }
@@ -178,7 +178,7 @@ fn write_views(views: Members) -> Json
     Json::Object(views)
 }
 
-// The arguments of a response.
+// Returns the arguments of a response.
 fn write_parse_response(alloc: Global, account: &str, parsed: ParsedBlobs) -> Result<Json, NoMemory>
     ensures { IfOk result (λ t. tree_of t
         ≡ parse_tree account.now (list_or_null parsed.unknown) (object_or_null parsed.views)) }
@@ -193,7 +193,7 @@ fn write_parse_response(alloc: Global, account: &str, parsed: ParsedBlobs) -> Re
     Ok(Json::Object(response))
 }
 
-// The strings of `blobIds`, `None` if it is no list of strings.
+// Returns the strings of `blobIds`, `None` if it is no list of strings.
 fn read_blob_ids<'a>(alloc: Global, args: &'a Members) -> Result<Option<Vec<&'a str>>, NoMemory>
     ensures { IfOk result (λ o.
         option_map (λ v. map (λ t. t.now) v.items) o ≡ blob_ids_in args.now) }
@@ -204,7 +204,7 @@ fn read_blob_ids<'a>(alloc: Global, args: &'a Members) -> Result<Option<Vec<&'a 
     }
 }
 
-// The response to a parse of these blob ids, in the account of this id.
+// Returns the response to a parse of these blob ids, in the account of this id.
 fn parse_ids(
     alloc: Global,
     blobs: &BlobList,
@@ -216,7 +216,7 @@ fn parse_ids(
     ensures ok { IfOk result (λ t.
         parse_asked blobs.now.blobs args.now (map (λ t. t.now) ids.now)
         (wanted_by (Some args.now) true) ≡ got (tree_of t)) }
-    ensures err { IfErr result (λ fault. Explains fault
+    ensures err { IfErr result (λ fault. GetFails fault
         (parse_asked blobs.now.blobs args.now (map (λ t. t.now) ids.now)
         (wanted_by (Some args.now) true))) }
 {
@@ -229,7 +229,7 @@ fn parse_ids(
     Ok(write_parse_response(alloc, account, parsed)?)
 }
 
-// The response to a parse with these arguments, in the account of this id.
+// Returns the response to a parse with these arguments, in the account of this id.
 fn parse_account(
     alloc: Global,
     blobs: &BlobList,
@@ -240,7 +240,7 @@ fn parse_account(
     ensures ok { IfOk result (λ t.
         parse_by blobs.now.blobs args.now (blob_ids_in args.now) ≡ got (tree_of t)) }
     ensures err { IfErr result (λ fault.
-        Explains fault (parse_by blobs.now.blobs args.now (blob_ids_in args.now))) }
+        GetFails fault (parse_by blobs.now.blobs args.now (blob_ids_in args.now))) }
 {
     match read_blob_ids(alloc, args)? {
         Some(ids) => parse_ids(alloc, blobs, account, ids.as_slice(), args),
@@ -250,7 +250,7 @@ fn parse_account(
 
 fn parse_members(alloc: Global, blobs: &BlobList, args: &Members) -> Result<Json, GetFault>
     ensures ok { IfOk result (λ t. parse_got blobs.now.blobs args.now ≡ got (tree_of t)) }
-    ensures err { IfErr result (λ fault. Explains fault (parse_got blobs.now.blobs args.now)) }
+    ensures err { IfErr result (λ fault. GetFails fault (parse_got blobs.now.blobs args.now)) }
 {
     match read_account(args) {
         Some(account) => parse_account(alloc, blobs, account.as_str(), args),
@@ -263,12 +263,12 @@ fn parse_members(alloc: Global, blobs: &BlobList, args: &Members) -> Result<Json
 /// blob id names a blob, or the decoded body of a leaf of the message that it holds.
 ///
 /// Fails with `Invalid` if an argument is missing or has a wrong form, and else with `TooLarge` if
-/// it asks for more than 500 messages.
+/// it asks for more messages than `MAX_OBJECTS_PER_CALL`.
 pub fn parse_emails(alloc: Global, blobs: &BlobList, args: &Json) -> Result<Json, GetFault>
     ensures ok { IfOk result (λ t.
         parse_emails blobs.now.blobs (tree_of args.now) ≡ got (tree_of t)) }
     ensures err { IfErr result (λ fault.
-        Explains fault (parse_emails blobs.now.blobs (tree_of args.now))) }
+        GetFails fault (parse_emails blobs.now.blobs (tree_of args.now))) }
 {
     match args.as_object() {
         Some(args) => parse_members(alloc, blobs, args),
@@ -281,7 +281,7 @@ pub fn parse(alloc: Global, account: &Account, args: &Json) -> Result<Json, GetF
     ensures ok { IfOk result (λ t.
         parse_in account.now.history (tree_of args.now) ≡ got (tree_of t)) }
     ensures err { IfErr result (λ fault.
-        Explains fault (parse_in account.now.history (tree_of args.now))) }
+        GetFails fault (parse_in account.now.history (tree_of args.now))) }
 {
     parse_emails(alloc, account.blobs(), args)
 }

@@ -18,7 +18,7 @@ use std::alloc::Global;
 /// The properties of a thread, in byte order.
 pub(crate) const THREAD_PROPERTIES: [&str; 2] = ["emailIds", "id"];
 
-// The thread that an id names.
+// Returns the thread that an id names.
 fn find_thread<'a>(content: &'a Content, id: &str) -> Option<&'a Thread>
     ensures { MatchOption result (thread_named content.now.content.threads id.now ≡ None)
         (λ t. thread_named content.now.content.threads id.now ≡ Some t.now) }
@@ -32,7 +32,7 @@ fn find_thread<'a>(content: &'a Content, id: &str) -> Option<&'a Thread>
     }
 }
 
-// The ids of these emails, in their order.
+// Returns the ids of these emails, in their order.
 fn write_email_ids(alloc: Global, numbers: &[u64]) -> Result<Items, NoMemory>
     ensures { IfOk result (λ ts. ts ≡ map text (map (identifier Kind.Email) numbers.now)) }
 {
@@ -47,7 +47,7 @@ fn write_email_ids(alloc: Global, numbers: &[u64]) -> Result<Items, NoMemory>
     Ok(ids)
 }
 
-// The members of a thread's object.
+// Returns the members of a thread's object.
 fn write_members(alloc: Global, thread: &Thread) -> Result<Members, NoMemory>
     ensures { IfOk result (λ ms. ms ≡ thread_members thread.now) }
 {
@@ -62,7 +62,7 @@ fn write_members(alloc: Global, thread: &Thread) -> Result<Members, NoMemory>
     Ok(members)
 }
 
-// The view of a thread without these properties.
+// Returns the view of a thread without these properties.
 fn write_thread(alloc: Global, thread: &Thread, hidden: &[&str]) -> Result<Json, NoMemory>
     ensures { IfOk result (λ t.
         tree_of t ≡ thread_without (map (λ h. h.now) hidden.now) thread.now) }
@@ -96,7 +96,7 @@ impl FoundRecords {
     }
 }
 
-// The threads that these ids name, each id once.
+// Returns the threads that these ids name, each id once.
 fn find_named(
     alloc: Global,
     content: &Content,
@@ -120,7 +120,7 @@ fn find_named(
     Ok(found)
 }
 
-// The views of these threads.
+// Returns the views of these threads.
 fn write_threads(alloc: Global, threads: &[Thread], hidden: &[&str]) -> Result<Items, NoMemory>
     ensures { IfOk result (λ objects. objects
         ≡ map (thread_without (map (λ h. h.now) hidden.now)) threads.now) }

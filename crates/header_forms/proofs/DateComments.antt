@@ -7,7 +7,7 @@ use Rattle.mime_words.specs.Words.{◌>>=◌}
 use Rattle.mail_text.specs.declared.comment.State.{State}
 use Rattle.mail_text.specs.declared.comment.State.TheVariants.{Outside, Inside, Escaped}
 use Rattle.mail_text.specs.Comments.{next, after_text, gap_from}
-use Rattle.header_forms.specs.Dates.{Read, all_words, parted, with_byte, read_from, words_of, without_weekday, moment_of_words, moment_in, date_time_text, moment_seconds, if_in_range, date_text, utc_of}
+use Rattle.header_forms.specs.Dates.{Read, all_words, parted, with_byte, read_from, words_of, without_weekday, date_time_of_words, date_time_in, date_time_text, unix_seconds, if_in_range, date_text, utc_of}
 use Rattle.header_forms.specs.DateWords.{is_gap, AreComments}
 use Rattle.header_forms.proofs.Gaps.{words_at, parts, same_read}
 
@@ -56,15 +56,15 @@ words_same front comments back out are =
     ap (option_map all_words) (front_same front (32 ∷ (comments ++ back)) (32 ∷ back) Outside out
     (blank_same (read_from (comments ++ back) Outside) (read_from back Outside) (comments_read comments back Outside are)))
 
-moment_same : (front comments back : List ℕ) → after_text Outside front ≡ Outside → AreComments comments
-    → moment_in (front ++ 32 ∷ (comments ++ back)) ≡ moment_in (front ++ 32 ∷ back)
-unfolding moment_in
-moment_same front comments back out are = ap (λ w. w >>= (λ words. without_weekday words >>= moment_of_words)) (words_same front comments back out are)
+date_time_same : (front comments back : List ℕ) → after_text Outside front ≡ Outside → AreComments comments
+    → date_time_in (front ++ 32 ∷ (comments ++ back)) ≡ date_time_in (front ++ 32 ∷ back)
+unfolding date_time_in
+date_time_same front comments back out are = ap (λ w. w >>= (λ words. without_weekday words >>= date_time_of_words)) (words_same front comments back out are)
 
 pub date_same : (front comments back : List ℕ) → after_text Outside front ≡ Outside → AreComments comments
     → date_text (front ++ 32 ∷ (comments ++ back)) ≡ date_text (front ++ 32 ∷ back)
-date_same front comments back out are = ap (option_map date_time_text) (moment_same front comments back out are)
+date_same front comments back out are = ap (option_map date_time_text) (date_time_same front comments back out are)
 
 pub utc_same : (front comments back : List ℕ) → after_text Outside front ≡ Outside → AreComments comments
     → utc_of (front ++ 32 ∷ (comments ++ back)) ≡ utc_of (front ++ 32 ∷ back)
-utc_same front comments back out are = ap (λ m. m >>= (λ x. if_in_range (moment_seconds x))) (moment_same front comments back out are)
+utc_same front comments back out are = ap (λ m. m >>= (λ x. if_in_range (unix_seconds x))) (date_time_same front comments back out are)

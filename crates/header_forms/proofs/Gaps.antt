@@ -9,7 +9,7 @@ use Rattle.mail_text.specs.Comments.{next, gap_from, after_gap}
 use Rattle.header_forms.specs.Dates.{Read, all_words, parted, at_comma, onto, with_byte, read_from, words_of}
 use Rattle.header_forms.specs.DateWords.{is_gap, begins_word}
 
--- the words of a text, from a place on that may be in a comment
+-- the words of a text, from a byte offset on that may be in a comment
 abbrev pub words_at : List ℕ → State → Option (List (List ℕ))
 words_at text state = option_map all_words (read_from text state)
 

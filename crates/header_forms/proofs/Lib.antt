@@ -2,7 +2,7 @@ pub mod Angled
 pub mod Folds
 pub mod Cutting
 pub mod Turned
-pub mod Spelled
+pub mod PartTexts
 pub mod DateSplit
 pub mod Gaps
 pub mod DateComments

@@ -7,16 +7,16 @@ use Rattle.std.proofs.Math.Bool.{and-false}
 use Rattle.std.proofs.lemmas.Bool.{true≢false, not-true, le-ltb}
 use Rattle.std.proofs.lemmas.Str.{encodes-chars}
 use Rattle.mail_text.specs.Texts.{trimmed}
-use Rattle.header_forms.specs.declared.marks.Mark.{Mark}
-use Rattle.header_forms.specs.declared.marks.Place.TheVariants.{Bare}
-use Rattle.header_forms.specs.declared.marks.State.TheVariants.{Outside}
-use Rattle.header_forms.specs.declared.marks.Part.TheVariants.{Plain, Remark, Phrase, Whole}
+use Rattle.header_forms.specs.declared.address_characters.AddressCharacter.{AddressCharacter}
+use Rattle.header_forms.specs.declared.address_characters.Context.TheVariants.{Bare}
+use Rattle.header_forms.specs.declared.address_characters.State.TheVariants.{Outside}
+use Rattle.header_forms.specs.declared.address_characters.Part.TheVariants.{Plain, Remark, Phrase, Whole}
 use Rattle.header_forms.specs.declared.address.Address.{Address}
 use Rattle.header_forms.specs.declared.address.Group.{Group}
-use Rattle.header_forms.specs.Marks.{marks_from, marks}
+use Rattle.header_forms.specs.AddressCharacters.{characters_from, address_characters}
 use Rattle.header_forms.specs.Groups.{last, onto, sliced, sign_of, slices_from, entries, entries_from}
-use Rattle.header_forms.specs.Addresses.{in_part, spelled, within_bracket, phrase_of, is_shown, group_of, opens_bracket, has_bracket, email_of, if_some, or_else, comment_name, name_before, opens_comment, last_comment, name_of, address_of, if_address, groups_by, addresses_in}
-use Rattle.header_forms.specs.Plain.{is_plain}
+use Rattle.header_forms.specs.Addresses.{in_part, part_text, within_bracket, phrase_of, is_shown, group_of, opens_bracket, has_bracket, email_of, if_some, or_else, comment_name, name_before, opens_comment, last_comment, name_of, address_of, if_address, groups_by, addresses_in}
+use Rattle.header_forms.specs.PlainAddresses.{is_plain}
 
 pub and_first : (p q : Bool) → (p && q) ≡ true → p ≡ true
 and_first true q h = refl
@@ -47,13 +47,13 @@ plain_is c h =
     }
 
 -- a character outside quotes, comments and brackets
-abbrev pub bare : ℕ → Mark
-bare c = record { character = c; place = Bare; said = true }
+abbrev pub bare : ℕ → AddressCharacter
+bare c = record { character = c; context = Bare; said = true }
 
 abbrev pub ArePlain : List ℕ → Type 0
 ArePlain cs = list_all is_plain cs ≡ true
 
-marks_plain : (cs : List ℕ) → ArePlain cs → marks_from Outside cs ≡ map bare cs
+marks_plain : (cs : List ℕ) → ArePlain cs → characters_from Outside cs ≡ map bare cs
 marks_plain [] h = refl
 marks_plain (c ∷ cs) h =
     let p = plain_is c (and_first (is_plain c) (list_all is_plain cs) h) in
@@ -79,7 +79,7 @@ no_bracket : (cs : List ℕ) → has_bracket (map bare cs) ≡ false
 no_bracket cs =
     ap (λ n. ltb n (length (map bare cs))) (bracket_end cs) ∙ le-ltb (length (map bare cs)) (length (map bare cs)) (omega arith)
 
-all_said : (cs : List ℕ) → map (λ (m : Mark). m.character) (filter (in_part Plain) (map bare cs)) ≡ cs
+all_said : (cs : List ℕ) → map (λ (m : AddressCharacter). m.character) (filter (in_part Plain) (map bare cs)) ≡ cs
 all_said [] = refl
 all_said (c ∷ cs) = ap (λ t. c ∷ t) (all_said cs)
 
@@ -98,7 +98,7 @@ name_none cs =
 
 email_all : (cs : List ℕ) → email_of (map bare cs) ≡ trimmed (encode_utf8_all cs)
 email_all cs =
-    ap (λ v. cond v (trimmed (spelled Whole (within_bracket (map bare cs)))) (trimmed (spelled Plain (map bare cs)))) (no_bracket cs) ∙ ap (λ t. trimmed (encode_utf8_all t)) (all_said cs)
+    ap (λ v. cond v (trimmed (part_text Whole (within_bracket (map bare cs)))) (trimmed (part_text Plain (map bare cs)))) (no_bracket cs) ∙ ap (λ t. trimmed (encode_utf8_all t)) (all_said cs)
 
 some_text : (t : List ℕ) → 0 < length t → if_some t ≡ Some t
 some_text [] h = absurd (omega (arith, h))

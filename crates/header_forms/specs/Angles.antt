@@ -4,9 +4,9 @@ use Rattle.std.specs.Prelude.{ℕ, Bool, true, false, ◌==◌, List, [], ◌∷
 use Rattle.std.specs.Char.{is_ascii_whitespace}
 use Rattle.header_forms.specs.Texts.{without}
 
--- what a text has, read from a place: `outside` are the texts between brackets, where no bracket is
--- open there; where one is open, `inside` is the text up to the bracket that closes it, and the
--- texts after that
+-- what a text has, read from a byte offset on: `outside` are the texts between brackets, if no
+-- bracket is open there; `inside`, if one is open there, is the text up to the bracket that closes
+-- it and the texts after that
 pub record Read : Type 0 where
   pub outside : List (List ℕ)
   pub inside : Option (List ℕ × List (List ℕ))

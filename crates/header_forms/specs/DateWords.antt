@@ -1,4 +1,4 @@
--- The words of a date from the front on.
+-- The words of a date-time, read from the beginning.
 use Rattle.std.specs.Prelude.{◌≡◌, ℕ, Bool, true, false, ◌&&◌, ◌||◌, not, ◌==◌, List, [], ◌∷◌, Option, Some, None}
 use Rattle.std.specs.Char.{is_ascii_whitespace}
 use Rattle.mail_text.specs.declared.comment.State.TheVariants.{Outside}
@@ -25,22 +25,22 @@ abbrev pub starts_word : List ℕ → Bool
 starts_word [] = false
 starts_word (b ∷ bs) = is_in_word b
 
--- there is no word, or a comment doesn't close
+-- there is no word, or a comment isn't closed
 abbrev pub has_no_word : Option (List (List ℕ)) → Bool
 has_no_word None = true
 has_no_word (Some []) = true
 has_no_word (Some (word ∷ words)) = false
 
--- there is no word, and each comment closes
+-- there is no word, and each comment is closed
 abbrev pub is_end : Option (List (List ℕ)) → Bool
 is_end None = false
 is_end (Some []) = true
 is_end (Some (word ∷ words)) = false
 
--- the moment that the words of a text say, by what words say
-abbrev pub moment_from : (List (List ℕ) → Option ZonedDateTime) → List ℕ → Option ZonedDateTime
-moment_from say text = words_of text >>= say
+-- the date-time of the words of a text; `say` gives the date-time of words
+abbrev pub date_time_from : (List (List ℕ) → Option ZonedDateTime) → List ℕ → Option ZonedDateTime
+date_time_from say text = words_of text >>= say
 
--- some text is whole comments, one after another, and nothing else
+-- a text is complete comments, one after another, and nothing else
 abbrev pub AreComments : List ℕ → Type 0
 AreComments text = gap_from (λ _. false) text Outside ≡ Some []

@@ -1,11 +1,12 @@
 -- The Date form (RFC 5322, sections 3.3 and 4.3; RFC 8621, section 4.1.2.6).
-use Rattle.std.specs.Prelude.{ℕ, ◌<◌, ◌≤◌, ◌+◌, ◌-◌, ◌*◌, ◌/◌, ◌%◌, Bool, true, false, ◌&&◌, ◌||◌, ◌==◌, nat_lt, nat_le, ℤ, pos, negsuc, neg_ℤ, ◌-ℤ◌, int_le, min, List, [], ◌∷◌, ◌++◌, length, Option, Some, None, option_map, codes, bytes_eq, if◌then◌else◌}
+use Rattle.std.specs.Prelude.{ℕ, ◌<◌, ◌≤◌, ◌+◌, ◌-◌, ◌*◌, ◌/◌, ◌%◌, Bool, true, false, ◌&&◌, ◌||◌, ◌==◌, nat_lt, nat_le, ℤ, pos, neg_ℤ, ◌-ℤ◌, int_le, min, List, [], ◌∷◌, ◌++◌, length, Option, Some, None, option_map, codes, bytes_eq, if◌then◌else◌}
 use Rattle.std.specs.List.{list_all}
 use Rattle.std.specs.Char.{is_ascii_whitespace, is_ascii_digit, is_ascii_alphabetic}
 use Rattle.std.specs.Str.{str_to_ascii_lowercase}
 use Rattle.jiff.specs.Words.{days_in_month}
 use Rattle.jm_base.specs.UtcDates.{date_time_seconds}
 use Rattle.jm_base.specs.declared.identifiers.UtcDate.{UtcDate}
+use Rattle.jm_base.specs.declared.utc_dates.TheConstants.{FIRST_TIMESTAMP, LAST_TIMESTAMP}
 use Rattle.mail_text.specs.declared.comment.State.{State}
 use Rattle.mail_text.specs.declared.comment.State.TheVariants.{Outside, Inside, Escaped}
 use Rattle.mail_text.specs.Comments.{next}
@@ -14,7 +15,7 @@ use Rattle.header_forms.specs.declared.date_time.ZonedDateTime.{ZonedDateTime}
 use Rattle.header_forms.specs.declared.date_time.ZoneOffset.{ZoneOffset}
 use Rattle.header_forms.specs.declared.date_time.TimeOfDay.{TimeOfDay}
 
--- the words of a text from a place on: the rest of the word that is there, and the later ones
+-- the words of a text from a byte offset on: the rest of the word that is there, and the later ones
 pub record Read : Type 0 where
   pub front : List ℕ
   pub later : List (List ℕ)
@@ -37,14 +38,14 @@ parted r = record { front = []; later = all_words r }
 abbrev pub at_comma : Read → Read
 at_comma r = record { front = []; later = (44 ∷ []) ∷ all_words r }
 
--- words are parted by white space and comments
+-- white space and comments separate words
 abbrev pub with_byte : State → ℕ → Read → Read
 with_byte Outside b r = if b == 40 || is_ascii_whitespace b then parted r
     else (if b == 44 then at_comma r else onto b r)
 with_byte (Inside depth) b r = r
 with_byte (Escaped depth) b r = r
 
--- nothing is read where a comment doesn't close
+-- nothing is read if a comment isn't closed
 abbrev pub read_end : State → Option Read
 read_end Outside = Some (record { front = []; later = [] })
 read_end (Inside depth) = None
@@ -58,10 +59,10 @@ abbrev pub words_of : List ℕ → Option (List (List ℕ))
 words_of text = option_map all_words (read_from text Outside)
 
 -- the number of a name in a list of names of three letters each, in either case, the first being 1
-abbrev pub place_in : List (List ℕ) → ℕ → List ℕ → Option ℕ
-place_in [] n name = None
-place_in (known ∷ names) n name =
-    if bytes_eq (str_to_ascii_lowercase name) known then Some n else place_in names (n + 1) name
+abbrev pub name_number : List (List ℕ) → ℕ → List ℕ → Option ℕ
+name_number [] n name = None
+name_number (known ∷ names) n name =
+    if bytes_eq (str_to_ascii_lowercase name) known then Some n else name_number names (n + 1) name
 
 abbrev pub weekdays : List (List ℕ)
 weekdays = codes "mon" ∷ codes "tue" ∷ codes "wed" ∷ codes "thu" ∷ codes "fri" ∷ codes "sat"
@@ -85,7 +86,7 @@ abbrev pub without_weekday : List (List ℕ) → Option (List (List ℕ))
 without_weekday [] = Some []
 without_weekday (a ∷ []) = Some (a ∷ [])
 without_weekday (a ∷ b ∷ rest) =
-    if is_comma b then after_weekday (place_in weekdays 1 a) rest else Some (a ∷ b ∷ rest)
+    if is_comma b then after_weekday (name_number weekdays 1 a) rest else Some (a ∷ b ∷ rest)
 
 abbrev pub value_from : ℕ → List ℕ → ℕ
 value_from n [] = n
@@ -97,7 +98,8 @@ number_in least most word =
     if list_all is_ascii_digit word && (nat_le least (length word) && nat_le (length word) most)
     then Some (value_from 0 word) else None
 
--- a year of two digits is of 1950 to 2049, one of three digits is counted from 1900
+-- a year of two digits is one of 1950 to 2049, a year of three digits is counted from 1900
+-- (obs-year; RFC 5322, section 4.3)
 abbrev pub full_year : ℕ → ℕ → ℕ
 full_year size n =
     if size == 4 then n else (if size == 2 && nat_lt n 50 then n + 2000 else n + 1900)
@@ -105,7 +107,7 @@ full_year size n =
 abbrev pub year_in : List ℕ → Option ℕ
 year_in word = option_map (full_year (length word)) (number_in 2 4 word)
 
--- a leap second is taken as the one before it
+-- a leap second is read as the second before it
 abbrev pub if_time : ℕ → ℕ → ℕ → Option TimeOfDay
 if_time hour minute second =
     if nat_lt hour 24 && (nat_lt minute 60 && nat_le second 60)
@@ -129,7 +131,8 @@ time_in _ = None
 abbrev pub hours : Bool → ℕ → ZoneOffset
 hours behind n = record { behind = behind; minutes = n * 60 }
 
--- the names of RFC 822; every other name has UTC (RFC 5322, section 4.3)
+-- the offset of a name of a zone (obs-zone; RFC 5322, section 4.3): the names of North America have
+-- theirs, every other name has that of UTC
 abbrev pub zone_named : List ℕ → ZoneOffset
 zone_named name =
     if bytes_eq name (codes "edt") then hours true 4
@@ -138,12 +141,13 @@ zone_named name =
     else (if bytes_eq name (codes "mst") || bytes_eq name (codes "pdt") then hours true 7
     else (if bytes_eq name (codes "pst") then hours true 8 else hours false 0))))
 
--- hhmm, of which mm are below 60
+-- the offset of hhmm: mm is below 60
 abbrev pub offset_by : Bool → Option ℕ → Option ZoneOffset
 offset_by behind None = None
 offset_by behind (Some n) = if nat_lt (n % 100) 60
     then Some (record { behind = behind; minutes = (n / 100) * 60 + n % 100 }) else None
 
+-- the offset of a zone: +hhmm, -hhmm, or a name (obs-zone)
 abbrev pub zone_in : List ℕ → Option ZoneOffset
 zone_in [] = None
 zone_in (b ∷ bs) =
@@ -152,12 +156,12 @@ zone_in (b ∷ bs) =
     else (if list_all is_ascii_alphabetic (b ∷ bs)
     then Some (zone_named (str_to_ascii_lowercase (b ∷ bs))) else None))
 
--- a day that the month of the year has
+-- a date-time, if the month of its year has its day
 abbrev pub if_day : ZonedDateTime → Option ZonedDateTime
 if_day m =
     if nat_le 1 m.day && nat_le m.day (days_in_month (pos m.year) m.month) then Some m else None
 
--- a day that the calendar has
+-- the calendar has the day of a date-time
 pub record IsReal (m : ZonedDateTime) : Type 0 where
   pub to_year : m.year < 10000
   pub from_month : 1 ≤ m.month
@@ -168,22 +172,22 @@ pub record IsReal (m : ZonedDateTime) : Type 0 where
 unfoldable pub date_time_by : List ℕ → List ℕ → List ℕ → List ℕ → List ℕ → Option ZonedDateTime
 date_time_by day month year time zone = do
   d ← number_in 1 2 day
-  m ← place_in months 1 month
+  m ← name_number months 1 month
   y ← year_in year
   t ← time_in time
   z ← zone_in zone
   if_day (record { year = y; month = m; day = d; time = t; offset = z })
 
 -- day, month, year, time and zone, and nothing else
-abbrev pub moment_of_words : List (List ℕ) → Option ZonedDateTime
-moment_of_words (day ∷ month ∷ year ∷ time ∷ zone ∷ []) = date_time_by day month year time zone
-moment_of_words _ = None
+abbrev pub date_time_of_words : List (List ℕ) → Option ZonedDateTime
+date_time_of_words (day ∷ month ∷ year ∷ time ∷ zone ∷ []) = date_time_by day month year time zone
+date_time_of_words _ = None
 
-unfoldable pub moment_in : List ℕ → Option ZonedDateTime
-moment_in text = do
+unfoldable pub date_time_in : List ℕ → Option ZonedDateTime
+date_time_in text = do
   words ← words_of text
   parts ← without_weekday words
-  moment_of_words parts
+  date_time_of_words parts
 
 abbrev pub two_digits : ℕ → List ℕ
 two_digits n = (48 + n / 10 % 10) ∷ (48 + n % 10) ∷ []
@@ -195,24 +199,24 @@ offset_text z =
     else ((if z.behind then 45 else 43) ∷ two_digits (z.minutes / 60) ++ 58
     ∷ two_digits (z.minutes % 60))
 
--- by RFC 3339: YYYY-MM-DDTHH:MM:SS and the offset
+-- YYYY-MM-DDTHH:MM:SS and the offset (RFC 3339)
 abbrev pub date_time_text : ZonedDateTime → List ℕ
 date_time_text m =
     two_digits (m.year / 100) ++ two_digits m.year ++ 45 ∷ two_digits m.month ++ 45
     ∷ two_digits m.day ++ 84 ∷ two_digits m.time.hour
     ++ 58 ∷ two_digits m.time.minute ++ 58 ∷ two_digits m.time.second ++ offset_text m.offset
 
--- the date that a value on one line says, if it says one
+-- the Date form of a value on one line, if the value is a valid date
 abbrev pub date_text : List ℕ → Option (List ℕ)
-date_text text = option_map date_time_text (moment_in text)
+date_text text = option_map date_time_text (date_time_in text)
 
 -- how many seconds a zone's clock is ahead of UTC
 abbrev pub offset_seconds : ZoneOffset → ℤ
 offset_seconds z = if z.behind then neg_ℤ (pos (z.minutes * 60)) else pos (z.minutes * 60)
 
--- the seconds since the beginning of 1970 in UTC: the clock of the zone, less its offset
-abbrev pub moment_seconds : ZonedDateTime → ℤ
-moment_seconds m =
+-- the Unix seconds of a date-time: the clock of the zone, less its offset
+abbrev pub unix_seconds : ZonedDateTime → ℤ
+unix_seconds m =
     date_time_seconds (record {
       year = m.year;
       month = m.month;
@@ -223,11 +227,11 @@ moment_seconds m =
     })
     -ℤ offset_seconds m.offset
 
--- the moments of the years 0001 to 9999 (RFC 8620, section 1.4)
+-- the timestamps of the years 0001 to 9999 (RFC 8620, section 1.4; RFC 3339)
 abbrev pub if_in_range : ℤ → Option UtcDate
-if_in_range seconds = if int_le (negsuc 62135596799) seconds && int_le seconds (pos 253402300799)
+if_in_range seconds = if int_le FIRST_TIMESTAMP seconds && int_le seconds (pos LAST_TIMESTAMP)
     then Some (record { seconds = seconds }) else None
 
--- the moment that a value on one line says, if it says one of these
+-- the timestamp of a value on one line, if the value is a valid date of these years
 abbrev pub utc_of : List ℕ → Option UtcDate
-utc_of text = moment_in text >>= (λ m. if_in_range (moment_seconds m))
+utc_of text = date_time_in text >>= (λ m. if_in_range (unix_seconds m))

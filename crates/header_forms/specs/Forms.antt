@@ -3,7 +3,7 @@ use Rattle.std.specs.Prelude.{ℕ, List, [], ◌∷◌, map, Option, Some, None,
 use Rattle.jm_json.specs.Tree.{Tree, null, text, list, object, trees_of, fields_of}
 use Rattle.header_forms.specs.declared.form.Form.{Form}
 use Rattle.header_forms.specs.declared.form.Form.TheVariants.{Raw, Text, Addresses, GroupedAddresses, MessageIds, Date, Urls}
-use Rattle.header_forms.specs.Texts.{raw_text, on_one_line, text_of}
+use Rattle.header_forms.specs.Texts.{raw_text, on_one_line, text_form}
 use Rattle.header_forms.specs.Angles.{angle_texts}
 use Rattle.header_forms.specs.declared.address.Address.{Address}
 use Rattle.header_forms.specs.declared.address.Group.{Group}
@@ -31,7 +31,7 @@ list_or_null (t ∷ ts) = list (trees_of (map text (t ∷ ts)))
 
 abbrev pub form_tree : Form → List ℕ → Tree
 form_tree Raw value = text (raw_text value)
-form_tree Text value = text (text_of value)
+form_tree Text value = text (text_form value)
 form_tree Addresses value = addresses_tree (addresses_in (on_one_line value))
 form_tree GroupedAddresses value = list (trees_of (map group_tree (groups_in (on_one_line value))))
 form_tree MessageIds value = list_or_null (angle_texts (on_one_line value))

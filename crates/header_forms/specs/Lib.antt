@@ -1,10 +1,10 @@
 pub mod Texts
 pub mod Angles
-pub mod Marks
+pub mod AddressCharacters
 pub mod Groups
 pub mod Addresses
-pub mod Running
+pub mod GroupSteps
 pub mod Dates
 pub mod DateWords
-pub mod Plain
+pub mod PlainAddresses
 pub mod Forms

@@ -17,7 +17,7 @@ is_zero c = c == 0
 abbrev pub raw_text : List ℕ → List ℕ
 raw_text value = without is_zero (utf8_lossy value)
 
--- on one line
+-- the value on one line
 abbrev pub on_one_line : List ℕ → List ℕ
 on_one_line value = unfolded (raw_text value)
 
@@ -28,6 +28,7 @@ is_space b = b == 32
 abbrev pub without_spaces : List ℕ → List ℕ
 without_spaces text = drop (prefix_len is_space text) text
 
--- on one line, with its words decoded
-abbrev pub text_of : List ℕ → List ℕ
-text_of value = decoded_words (without_spaces (on_one_line value))
+-- the Text form: on one line, without the spaces at its beginning, and with its encoded-words
+-- decoded
+abbrev pub text_form : List ℕ → List ℕ
+text_form value = decoded_words (without_spaces (on_one_line value))

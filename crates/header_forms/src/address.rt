@@ -17,7 +17,7 @@ pub type Addresses = Sequence<Address>;
 /// A group of addresses (RFC 8621, section 4.1.2.4).
 #[derive(Drop)]
 pub struct Group {
-    /// The name, which may be empty; none of addresses that stand outside groups.
+    /// The name, which may be empty; addresses outside groups have none.
     pub name: Option<Text>,
     /// The addresses of the group in order; a group with a name may have none.
     pub addresses: Addresses,

@@ -14,7 +14,7 @@ struct Angle<'a> {
     rest: &'a str,
 }
 
-/// The first text between brackets.
+/// Reads the first text between brackets.
 fn next_angle(text: &str) -> Option<Angle<'_>>
     ensures value { MatchOption result ((read text.now).outside ≡ [])
         (λ a. (read text.now).outside ≡ a.text.now ∷ (read a.rest.now).outside) }
@@ -29,7 +29,7 @@ fn next_angle(text: &str) -> Option<Angle<'_>>
     Some(Angle { text, rest })
 }
 
-/// Takes the white space out of a text.
+/// Removes the white space from a text.
 fn drop_white(text: &mut String)
     ensures { string_bytes text.new ≡ without is_ascii_whitespace (string_bytes text.old) }
 {
@@ -48,9 +48,9 @@ fn push_angle(alloc: Global, found: &mut Texts, text: &str) -> Result<(), NoMemo
     Ok(())
 }
 
-/// The texts between `<` and `>` in a value on one line, without their white space: identifiers of
-/// messages, and URLs (RFC 8621, sections 4.1.2.5 and 4.1.2.7). Empty ones are left out, and what
-/// isn't closed is none.
+/// Reads the texts between `<` and `>` in a value on one line, without their white space:
+/// identifiers of messages, and URLs (RFC 8621, sections 4.1.2.5 and 4.1.2.7). Empty ones are left
+/// out, and a bracket that isn't closed gives none.
 pub fn angle_texts_of(alloc: Global, text: &str) -> Result<Texts, NoMemory>
     ensures { IfOk result (λ ts. ts ≡ angle_texts text.now) }
 {

@@ -4,38 +4,43 @@ ghost use Rattle.jiff.specs.Words.{IsWithin};
 ghost use Rattle.jiff_core.specs.Calendar.{days_from_civil};
 ghost use Rattle.jm_base.specs.UtcDates.{IsUtcDate};
 ghost use Rattle.header_forms.specs.Dates;
-ghost use Rattle.header_forms.specs.Dates.{IsReal, date_text, moment_seconds, utc_of};
+ghost use Rattle.header_forms.specs.Dates.{IsReal, date_text, unix_seconds, utc_of};
 
 use crate::date_reader::read_date_time;
 use crate::date_text::date_time_text;
 use crate::date_time::{TimeOfDay, ZoneOffset, ZonedDateTime};
 use jiff::civil::date;
-use jm_base::{NoMemory, Text, UtcDate};
+use jm_base::{FIRST_TIMESTAMP, LAST_TIMESTAMP, NoMemory, Text, UtcDate};
 use std::alloc::Global;
 
-/// The date that a value on one line says, with its offset, as RFC 3339 writes it:
-/// `YYYY-MM-DDTHH:MM:SS`, and `Z` or `+hh:mm`. None where the value says no date.
+/// Returns the date of a value on one line, with its offset, as RFC 3339 writes it:
+/// `YYYY-MM-DDTHH:MM:SS`, and `Z` or `+hh:mm`. None if the value is no valid date.
 pub fn date_of(alloc: Global, text: &[u8]) -> Result<Option<Text>, NoMemory>
     ensures { IfOk result (λ d. d ≡ date_text text.now) }
 {
     match read_date_time(text) {
-        Some(moment) => Ok(Some(date_time_text(alloc, &moment)?)),
+        Some(date_time) => Ok(Some(date_time_text(alloc, &date_time)?)),
         None => Ok(None),
     }
 }
 
-/// The seconds from the beginning of 1970 to that of the day.
-fn day_seconds(moment: &ZonedDateTime) -> i64
-    requires { IsReal moment.now }
-    ensures value { result ≡ days_from_civil (pos moment.now.year) moment.now.month moment.now.day
+/// Returns the seconds from the beginning of 1970 to the beginning of the day.
+fn day_seconds(date_time: &ZonedDateTime) -> i64
+    requires { IsReal date_time.now }
+    ensures value { result
+        ≡ days_from_civil (pos date_time.now.year) date_time.now.month date_time.now.day
         *ℤ pos 86400 }
     ensures bound { IsWithin 400000000000 result }
 {
-    let day = date(moment.year as i16, moment.month as i8, moment.day as i8);
+    let day = date(
+        date_time.year as i16,
+        date_time.month as i8,
+        date_time.day as i8,
+    );
     i64::from(day.to_plain().to_unix_epoch_day()) * 86400
 }
 
-/// The seconds of a day that have gone by.
+/// Returns the seconds from the beginning of the day.
 fn clock_seconds(time: TimeOfDay) -> i64
     ensures value { result ≡ pos (time.hour * 3600 + time.minute * 60 + time.second) }
     ensures bound { IsWithin 4294967295 result }
@@ -43,7 +48,7 @@ fn clock_seconds(time: TimeOfDay) -> i64
     i64::from(u32::from(time.hour) * 3600 + u32::from(time.minute) * 60 + u32::from(time.second))
 }
 
-/// How many seconds a zone's clock is ahead of UTC.
+/// Returns how many seconds a zone's clock is ahead of UTC.
 fn offset_seconds(offset: ZoneOffset) -> i64
     ensures value { result ≡ Dates.offset_seconds offset }
     ensures bound { IsWithin 4294967295 result }
@@ -52,32 +57,32 @@ fn offset_seconds(offset: ZoneOffset) -> i64
     if offset.behind { -seconds } else { seconds }
 }
 
-/// The seconds since the beginning of 1970 in UTC.
-fn seconds_of(moment: &ZonedDateTime) -> i64
-    requires { IsReal moment.now }
-    ensures { result ≡ moment_seconds moment.now }
+/// Returns the Unix seconds of a date-time.
+fn seconds_of(date_time: &ZonedDateTime) -> i64
+    requires { IsReal date_time.now }
+    ensures { result ≡ unix_seconds date_time.now }
 {
-    day_seconds(moment) + clock_seconds(moment.time) - offset_seconds(moment.offset)
+    day_seconds(date_time) + clock_seconds(date_time.time) - offset_seconds(date_time.offset)
 }
 
-/// The moment, if it is of the years 0001 to 9999.
+/// Returns the timestamp, if it is in the years 0001 to 9999 (RFC 3339).
 fn if_in_range(seconds: i64) -> Option<UtcDate>
     ensures value { result ≡ Dates.if_in_range seconds }
     ensures kept { IfSome result IsUtcDate }
 {
-    if -62135596800 <= seconds && seconds <= 253402300799 {
+    if FIRST_TIMESTAMP <= seconds && seconds <= LAST_TIMESTAMP as i64 {
         Some(UtcDate { seconds })
     } else {
         None
     }
 }
 
-/// The moment in UTC that a value on one line says. None where the value says no date, or its
-/// moment isn't of the years 0001 to 9999 (RFC 8620, section 1.4).
+/// Returns the timestamp of a value on one line. None if the value is no valid date, or its
+/// timestamp isn't in the years 0001 to 9999 (RFC 8620, section 1.4).
 pub fn timestamp_of(text: &[u8]) -> Option<UtcDate>
     ensures value { result ≡ utc_of text.now }
     ensures kept { IfSome result IsUtcDate }
 {
-    let moment = read_date_time(text)?;
-    if_in_range(seconds_of(&moment))
+    let date_time = read_date_time(text)?;
+    if_in_range(seconds_of(&date_time))
 }

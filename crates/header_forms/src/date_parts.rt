@@ -1,14 +1,14 @@
-// What the words of a date say (RFC 5322, sections 3.3 and 4.3).
+// The words of a date-time (RFC 5322, sections 3.3 and 4.3).
 ghost use Rattle.std.specs.Prelude.{◌≡◌, ◌<◌, ◌≤◌, ◌∷◌, [], map, length, IfSome, None, Some, true, codes, bytes_eq, if◌then◌else◌};
 ghost use Rattle.std.specs.Char.{to_ascii_lowercase, is_ascii_digit, is_ascii_alphabetic};
 ghost use Rattle.std.specs.List.{list_all};
 ghost use Rattle.std.specs.Str.{str_to_ascii_lowercase};
 ghost use Rattle.header_forms.specs.Dates;
-ghost use Rattle.header_forms.specs.Dates.{number_in, value_from, place_in, weekdays, months, year_in, time_in, zone_named, zone_in};
+ghost use Rattle.header_forms.specs.Dates.{number_in, value_from, name_number, weekdays, months, year_in, time_in, zone_named, zone_in};
 
 use crate::date_time::{TimeOfDay, ZoneOffset};
 
-/// The number of at most four digits; none where a byte is none.
+/// Returns the number of at most four digits; none if a byte is no digit.
 fn digits(word: &[u8]) -> Option<u16>
     requires { length word.now ≤ 4 }
     ensures value { result ≡ (if list_all is_ascii_digit word.now then Some (value_from 0 word.now)
@@ -27,8 +27,8 @@ fn digits(word: &[u8]) -> Option<u16>
     Some(value)
 }
 
-/// The number that from `least` to `most` digits are.
-pub fn number(least: usize, most: usize, word: &[u8]) -> Option<u16>
+/// Reads a number of `least` to `most` digits.
+pub fn read_number(least: usize, most: usize, word: &[u8]) -> Option<u16>
     requires { most ≤ 4 }
     ensures value { result ≡ number_in least most word.now }
     ensures bound { IfSome result (λ n. n < 10000) }
@@ -42,7 +42,7 @@ pub fn number(least: usize, most: usize, word: &[u8]) -> Option<u16>
     digits(word)
 }
 
-/// Whether a word is a name, which is in lower case, in either case.
+/// Returns whether a word is a name, in either case. `name` is in lower case.
 fn is_name(word: &[u8], name: &[u8]) -> bool
     requires { map to_ascii_lowercase name.now ≡ name.now }
     ensures { result ≡ bytes_eq (str_to_ascii_lowercase word.now) name.now }
@@ -50,9 +50,9 @@ fn is_name(word: &[u8], name: &[u8]) -> bool
     word.eq_ignore_ascii_case(name)
 }
 
-/// The number of a weekday, from 1 for Monday.
-pub fn weekday(word: &[u8]) -> Option<u16>
-    ensures { result ≡ place_in weekdays 1 word.now }
+/// Reads a weekday (day-name): 1 is Monday.
+pub fn read_weekday(word: &[u8]) -> Option<u16>
+    ensures { result ≡ name_number weekdays 1 word.now }
 {
     if is_name(word, b"mon") {
         Some(1)
@@ -73,9 +73,9 @@ pub fn weekday(word: &[u8]) -> Option<u16>
     }
 }
 
-/// The number of a month, from 1.
-pub fn month(word: &[u8]) -> Option<u16>
-    ensures value { result ≡ place_in months 1 word.now }
+/// Reads a month (month-name): 1 is January.
+pub fn read_month(word: &[u8]) -> Option<u16>
+    ensures value { result ≡ name_number months 1 word.now }
     ensures from { IfSome result (λ n. 1 ≤ n) }
     ensures to { IfSome result (λ n. n ≤ 12) }
 {
@@ -108,7 +108,7 @@ pub fn month(word: &[u8]) -> Option<u16>
     }
 }
 
-/// The whole year that a number of so many digits encodes.
+/// Returns the year of a number of `size` digits (obs-year; RFC 5322, section 4.3).
 fn full_year(size: usize, n: u16) -> u16
     requires most { n < 10000 }
     requires short { size ≤ 3 → n < 1000 }
@@ -125,16 +125,16 @@ fn full_year(size: usize, n: u16) -> u16
     }
 }
 
-/// The year of two, three or four digits.
-pub fn year(word: &[u8]) -> Option<u16>
+/// Reads a year of two, three or four digits.
+pub fn read_year(word: &[u8]) -> Option<u16>
     ensures value { result ≡ year_in word.now }
     ensures bound { IfSome result (λ n. n < 10000) }
 {
-    let n = number(2, 4, word)?;
+    let n = read_number(2, 4, word)?;
     Some(full_year(word.len(), n))
 }
 
-/// A time that a clock shows, or the leap second of any minute.
+/// Returns a valid time of day. Second 60, which may be in any minute, is read as second 59.
 fn if_time(hour: u16, minute: u16, second: u16) -> Option<TimeOfDay>
     ensures { result ≡ Dates.if_time hour minute second }
 {
@@ -149,18 +149,19 @@ fn if_time(hour: u16, minute: u16, second: u16) -> Option<TimeOfDay>
     }
 }
 
+/// Reads the time of the words of an hour, a minute and a second.
 #[tactic(auto, unfolding(crate::specs::Dates::time_by))]
 fn time_by(hour: &[u8], minute: &[u8], second: &[u8]) -> Option<TimeOfDay>
     ensures { result ≡ Dates.time_by hour.now minute.now second.now }
 {
-    let hour = number(2, 2, hour)?;
-    let minute = number(2, 2, minute)?;
-    let second = number(2, 2, second)?;
+    let hour = read_number(2, 2, hour)?;
+    let minute = read_number(2, 2, minute)?;
+    let second = read_number(2, 2, second)?;
     if_time(hour, minute, second)
 }
 
-/// The time of a word `hh:mm` or `hh:mm:ss`.
-pub fn time(word: &[u8]) -> Option<TimeOfDay>
+/// Reads the time of a word `hh:mm` or `hh:mm:ss`.
+pub fn read_time(word: &[u8]) -> Option<TimeOfDay>
     ensures { result ≡ time_in word.now }
 {
     match word {
@@ -192,7 +193,8 @@ fn hours(behind: bool, n: u16) -> ZoneOffset
     }
 }
 
-/// The offset of a zone's name, in either case; a name that isn't known has that of UTC.
+/// Returns the offset of a zone's name, in either case (obs-zone; RFC 5322, section 4.3). A name
+/// that isn't known has that of UTC.
 fn named_zone(name: &[u8]) -> ZoneOffset
     ensures { result ≡ zone_named (str_to_ascii_lowercase name.now) }
 {
@@ -211,7 +213,7 @@ fn named_zone(name: &[u8]) -> ZoneOffset
     }
 }
 
-/// The offset of a number hhmm, if there is one.
+/// Returns the offset of a number hhmm, if there is one.
 fn offset_by(behind: bool, digits: Option<u16>) -> Option<ZoneOffset>
     requires { IfSome digits (λ n. n < 10000) }
     ensures { result ≡ Dates.offset_by behind digits }
@@ -233,17 +235,17 @@ fn is_letters(word: &[u8]) -> bool
     word.iter().all(|byte| byte.is_ascii_alphabetic())
 }
 
-/// The offset of a zone: `+hhmm`, `-hhmm`, or a name.
-pub fn zone(word: &[u8]) -> Option<ZoneOffset>
+/// Reads the offset of a zone: `+hhmm`, `-hhmm`, or a name (obs-zone; RFC 5322, section 4.3).
+pub fn read_zone(word: &[u8]) -> Option<ZoneOffset>
     ensures { result ≡ zone_in word.now }
 {
     match word {
         [] => None,
         [sign, digits @ ..] => {
             if *sign == b'+' {
-                offset_by(false, number(4, 4, digits))
+                offset_by(false, read_number(4, 4, digits))
             } else if *sign == b'-' {
-                offset_by(true, number(4, 4, digits))
+                offset_by(true, read_number(4, 4, digits))
             } else if is_letters(word) {
                 Some(named_zone(word))
             } else {

@@ -1,16 +1,16 @@
-// A date, word by word (RFC 5322, section 3.3).
+// A date-time, read word by word (RFC 5322, section 3.3).
 ghost use Rattle.std.specs.Prelude.{◌≡◌, ◌<◌, ◌≤◌, ◌∷◌, IfSome, pos, ◌&&◌, nat_le};
 ghost use Rattle.jiff.specs.Words.{days_in_month};
 ghost use Rattle.header_forms.specs.Dates;
-ghost use Rattle.header_forms.specs.Dates.{IsReal, moment_of_words, moment_in};
-ghost use Rattle.header_forms.specs.DateWords.{moment_from};
+ghost use Rattle.header_forms.specs.Dates.{IsReal, date_time_of_words, date_time_in};
+ghost use Rattle.header_forms.specs.DateWords.{date_time_from};
 
-use crate::date_parts::{month, number, time, weekday, year, zone};
+use crate::date_parts::{read_month, read_number, read_time, read_weekday, read_year, read_zone};
 use crate::date_time::ZonedDateTime;
 use crate::date_words::{is_done, next_word};
 use jiff::civil::Date;
 
-/// Whether the month of the year has the day.
+/// Returns whether the month of the year has the day.
 fn has_day(year: u16, month: u16, day: u16) -> bool
     requires year { year < 10000 }
     requires from_month { 1 ≤ month }
@@ -21,23 +21,23 @@ fn has_day(year: u16, month: u16, day: u16) -> bool
     Date::new(year as i16, month as i8, day as i8).is_ok()
 }
 
-/// The moment, if the calendar has its day.
-fn if_day(moment: ZonedDateTime) -> Option<ZonedDateTime>
-    requires year { moment.year < 10000 }
-    requires from_month { 1 ≤ moment.month }
-    requires to_month { moment.month ≤ 12 }
-    requires day { moment.day < 100 }
-    ensures value { result ≡ Dates.if_day moment }
+/// Returns the date-time, if the calendar has its day.
+fn if_day(date_time: ZonedDateTime) -> Option<ZonedDateTime>
+    requires year { date_time.year < 10000 }
+    requires from_month { 1 ≤ date_time.month }
+    requires to_month { date_time.month ≤ 12 }
+    requires day { date_time.day < 100 }
+    ensures value { result ≡ Dates.if_day date_time }
     ensures real { IfSome result IsReal }
 {
-    if has_day(moment.year, moment.month, moment.day) {
-        Some(moment)
+    if has_day(date_time.year, date_time.month, date_time.day) {
+        Some(date_time)
     } else {
         None
     }
 }
 
-/// The moment that five words say.
+/// Reads the date-time of five words.
 #[tactic(auto, unfolding(crate::specs::Dates::date_time_by))]
 fn date_time_by(
     day_word: &[u8],
@@ -50,11 +50,11 @@ fn date_time_by(
         time_word.now zone_word.now }
     ensures real { IfSome result IsReal }
 {
-    let day = number(1, 2, day_word)?;
-    let month = month(month_word)?;
-    let year = year(year_word)?;
-    let time = time(time_word)?;
-    let offset = zone(zone_word)?;
+    let day = read_number(1, 2, day_word)?;
+    let month = read_month(month_word)?;
+    let year = read_year(year_word)?;
+    let time = read_time(time_word)?;
+    let offset = read_zone(zone_word)?;
     if_day(ZonedDateTime {
         year,
         month,
@@ -64,10 +64,10 @@ fn date_time_by(
     })
 }
 
-/// The moment that these two words say with the words of the text.
+/// Reads the date-time of these two words and the words of the text.
 fn after_month(day_word: &[u8], month_word: &[u8], text: &[u8]) -> Option<ZonedDateTime>
-    ensures value { result ≡ moment_from (λ later.
-        moment_of_words (day_word.now ∷ month_word.now ∷ later)) text.now }
+    ensures value { result ≡ date_time_from (λ later.
+        date_time_of_words (day_word.now ∷ month_word.now ∷ later)) text.now }
     ensures real { IfSome result IsReal }
 {
     let year = next_word(text)?;
@@ -79,9 +79,9 @@ fn after_month(day_word: &[u8], month_word: &[u8], text: &[u8]) -> Option<ZonedD
     date_time_by(day_word, month_word, year.word, time.word, zone.word)
 }
 
-/// The moment that the words of the text say, without a weekday.
+/// Reads the date-time of the words of the text, which have no weekday.
 fn after_comma(text: &[u8]) -> Option<ZonedDateTime>
-    ensures value { result ≡ moment_from moment_of_words text.now }
+    ensures value { result ≡ date_time_from date_time_of_words text.now }
     ensures real { IfSome result IsReal }
 {
     let day = next_word(text)?;
@@ -95,9 +95,9 @@ fn is_comma(word: &[u8]) -> bool
     word == b",".as_slice()
 }
 
-/// The moment that a value on one line says.
+/// Reads the date-time of a value on one line; none if it isn't valid.
 pub fn read_date_time(text: &[u8]) -> Option<ZonedDateTime>
-    ensures value { result ≡ moment_in text.now }
+    ensures value { result ≡ date_time_in text.now }
     ensures real { IfSome result IsReal }
 {
     let first = next_word(text)?;
@@ -105,6 +105,6 @@ pub fn read_date_time(text: &[u8]) -> Option<ZonedDateTime>
     if !is_comma(second.word) {
         return after_month(first.word, second.word, second.rest);
     }
-    let _day = weekday(first.word)?;
+    let _day = read_weekday(first.word)?;
     after_comma(second.rest)
 }

@@ -1,6 +1,6 @@
 // Tables of dates. What they say is by docs/rules/messages-forms.md and by RFC 5322, sections 3.3
-// and 4.3 and appendix A. The seconds of a moment are those that Python's `datetime` counts to its
-// date.
+// and 4.3 and appendix A. The seconds of a timestamp are those that Python's `datetime` counts to
+// its date.
 use crate::{date_of, timestamp_of};
 use jm_base::NoMemory;
 use std::alloc::Global;
@@ -24,7 +24,7 @@ fn all_say(alloc: Global, table: &[(&[u8], &str)]) -> Result<bool, NoMemory> {
     Ok(true)
 }
 
-/// Whether no text says a date or a moment.
+/// Returns whether no text has a date or a timestamp.
 fn none_says(alloc: Global, texts: &[&[u8]]) -> Result<bool, NoMemory> {
     for text in texts {
         if date_of(alloc, text)?.is_some() || timestamp_of(text).is_some() {
@@ -34,18 +34,18 @@ fn none_says(alloc: Global, texts: &[&[u8]]) -> Result<bool, NoMemory> {
     Ok(true)
 }
 
-/// Whether a text says the moment so many seconds after the beginning of 1970.
-fn is_moment(text: &[u8], seconds: i64) -> bool {
+/// Returns whether a text has the timestamp of these Unix seconds.
+fn is_timestamp(text: &[u8], seconds: i64) -> bool {
     match timestamp_of(text) {
-        Some(moment) => moment.seconds == seconds,
+        Some(timestamp) => timestamp.seconds == seconds,
         None => false,
     }
 }
 
-/// Whether each text of a table says its moment.
-fn are_moments(table: &[(&[u8], i64)]) -> bool {
+/// Returns whether each text of a table has its timestamp.
+fn are_timestamps(table: &[(&[u8], i64)]) -> bool {
     for (text, seconds) in table {
-        if !is_moment(text, *seconds) {
+        if !is_timestamp(text, *seconds) {
             return false;
         }
     }
@@ -201,7 +201,7 @@ fn no_dates(rt: HostRuntime) -> Result<(), Fail> {
 }
 
 #[test]
-fn moments(rt: HostRuntime) -> Result<(), Fail> {
+fn timestamps(rt: HostRuntime) -> Result<(), Fail> {
     let table: [(&[u8], i64); 7] = [
         (b"Thu, 1 Jan 1970 00:00:09 +0000", 9),
         (b" Fri, 21 Nov 1997 09:55:06 -0600", 880127706),
@@ -212,13 +212,13 @@ fn moments(rt: HostRuntime) -> Result<(), Fail> {
         (b"1 Jan 0001 00:00 GMT", -62135596800),
         (b"31 Dec 9999 23:59:59 GMT", 253402300799),
     ];
-    assert!(rt; are_moments(&table));
+    assert!(rt; are_timestamps(&table));
     Ok(())
 }
 
 /// One minute before the year 1 and one after the year 9999.
 #[test]
-fn moments_of_other_years(rt: HostRuntime) -> Result<(), Fail> {
+fn timestamps_of_other_years(rt: HostRuntime) -> Result<(), Fail> {
     let texts: [&[u8]; 3] = [
         b"1 Jan 0001 00:00 +0001",
         b"31 Dec 9999 23:59:59 -0001",

@@ -1,4 +1,4 @@
-// A date as a text (RFC 3339, section 5.6).
+// The text of a date-time (RFC 3339, section 5.6).
 ghost use Rattle.std.specs.Prelude.{◌≡◌, ◌+◌, ◌/◌, ◌%◌, ◌<◌, ◌∷◌, [], ◌++◌, IfOk, OnOk, string_bytes, if◌then◌else◌};
 ghost use Rattle.header_forms.specs.Dates;
 ghost use Rattle.header_forms.specs.Dates.{two_digits, offset_text};
@@ -7,7 +7,7 @@ use crate::date_time::{TimeOfDay, ZoneOffset, ZonedDateTime};
 use jm_base::{NoMemory, Text};
 use std::alloc::Global;
 
-/// The last digit of a number.
+/// Returns the last digit of a number.
 fn last_digit(n: u16) -> char
     ensures value { result ≡ 48 + n % 10 }
     ensures ascii { result < 128 }
@@ -34,15 +34,15 @@ fn push_signed(text: &mut String, sign: char, n: u16) -> Result<(), NoMemory>
 }
 
 /// Adds YYYY-MM-DD.
-fn push_day(text: &mut String, moment: &ZonedDateTime) -> Result<(), NoMemory>
+fn push_day(text: &mut String, date_time: &ZonedDateTime) -> Result<(), NoMemory>
     ensures { OnOk result (string_bytes text.new ≡ string_bytes text.old
-        ++ two_digits (moment.now.year / 100) ++ two_digits moment.now.year ++ 45
-        ∷ two_digits moment.now.month ++ 45 ∷ two_digits moment.now.day) }
+        ++ two_digits (date_time.now.year / 100) ++ two_digits date_time.now.year ++ 45
+        ∷ two_digits date_time.now.month ++ 45 ∷ two_digits date_time.now.day) }
 {
-    push_two(text, moment.year / 100)?;
-    push_two(text, moment.year)?;
-    push_signed(text, '-', moment.month)?;
-    push_signed(text, '-', moment.day)
+    push_two(text, date_time.year / 100)?;
+    push_two(text, date_time.year)?;
+    push_signed(text, '-', date_time.month)?;
+    push_signed(text, '-', date_time.day)
 }
 
 /// Adds THH:MM:SS.
@@ -74,13 +74,13 @@ fn push_offset(text: &mut String, offset: ZoneOffset) -> Result<(), NoMemory>
     push_signed(text, ':', offset.minutes % 60)
 }
 
-/// YYYY-MM-DDTHH:MM:SS and the offset.
-pub fn date_time_text(alloc: Global, moment: &ZonedDateTime) -> Result<Text, NoMemory>
-    ensures { IfOk result (λ t. t ≡ Dates.date_time_text moment.now) }
+/// Returns YYYY-MM-DDTHH:MM:SS and the offset.
+pub fn date_time_text(alloc: Global, date_time: &ZonedDateTime) -> Result<Text, NoMemory>
+    ensures { IfOk result (λ t. t ≡ Dates.date_time_text date_time.now) }
 {
     let mut text = String::with_capacity(alloc, 25)?;
-    push_day(&mut text, moment)?;
-    push_time(&mut text, moment.time)?;
-    push_offset(&mut text, moment.offset)?;
+    push_day(&mut text, date_time)?;
+    push_time(&mut text, date_time.time)?;
+    push_offset(&mut text, date_time.offset)?;
     Ok(Text::from_string(text))
 }

@@ -1,4 +1,4 @@
-// A date and time, as a header field says it.
+// The date-time of a header field (RFC 5322, section 3.3).
 
 /// A time of day.
 #[derive(Clone, Copy)]

@@ -1,5 +1,5 @@
-// The words of a date: white space and comments part them, and a comma is a word of its own (RFC
-// 5322, sections 3.2.2 and 3.3).
+// The words of a date-time: white space and comments separate them, and a comma is a word of its
+// own (RFC 5322, sections 3.2.2 and 3.3).
 ghost use Rattle.std.specs.Prelude.{◌≡◌, ◌≤◌, ◌∷◌, length, option_map, MatchOption, IfSome, IfNone, true, None};
 ghost use Rattle.std.specs.List.{prefix_len};
 ghost use Rattle.header_forms.specs.Dates.{words_of};
@@ -15,7 +15,7 @@ pub struct Word<'a> {
     pub rest: &'a [u8],
 }
 
-/// The text from its first word on; none where a comment doesn't close.
+/// Returns the text from its first word on; none if a comment isn't closed.
 fn skip_gaps(text: &[u8]) -> Option<&[u8]>
     ensures value { MatchOption result (words_of text.now ≡ None)
         (λ r. words_of text.now ≡ words_of r.now) }
@@ -25,14 +25,14 @@ fn skip_gaps(text: &[u8]) -> Option<&[u8]>
     skip_gap(text, WhiteSpace::Ascii)
 }
 
-/// Whether a byte continues a word.
+/// Returns whether a byte continues a word.
 fn is_in_word(byte: u8) -> bool
     ensures { result ≡ DateWords.is_in_word byte }
 {
     !(byte == b'(' || byte.is_ascii_whitespace()) && byte != b','
 }
 
-/// How long the word at the start is.
+/// Returns how many bytes the word at the start has.
 fn word_len(text: &[u8]) -> usize
     ensures within { result ≤ length text.now }
     ensures value { result ≡ prefix_len DateWords.is_in_word text.now }
@@ -45,7 +45,7 @@ fn word_len(text: &[u8]) -> usize
     text.len()
 }
 
-/// The word at the start, which is no comma.
+/// Reads the word at the start, which is no comma.
 #[tactic(auto, using(crate::proofs::DateSplit::word_split))]
 fn plain_word(text: &[u8]) -> Word<'_>
     requires { starts_word text.now ≡ true }
@@ -56,7 +56,7 @@ fn plain_word(text: &[u8]) -> Word<'_>
     Word { word, rest }
 }
 
-/// The word that begins the text; none where the text is at its end.
+/// Reads the word that the text begins with; none if the text is empty.
 fn front_word(text: &[u8]) -> Option<Word<'_>>
     requires { begins_word text.now ≡ true }
     ensures value { IfSome result (λ w. words_of text.now
@@ -77,7 +77,7 @@ fn front_word(text: &[u8]) -> Option<Word<'_>>
     }
 }
 
-/// The first word of the text; none where there is none, or a comment before it doesn't close.
+/// Reads the first word of the text; none if there is none, or a comment before it isn't closed.
 pub fn next_word(text: &[u8]) -> Option<Word<'_>>
     ensures value { IfSome result (λ w. words_of text.now
         ≡ option_map (λ later. w.word.now ∷ later) (words_of w.rest.now)) }
@@ -87,7 +87,7 @@ pub fn next_word(text: &[u8]) -> Option<Word<'_>>
     front_word(rest)
 }
 
-/// Whether there is no word, and each comment closes.
+/// Returns whether there is no word, and each comment is closed.
 pub fn is_done(text: &[u8]) -> bool
     ensures { result ≡ is_end (words_of text.now) }
 {

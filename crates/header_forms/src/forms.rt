@@ -25,7 +25,7 @@ fn text_or_null(text: Option<Text>) -> Json
     }
 }
 
-/// The object of an address.
+/// Returns the object of an address.
 fn address_tree(alloc: Global, address: Address) -> Result<Json, NoMemory>
     ensures { IfOk result (λ t. tree_of t ≡ Forms.address_tree address) }
 {
@@ -47,7 +47,7 @@ fn address_items(alloc: Global, addresses: Addresses) -> Result<Items, NoMemory>
     Ok(items)
 }
 
-/// The object of a group.
+/// Returns the object of a group.
 fn group_tree(alloc: Global, group: Group) -> Result<Json, NoMemory>
     ensures { IfOk result (λ t. tree_of t ≡ Forms.group_tree group) }
 {
@@ -81,7 +81,7 @@ fn text_items(alloc: Global, texts: Texts) -> Result<Items, NoMemory>
     Ok(items)
 }
 
-/// The list of some texts; null where there is none.
+/// Returns the list of some texts; null if there is none.
 fn list_or_null(alloc: Global, texts: Texts) -> Result<Json, NoMemory>
     ensures { IfOk result (λ t. tree_of t ≡ Forms.list_or_null texts) }
 {
@@ -91,9 +91,9 @@ fn list_or_null(alloc: Global, texts: Texts) -> Result<Json, NoMemory>
     Ok(Json::List(text_items(alloc, texts)?))
 }
 
-/// The value of a header field in a form, as JSON (RFC 8621, section 4.1.2). The value is what
-/// follows the field's colon, up to its last line end. Each value has each form: addresses that
-/// can't be read are left out, and a date that can't is null.
+/// Returns the value of a header field in a form, as JSON (RFC 8621, section 4.1.2). `value` is
+/// what follows the field's colon, up to its last line end. Each value has each form: invalid
+/// addresses are left out, and an invalid date is null. It fails only if memory runs out.
 pub fn form_of(alloc: Global, value: &[u8], form: Form) -> Result<Json, NoMemory>
     ensures { IfOk result (λ j. tree_of j ≡ form_tree form value.now) }
 {

@@ -1,20 +1,21 @@
-// The groups of a list of addresses, piece by piece.
+// The groups of an address list, read piece by piece.
 ghost use Rattle.std.specs.Prelude.{◌≡◌, [], ◌∷◌, ◌++◌, IfOk, OnOk};
 ghost use Rattle.std.specs.List.{flat_map};
 ghost use Rattle.header_forms.specs.Addresses.{groups_by, groups_in, addresses_in, shown_by};
 ghost use Rattle.header_forms.specs.Groups.{Slices, last, slice};
-ghost use Rattle.header_forms.specs.Running.{shown, groups_from};
+ghost use Rattle.header_forms.specs.GroupSteps.{shown, groups_from};
 
 use crate::address::{Address, Addresses, Group, Groups};
-use crate::items::{push_address, read_phrase};
-use crate::marking::read_marks;
-use crate::marks::{Mark, Part, Sign};
-use crate::pieces::{is_open_after, next_piece};
+use crate::address_characters::{AddressCharacter, Part, Sign};
+use crate::address_items::{push_address, read_phrase};
+use crate::address_pieces::{is_open_after, next_piece};
+use crate::character_contexts::read_characters;
 use jm_base::{NoMemory, Sequence, Text};
 use std::alloc::Global;
 use std::collections::VecDeque;
 
-/// The groups that are read, and the name and the addresses up to here of the group at work.
+/// The groups that are complete, and the group that is being read: its name, and its addresses up
+/// to here.
 #[derive(Drop)]
 struct Work {
     groups: Groups,
@@ -22,7 +23,7 @@ struct Work {
     addresses: Addresses,
 }
 
-/// Whether a group is shown: it has a name, or an address.
+/// Returns whether a group is shown: it has a name, or an address.
 fn is_shown(name: &Option<Text>, addresses: &Addresses) -> bool
     ensures { result ≡ shown_by name.now addresses.now }
 {
@@ -40,7 +41,7 @@ fn push_group(groups: &mut Groups, name: Option<Text>, addresses: Addresses) -> 
 }
 
 /// Continues with an item that ends at a comma.
-fn after_item(alloc: Global, work: Work, item: &[Mark]) -> Result<Work, NoMemory>
+fn after_item(alloc: Global, work: Work, item: &[AddressCharacter]) -> Result<Work, NoMemory>
     ensures { IfOk result (λ w. (later : Slices) → w.groups ++ groups_from w.name w.addresses later
         ≡ work.groups ++ groups_from work.name work.addresses (slice item.now Sign.Comma later)) }
 {
@@ -58,7 +59,7 @@ fn after_item(alloc: Global, work: Work, item: &[Mark]) -> Result<Work, NoMemory
 }
 
 /// Continues with the name of a group, which ends at a colon.
-fn after_name(alloc: Global, work: Work, item: &[Mark]) -> Result<Work, NoMemory>
+fn after_name(alloc: Global, work: Work, item: &[AddressCharacter]) -> Result<Work, NoMemory>
     ensures { IfOk result (λ w. (later : Slices) → w.groups ++ groups_from w.name w.addresses later
         ≡ work.groups ++ groups_from work.name work.addresses (slice item.now Sign.Colon later)) }
 {
@@ -77,9 +78,10 @@ fn after_name(alloc: Global, work: Work, item: &[Mark]) -> Result<Work, NoMemory
 }
 
 /// Continues with the last item of a group, which ends at a semicolon.
-fn after_group(alloc: Global, work: Work, item: &[Mark]) -> Result<Work, NoMemory>
+fn after_group(alloc: Global, work: Work, item: &[AddressCharacter]) -> Result<Work, NoMemory>
     ensures { IfOk result (λ w. (later : Slices) → w.groups ++ groups_from w.name w.addresses later
-        ≡ work.groups ++ groups_from work.name work.addresses (slice item.now Sign.Semicolon later)) }
+        ≡ work.groups ++ groups_from work.name work.addresses
+        (slice item.now Sign.Semicolon later)) }
 {
     let Work {
         mut groups,
@@ -96,7 +98,12 @@ fn after_group(alloc: Global, work: Work, item: &[Mark]) -> Result<Work, NoMemor
 }
 
 /// Continues with a piece that ends with this sign.
-fn after_piece(alloc: Global, work: Work, item: &[Mark], sign: Sign) -> Result<Work, NoMemory>
+fn after_piece(
+    alloc: Global,
+    work: Work,
+    item: &[AddressCharacter],
+    sign: Sign,
+) -> Result<Work, NoMemory>
     ensures { IfOk result (λ w. (later : Slices) → w.groups ++ groups_from w.name w.addresses later
         ≡ work.groups ++ groups_from work.name work.addresses (slice item.now sign later)) }
 {
@@ -107,8 +114,8 @@ fn after_piece(alloc: Global, work: Work, item: &[Mark], sign: Sign) -> Result<W
     }
 }
 
-/// The groups, with the last piece.
-fn at_end(alloc: Global, work: Work, item: &[Mark]) -> Result<Groups, NoMemory>
+/// Returns the groups, with those of the last piece.
+fn at_end(alloc: Global, work: Work, item: &[AddressCharacter]) -> Result<Groups, NoMemory>
     ensures { IfOk result (λ gs. gs ≡ work.groups
         ++ groups_from work.name work.addresses (last item.now)) }
 {
@@ -122,8 +129,8 @@ fn at_end(alloc: Global, work: Work, item: &[Mark]) -> Result<Groups, NoMemory>
     Ok(groups)
 }
 
-fn read_groups(alloc: Global, marks: &[Mark]) -> Result<Groups, NoMemory>
-    ensures { IfOk result (λ gs. gs ≡ groups_by marks.now) }
+fn read_groups(alloc: Global, characters: &[AddressCharacter]) -> Result<Groups, NoMemory>
+    ensures { IfOk result (λ gs. gs ≡ groups_by characters.now) }
 {
     let mut work = Work {
         groups: Sequence::new(alloc),
@@ -131,7 +138,7 @@ fn read_groups(alloc: Global, marks: &[Mark]) -> Result<Groups, NoMemory>
         addresses: Sequence::new(alloc),
     };
     let mut in_group = false;
-    let mut rest = marks;
+    let mut rest = characters;
     while let Some(piece) = next_piece(rest, in_group) {
         work = after_piece(alloc, work, piece.item, piece.sign)?;
         in_group = is_open_after(in_group, piece.sign);
@@ -140,16 +147,16 @@ fn read_groups(alloc: Global, marks: &[Mark]) -> Result<Groups, NoMemory>
     at_end(alloc, work, rest)
 }
 
-/// The groups of a value on one line (RFC 8621, section 4.1.2.4). Addresses outside groups that
-/// stand together are a group without a name.
+/// Reads the groups of a value on one line (RFC 8621, section 4.1.2.4). Addresses outside groups
+/// that are next to each other are a group without a name.
 pub fn groups_of(alloc: Global, text: &str) -> Result<Groups, NoMemory>
     ensures { IfOk result (λ gs. gs ≡ groups_in text.now) }
 {
-    let marks = read_marks(alloc, text)?;
-    read_groups(alloc, marks.as_slice())
+    let characters = read_characters(alloc, text)?;
+    read_groups(alloc, characters.as_slice())
 }
 
-/// The addresses of groups, one after the other.
+/// Returns the addresses of groups, one group after the other.
 fn join(alloc: Global, groups: Groups) -> Result<Addresses, NoMemory>
     ensures { IfOk result (λ all. all ≡ flat_map (λ g. g.addresses) groups) }
 {
@@ -161,7 +168,7 @@ fn join(alloc: Global, groups: Groups) -> Result<Addresses, NoMemory>
     Ok(all)
 }
 
-/// The addresses of a value on one line, those in groups too (RFC 8621, section 4.1.2.3).
+/// Reads the addresses of a value on one line, those in groups too (RFC 8621, section 4.1.2.3).
 pub fn addresses_of(alloc: Global, text: &str) -> Result<Addresses, NoMemory>
     ensures { IfOk result (λ all. all ≡ addresses_in text.now) }
 {

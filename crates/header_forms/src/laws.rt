@@ -1,5 +1,5 @@
-// Laws of the forms of addresses and dates (RFC 8621, section 4.1.2), and what the definitions say
-// of examples. Each is the contract of a function that does nothing.
+// Laws of the forms of addresses and dates (RFC 8621, section 4.1.2), and examples of the
+// definitions. Each is the contract of a function that does nothing.
 ghost use Rattle.std.specs.Prelude.{◌≡◌, ◌<◌, map, [], ◌∷◌, ◌++◌, List, ℕ, Some, None, true, length, codes};
 ghost use Rattle.std.specs.List.{AllByRecursion, list_all};
 ghost use Rattle.std.specs.Str.{IsUtf8, chars, encode_utf8_all};
@@ -11,7 +11,7 @@ ghost use Rattle.header_forms.specs.Addresses.{addresses_in, groups_in, if_some}
 ghost use Rattle.header_forms.specs.Angles.{angle_texts};
 ghost use Rattle.header_forms.specs.Dates.{date_text, utc_of};
 ghost use Rattle.header_forms.specs.DateWords.{AreComments};
-ghost use Rattle.header_forms.specs.Plain.{group_text, is_inner, is_plain, is_plain_in_group, quoted};
+ghost use Rattle.header_forms.specs.PlainAddresses.{group_text, is_inner, is_plain, is_plain_in_group, quoted};
 
 /// A text without quote marks, parentheses, commas, colons and angle brackets is one address,
 /// itself, without a name; white space at its ends is dropped (addr-spec; RFC 5322, section 3.4.1).
@@ -52,14 +52,13 @@ pub fn quoted_names_are_read_back()
         } ∷ [] }
 {}
 
-/// Comments after a space between two words of a date change nothing of what it says (RFC 5322,
-/// section 3.2.2): neither the date that is shown nor its moment. What stands before must have its
-/// own comments closed.
+/// Comments after a space between two words of a date change neither the date that is shown nor its
+/// timestamp (RFC 5322, section 3.2.2). The comments before them must be closed.
 pub fn comments_in_dates_change_nothing()
     ensures date { (front comments back : List ℕ) → after_text Outside front ≡ Outside
         → AreComments comments → date_text (front ++ 32 ∷ (comments ++ back))
         ≡ date_text (front ++ 32 ∷ back) }
-    ensures moment { (front comments back : List ℕ) → after_text Outside front ≡ Outside
+    ensures timestamp { (front comments back : List ℕ) → after_text Outside front ≡ Outside
         → AreComments comments → utc_of (front ++ 32 ∷ (comments ++ back))
         ≡ utc_of (front ++ 32 ∷ back) }
 {}

@@ -2,7 +2,11 @@
 #![tactic(auto)]
 
 mod address;
+mod address_characters;
+mod address_items;
+mod address_pieces;
 mod angles;
+mod character_contexts;
 mod date;
 mod date_parts;
 mod date_reader;
@@ -14,11 +18,7 @@ mod date_words;
 mod form;
 mod forms;
 mod groups;
-mod items;
 mod laws;
-mod marking;
-mod marks;
-mod pieces;
 #[cfg(test)]
 mod tests;
 mod texts;

@@ -1,24 +1,24 @@
-// A field's value as a text: as it stands, on one line, and with its encoded words decoded.
+// A field's value as a text: as it is, on one line, and with its encoded-words decoded.
 ghost use Rattle.std.specs.Prelude.{◌≡◌, ◌≢◌, ◌<◌, ◌∷◌, [], ◌++◌, ℕ, length, slice_index, IfOk, OnOk, string_bytes};
 ghost use Rattle.mime_lines.specs.Lines;
 ghost use Rattle.mime_lines.specs.Lines.{unfolded};
 ghost use Rattle.mime_words.specs.Words.{decoded_words};
 ghost use Rattle.header_forms.specs.Texts;
-ghost use Rattle.header_forms.specs.Texts.{without, is_zero, raw_text, without_spaces, text_of};
+ghost use Rattle.header_forms.specs.Texts.{without, is_zero, raw_text, without_spaces, text_form};
 
 use jm_base::{NoMemory, Text};
 use mime_words::decode_words;
 use std::alloc::Global;
 
-/// Takes U+0000 out of a text.
+/// Removes U+0000 from a text.
 fn drop_zeros(text: &mut String)
     ensures { string_bytes text.new ≡ without is_zero (string_bytes text.old) }
 {
     text.retain(|c| c != '\0');
 }
 
-/// The Raw form of a value (RFC 8621, section 4.1.2.1): with U+FFFD for what is no UTF-8, and
-/// without U+0000.
+/// Returns the Raw form of a value (RFC 8621, section 4.1.2.1): with U+FFFD for what is no UTF-8,
+/// and without U+0000.
 pub fn raw_of(alloc: Global, value: &[u8]) -> Result<Text, NoMemory>
     ensures { IfOk result (λ t. t ≡ raw_text value.now) }
 {
@@ -39,7 +39,7 @@ fn push_line(out: &mut String, line: &str) -> Result<(), NoMemory>
     Ok(())
 }
 
-/// A text without its line ends (RFC 5322, section 2.2.3).
+/// Returns a text without its line ends (RFC 5322, section 2.2.3).
 fn unfold_text(alloc: Global, text: &str) -> Result<String, NoMemory>
     ensures { IfOk result (λ s. string_bytes s ≡ unfolded text.now) }
 {
@@ -53,7 +53,8 @@ fn unfold_text(alloc: Global, text: &str) -> Result<String, NoMemory>
     Ok(out)
 }
 
-/// The Raw form of a value without the line ends within it: what every other form is read from.
+/// Returns the Raw form of a value without the line ends within it: every other form is read from
+/// it.
 pub fn on_one_line(alloc: Global, value: &[u8]) -> Result<Text, NoMemory>
     ensures { IfOk result (λ t. t ≡ Texts.on_one_line value.now) }
 {
@@ -61,7 +62,7 @@ pub fn on_one_line(alloc: Global, value: &[u8]) -> Result<Text, NoMemory>
     Ok(Text::from_string(unfold_text(alloc, raw.as_str())?))
 }
 
-/// A text without the spaces at its beginning.
+/// Returns a text without the spaces at its beginning.
 fn after_spaces(text: &str) -> &str
     ensures { result.now ≡ without_spaces text.now }
 {
@@ -72,17 +73,17 @@ fn after_spaces(text: &str) -> &str
     rest
 }
 
-/// A text with its encoded words decoded (RFC 2047).
+/// Decodes the encoded-words of a text (RFC 2047).
 pub(crate) fn decode_text(alloc: Global, text: &str) -> Result<Text, NoMemory>
     ensures { IfOk result (λ t. t ≡ decoded_words text.now) }
 {
     decode_words(alloc, text.as_bytes())
 }
 
-/// The Text form of a value (RFC 8621, section 4.1.2.2): on one line, without the spaces at its
-/// beginning, and with its encoded words decoded.
+/// Returns the Text form of a value (RFC 8621, section 4.1.2.2): on one line, without the spaces at
+/// its beginning, and with its encoded-words decoded.
 pub fn text_of_value(alloc: Global, value: &[u8]) -> Result<Text, NoMemory>
-    ensures { IfOk result (λ t. t ≡ text_of value.now) }
+    ensures { IfOk result (λ t. t ≡ text_form value.now) }
 {
     let line = on_one_line(alloc, value)?;
     decode_text(alloc, after_spaces(line.as_str()))

@@ -10,7 +10,7 @@ use Rattle.httparse.proofs.GrammarLemmas.{request_unique}
 use Rattle.http_wire.specs.Heads.{Beginning, HeadTooLong, Unfinished, Head, beginning_of}
 use Rattle.http_wire.specs.Fields.{is_last}
 use Rattle.http_wire.specs.Bodies.{Body, BodyInvalid, BodyTooLong, BodyUnfinished, Whole}
-use Rattle.http_wire.specs.Requests.{Message, TooLong, Invalid, Begun, OverLimit, Complete, with_body, message_by, IsHead, IsMessage, requests, is_due_by, IsDue, IsRequestOf, begun_bytes, Explains, HasContinued, ReadsRequestFrom}
+use Rattle.http_wire.specs.Requests.{Message, TooLong, Invalid, Begun, OverLimit, Complete, with_body, message_by, IsHead, IsMessage, requests, is_due_by, IsDue, IsRequestOf, begun_bytes, MayFailWith, HasContinued, ReadsRequestFrom}
 use Rattle.http_wire.specs.Responses.{continue_bytes, IsPrefixWritten}
 use Rattle.http_wire.specs.Pieces.{Gained, Stops}
 use Rattle.http_wire.specs.Parts.{Took, Halts}
@@ -223,15 +223,15 @@ cut_request BodyNoMemory bytes new head rest o n a b h k r s p q is opened n_is 
 
 -- ---- the head was read before
 
-explains_before : (e : WireFault) (seen : List ℕ) (b : Option (List ℕ)) (r q s p t : ℕ) → r ≤ q → Explains e seen b q s p t → Explains e seen b r s p t
-explains_before End seen b r q s p t low x = x
-explains_before (CutOff count) seen b r q s p t low x = x
-explains_before ReadFault seen b r q s p t low x = (x.0, rose_before r q s low x.1)
-explains_before WriteFault seen b r q s p t low x = x
-explains_before BadHead seen b r q s p t low x = x
-explains_before IsTooLong seen b r q s p t low x = x
-explains_before (IsOver limit) seen b r q s p t low x = x
-explains_before NoMemory seen b r q s p t low x = tt
+may_fail_before : (e : WireFault) (seen : List ℕ) (b : Option (List ℕ)) (r q s p t : ℕ) → r ≤ q → MayFailWith e seen b q s p t → MayFailWith e seen b r s p t
+may_fail_before End seen b r q s p t low x = x
+may_fail_before (CutOff count) seen b r q s p t low x = x
+may_fail_before ReadFault seen b r q s p t low x = (x.0, rose_before r q s low x.1)
+may_fail_before WriteFault seen b r q s p t low x = x
+may_fail_before BadHead seen b r q s p t low x = x
+may_fail_before IsTooLong seen b r q s p t low x = x
+may_fail_before (IsOver limit) seen b r q s p t low x = x
+may_fail_before NoMemory seen b r q s p t low x = tt
 
 pub later_request : (old mid new : List ℕ) (a b c h k : Option (List ℕ)) (r q s p t : ℕ) (x : Result HttpRequest WireFault) → Gained old mid a b → r ≤ q
     → ReadsRequestFrom mid new b c h k q s p t x → ReadsRequestFrom old new a c h k r s p t x
@@ -246,7 +246,7 @@ later_request old mid new a b c h k r q s p t (Err e) g low m =
     let seen : mid ++ m.taken ≡ old ++ (g.taken ++ m.taken) = ap (λ (z : List ℕ). z ++ m.taken) g.is ∙ append_assoc old g.taken m.taken in record {
       taken = g.taken ++ m.taken;
       consumed = consumes_on a b c g.taken m.taken g.consumed m.consumed;
-      outcome = subst (λ (z : List ℕ). Explains e z c r s p t) seen (explains_before e (mid ++ m.taken) c r q s p t low m.outcome);
+      outcome = subst (λ (z : List ℕ). MayFailWith e z c r s p t) seen (may_fail_before e (mid ++ m.taken) c r q s p t low m.outcome);
       continued = subst (λ (z : List ℕ). HasContinued (Err e) z h k) seen m.continued;
     }
 

@@ -13,7 +13,8 @@ use Rattle.http_wire.specs.declared.request.HttpField.{HttpField}
 use Rattle.http_wire.specs.declared.request.HttpRequest.{HttpRequest}
 use Rattle.http_wire.specs.declared.fault.WireFault.{WireFault}
 use Rattle.http_wire.specs.declared.fault.WireFault.TheVariants.{End, ReadFault, WriteFault, BadHead, HeadTooLong as IsTooLong, BodyTooLong as BodyOver, CutOff, NoMemory as OutOfMemory}
-use Rattle.http_wire.specs.declared.limits.TheConstants.{MAX_HEAD_FIELDS, MAX_UPLOAD_BYTES, MAX_REQUEST_BYTES}
+use Rattle.jm_base.specs.declared.limits.TheConstants.{MAX_REQUEST_BYTES, MAX_UPLOAD_BYTES}
+use Rattle.http_wire.specs.declared.limits.TheConstants.{MAX_HEAD_FIELDS}
 
 -- What the heads of a kind of message are: which bytes read as which head; what its body's length
 -- is, given what its fields say; whether it is invalid though it reads; and the most bytes of its
@@ -127,20 +128,22 @@ begun_bytes bytes = length bytes - empty_bytes (lines bytes)
 
 -- when the reading of a request may fail, after these bytes were read, with all that is known of
 -- the link: what is left, and its counts of faults before and after
-abbrev pub Explains : WireFault → List ℕ → Option (List ℕ) → ℕ → ℕ → ℕ → ℕ → Type 0
-Explains End seen left reads_old reads_new puts_old puts_new =
+abbrev pub MayFailWith : WireFault → List ℕ → Option (List ℕ) → ℕ → ℕ → ℕ → ℕ → Type 0
+MayFailWith End seen left reads_old reads_new puts_old puts_new =
     IsMessage requests seen Begun × IsAtEnd left × (begun_bytes seen ≡ 0)
-Explains (CutOff count) seen left reads_old reads_new puts_old puts_new =
+MayFailWith (CutOff count) seen left reads_old reads_new puts_old puts_new =
     IsMessage requests seen Begun × IsAtEnd left × (begun_bytes seen ≡ count) × (0 < count)
-Explains ReadFault seen left reads_old reads_new puts_old puts_new =
+MayFailWith ReadFault seen left reads_old reads_new puts_old puts_new =
     IsMessage requests seen Begun × Rose reads_old reads_new
-Explains WriteFault seen left reads_old reads_new puts_old puts_new =
+MayFailWith WriteFault seen left reads_old reads_new puts_old puts_new =
     IsDue seen × Rose puts_old puts_new
-Explains BadHead seen left reads_old reads_new puts_old puts_new = IsMessage requests seen Invalid
-Explains IsTooLong seen left reads_old reads_new puts_old puts_new = IsMessage requests seen TooLong
-Explains (BodyOver limit) seen left reads_old reads_new puts_old puts_new =
+MayFailWith BadHead seen left reads_old reads_new puts_old puts_new =
+    IsMessage requests seen Invalid
+MayFailWith IsTooLong seen left reads_old reads_new puts_old puts_new =
+    IsMessage requests seen TooLong
+MayFailWith (BodyOver limit) seen left reads_old reads_new puts_old puts_new =
     IsMessage requests seen (OverLimit limit)
-Explains OutOfMemory seen left reads_old reads_new puts_old puts_new = ⊤
+MayFailWith OutOfMemory seen left reads_old reads_new puts_old puts_new = ⊤
 
 -- the interim response was written if and only if it is due; after a fault of writing, a prefix of
 -- it
@@ -165,5 +168,6 @@ pub record ReadsRequestFrom
     pub outcome : MatchResult result
         (λ r. (h : RequestHead) × (body : List ℕ) × IsRequestOf h body r
         × IsMessage requests (early_old ++ taken) (Complete h body early_new))
-        (λ fault. Explains fault (early_old ++ taken) left_new reads_old reads_new puts_old puts_new)
+        (λ fault. MayFailWith fault (early_old ++ taken) left_new reads_old reads_new puts_old
+        puts_new)
     pub continued : HasContinued result (early_old ++ taken) held_old held_new

@@ -41,8 +41,7 @@ pub use heads::HeadSpan;
 pub use laws::{keep_heads, show_examples_of_messages};
 pub use lengths::{BodyLength, find_length};
 pub use limits::{
-    MAX_CHUNK_DIGITS, MAX_CHUNK_LINE_BYTES, MAX_HEAD_BYTES, MAX_HEAD_FIELDS, MAX_REQUEST_BYTES,
-    MAX_TRAILER_BYTES, MAX_UPLOAD_BYTES,
+    MAX_CHUNK_DIGITS, MAX_CHUNK_LINE_BYTES, MAX_HEAD_BYTES, MAX_HEAD_FIELDS, MAX_TRAILER_BYTES,
 };
 pub use parsed::{ParsedHead, parse_head};
 pub use pieces::read_head;

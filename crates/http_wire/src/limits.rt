@@ -16,9 +16,3 @@ pub const MAX_CHUNK_DIGITS: usize = 16;
 
 /// The most bytes after the last chunk, the empty line included. More are answered with status 400.
 pub const MAX_TRAILER_BYTES: usize = 16_384;
-
-/// The most bytes of the body of an upload. A longer one is answered with status 413.
-pub const MAX_UPLOAD_BYTES: usize = 50_000_000;
-
-/// The most bytes of the body of any other request. A longer one is answered with status 413.
-pub const MAX_REQUEST_BYTES: usize = 10_000_000;

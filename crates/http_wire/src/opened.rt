@@ -7,8 +7,8 @@ use crate::WireFault;
 use crate::bodies::{BodyPlan, plan_body};
 use crate::connection::{expects_continue, has_host};
 use crate::lengths::find_length;
-use crate::limits::{MAX_REQUEST_BYTES, MAX_UPLOAD_BYTES};
 use crate::parsed::{ParsedHead, parse_head};
+use jm_base::{MAX_REQUEST_BYTES, MAX_UPLOAD_BYTES};
 use std::alloc::Global;
 
 /// A valid head, and how the body after it is read.

@@ -7,7 +7,7 @@ use Rattle.jm_base.specs.declared.identifiers.Id.{Id}
 use Rattle.jm_base.specs.declared.identifiers.Kind.{Kind}
 use Rattle.jm_base.specs.declared.identifiers.Kind.TheVariants.{Mailbox as OfMailbox, Email as OfEmail, Thread as OfThread}
 
--- the number is from 1 and below 2^53
+-- the number is from 1 and below `NUMBER_LIMIT`
 pub record IsId (id : Id) : Type 0 where
   pub from_one : 1 ≤ id.number
   pub below : id.number < NUMBER_LIMIT
@@ -22,7 +22,7 @@ kind_letter OfThread = 84
 abbrev pub id_text : Id → List ℕ
 id_text id = kind_letter id.kind ∷ decimal id.number
 
--- the position is below 2^53
+-- the position is below `NUMBER_LIMIT`
 abbrev pub IsState : ℕ → Type 0
 IsState position = position < NUMBER_LIMIT
 
@@ -30,6 +30,6 @@ IsState position = position < NUMBER_LIMIT
 abbrev pub state_text : ℕ → List ℕ
 state_text position = decimal position
 
--- the text is the decimal of a number below 2^53
+-- the string is the decimal of a number below `NUMBER_LIMIT`
 abbrev pub IsNumberText : List ℕ → ℕ → Type 0
 IsNumberText text number = (number < NUMBER_LIMIT) × (text ≡ decimal number)

@@ -5,7 +5,7 @@ use Rattle.std.specs.Int.{int_div_euclid, int_rem_euclid}
 use Rattle.std.specs.Fmt.{decimal}
 use Rattle.jiff_core.specs.Calendar.{days_in_month, days_from_civil}
 use Rattle.jm_base.specs.declared.identifiers.UtcDate.{UtcDate}
-use Rattle.jm_base.specs.declared.utc_dates.TheConstants.{FIRST_TIMESTAMP, LAST_TIMESTAMP}
+use Rattle.jm_base.specs.declared.utc_dates.TheConstants.{FIRST_TIMESTAMP, LAST_TIMESTAMP, LAST_YEAR}
 
 -- A date of the years 0001 to 9999 (RFC 8620, 1.4; RFC 3339 has four digits for the year).
 pub record IsUtcDate (date : UtcDate) : Type 0 where
@@ -24,7 +24,7 @@ pub record DateTime : Type 0 where
 -- a day that the calendar has, of the years 0001 to 9999
 pub record IsDay (year month day : ℕ) : Type 0 where
   pub from_year : 1 ≤ year
-  pub to_year : year ≤ 9999
+  pub to_year : year ≤ LAST_YEAR
   pub from_month : 1 ≤ month
   pub to_month : month ≤ 12
   pub from_day : 1 ≤ day
@@ -52,9 +52,9 @@ unfoldable pub last_of : (ℕ → Bool) → ℕ → ℕ
 last_of holds zero = zero
 last_of holds (suc n) = if holds (suc n) then suc n else last_of holds n
 
--- the year, of 1 to 9999, that has begun by a day since 1970
+-- the year, of 1 to `LAST_YEAR`, that has begun by a day since 1970
 unfoldable pub year_of : ℤ → ℕ
-year_of day = last_of (λ y. int_le (days_from_civil (pos y) 1 1) day) 9999
+year_of day = last_of (λ y. int_le (days_from_civil (pos y) 1 1) day) LAST_YEAR
 
 -- the month of that year that has begun by then
 unfoldable pub month_of : ℤ → ℕ
@@ -115,7 +115,7 @@ is_laid_out (l ∷ ls) (b ∷ bs) = (if l == 48 then is_digit b else b == l) && 
 
 -- the number of the two digits at a byte offset
 abbrev pub two_at : ℕ → List ℕ → ℕ
-two_at place text = (slice_index text place - 48) * 10 + (slice_index text (place + 1) - 48)
+two_at offset text = (slice_index text offset - 48) * 10 + (slice_index text (offset + 1) - 48)
 
 -- what YYYY-MM-DDTHH:MM:SS names
 abbrev pub date_time_in : List ℕ → DateTime

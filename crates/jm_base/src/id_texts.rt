@@ -94,7 +94,8 @@ pub fn id_text(alloc: Global, id: &Id) -> Result<Text, NoMemory>
 /// below [`NUMBER_LIMIT`] (RFC 8620, section 5.1). Fails with `NotAState` if the text is any other.
 pub fn read_state(text: &[u8]) -> Result<u64, FormFault>
     ensures ok { IfOk result (λ position. IsState position × (text.now ≡ state_text position)) }
-    ensures err { OnErr result ((position : ℕ) → IsState position → text.now ≢ state_text position) }
+    ensures err { OnErr result
+        ((position : ℕ) → IsState position → text.now ≢ state_text position) }
     ensures fault { IfErr result (λ e. e ≡ FormFault.NotAState) }
 {
     match read_number(text) {
@@ -116,7 +117,7 @@ mod tests {
     use std::test::Fail;
 
     #[test]
-    fn only_the_one_spelling_is_an_id(rt: HostRuntime) -> Result<(), Fail> {
+    fn only_one_encoding_is_an_id(rt: HostRuntime) -> Result<(), Fail> {
         let good = ["M1", "E9007199254740991", "T20"];
         for text in good {
             let id = read_id(text.as_bytes())?;
@@ -148,7 +149,7 @@ mod tests {
     }
 
     #[test]
-    fn only_the_one_spelling_is_a_state(rt: HostRuntime) -> Result<(), Fail> {
+    fn only_one_encoding_is_a_state(rt: HostRuntime) -> Result<(), Fail> {
         for text in ["0", "7", "9007199254740991"] {
             let position = read_state(text.as_bytes())?;
             assert!(rt;

@@ -8,6 +8,7 @@ mod bytes;
 mod id_texts;
 mod identifiers;
 mod laws;
+mod limits;
 mod memory;
 mod sequence;
 mod splices;
@@ -21,8 +22,9 @@ pub use laws::{
     show_that_a_change_brings_up_to_date, show_that_a_list_becomes_the_other,
     show_that_nothing_changes_nothing,
 };
+pub use limits::{MAX_REQUEST_BYTES, MAX_UPLOAD_BYTES, READ_BUFFER_BYTES};
 pub use memory::NoMemory;
 pub use sequence::{Blobs, Numbers, Rows, Sequence, Texts};
 pub use splices::splice;
 pub use text::Text;
-pub use utc_dates::{FIRST_TIMESTAMP, LAST_TIMESTAMP, read_utc, utc_text};
+pub use utc_dates::{FIRST_TIMESTAMP, LAST_TIMESTAMP, LAST_YEAR, read_utc, utc_text};

@@ -67,7 +67,8 @@ fn extend_front(front: &mut Vec<u64>, rest: &[u64], wanted: usize) -> Result<usi
 // Inserts an item at its index.
 fn insert_item(front: &mut Vec<u64>, item: &AddedItem) -> Result<(), NoMemory>
     requires { item.now.index ≤ length front.old.items }
-    ensures { OnOk result (front.new.items ≡ insert front.old.items item.now.index item.now.number) }
+    ensures { OnOk result (front.new.items
+        ≡ insert front.old.items item.now.index item.now.number) }
 {
     front.insert(item.index as usize, item.number)?;
     Ok(())

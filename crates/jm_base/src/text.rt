@@ -55,7 +55,7 @@ impl Text {
         string
     }
 
-    /// The text of a slice, in memory of its own.
+    /// Returns a copy of a string slice, in memory of its own.
     pub fn from_str(alloc: Global, text: &str) -> Result<Text, NoMemory>
         ensures { IfOk result (λ t. t ≡ text.now) }
     {
@@ -89,7 +89,7 @@ impl Text {
         self.string.as_str().as_bytes()
     }
 
-    /// The same text, in memory of its own.
+    /// Returns a copy of the string, in memory of its own.
     pub fn copy(&self) -> Result<Text, NoMemory>
         ensures { IfOk result (λ t. t ≡ self.now) }
     {

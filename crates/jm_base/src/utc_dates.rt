@@ -9,6 +9,9 @@ use crate::{FormFault, NoMemory, Text, UtcDate};
 use jiff_core::civil::Date;
 use std::alloc::Global;
 
+/// The last year of a date (RFC 3339, section 5.6: the year has four digits).
+pub const LAST_YEAR: u64 = 9_999;
+
 /// The first second of the year 0001, counted from the beginning of 1970 in UTC. No date is earlier
 /// (RFC 3339: the year has four digits).
 pub const FIRST_TIMESTAMP: i64 = -62_135_596_800;
@@ -153,21 +156,21 @@ fn is_end(text: &[u8]) -> bool
     }
 }
 
-// The number of the two digits at a place.
-fn two_at(place: usize, text: &[u8]) -> u64
-    requires { place + 1 < length text.now }
-    ensures value { result ≡ two_at place text.now }
+// Returns the number of the two digits at a byte offset.
+fn two_at(offset: usize, text: &[u8]) -> u64
+    requires { offset + 1 < length text.now }
+    ensures value { result ≡ two_at offset text.now }
     ensures bound { result ≤ 2277 }
 {
-    text[place].saturating_sub(b'0') as u64 * 10 + text[place + 1].saturating_sub(b'0') as u64
+    text[offset].saturating_sub(b'0') as u64 * 10 + text[offset + 1].saturating_sub(b'0') as u64
 }
 
-// The number of a day since the beginning of 1970, if the calendar has it.
+// Returns the number of a day since the beginning of 1970, if the calendar has it.
 fn find_day(year: u64, month: u64, day: u64) -> Option<i64>
     ensures { MatchOption result (¬ IsDay year month day)
         (λ n. IsDay year month day × (n ≡ days_from_civil (pos year) month day)) }
 {
-    if year == 0 || year > 9999 || month > 12 || day > 31 {
+    if year == 0 || year > LAST_YEAR || month > 12 || day > 31 {
         return None;
     }
     match Date::new(year as i16, month as i8, day as i8) {
@@ -176,7 +179,7 @@ fn find_day(year: u64, month: u64, day: u64) -> Option<i64>
     }
 }
 
-// The seconds of a day that have gone by at a time of it.
+// Returns the seconds of a day that have gone by at a time of it.
 fn find_second(hour: u64, minute: u64, second: u64) -> Option<i64>
     ensures bound { IfSome result (λ n. (pos 0 ≤ℤ n) × (n ≤ℤ pos 86_399)) }
     ensures value { MatchOption result (¬ IsTime hour minute second)
@@ -188,12 +191,14 @@ fn find_second(hour: u64, minute: u64, second: u64) -> Option<i64>
     Some((hour * 3600 + minute * 60 + second) as i64)
 }
 
-// The seconds since the beginning of 1970 of what a text names, if there is such a day and time.
+// Returns the seconds since the beginning of 1970 of what a string names, if there is such a day
+// and time.
 fn find_seconds(text: &[u8]) -> Option<i64>
     requires { 19 ≤ length text.now }
     ensures bound { IfSome result (λ n. (FIRST_TIMESTAMP ≤ℤ n) × (n ≤ℤ pos LAST_TIMESTAMP)) }
     ensures value { MatchOption result (¬ IsDateTime (date_time_in text.now))
-        (λ n. IsDateTime (date_time_in text.now) × (n ≡ date_time_seconds (date_time_in text.now))) }
+        (λ n. IsDateTime (date_time_in text.now)
+        × (n ≡ date_time_seconds (date_time_in text.now))) }
 {
     let year = two_at(0, text) * 100 + two_at(2, text);
     let Some(day) = find_day(year, two_at(5, text), two_at(8, text)) else {

@@ -7,7 +7,7 @@ use Rattle.serde_json.specs.Read.{number_of}
 use Rattle.serde_json.specs.Written.{number_text, unless_float}
 use Rattle.serde_json.proofs.Numbers.{number_of-decimal, number_of-negative}
 use Rattle.serde_json.proofs.Texts.{unless_float-number_of}
-use Rattle.jm_json.specs.Whole.{is_whole}
+use Rattle.jm_json.specs.Integers.{is_whole}
 
 -- a number that one encoding reads as is read from the same encoding
 pub told : (r : Option ℤ) (a b : Option Num) → a ≡ b → IfSome r (λ z. (a ≡ Some (of_integer z)) × (is_whole (of_integer z) ≡ true)) → IfSome r (λ z. (b ≡ Some (of_integer z)) × (is_whole (of_integer z) ≡ true))

@@ -5,9 +5,9 @@ use Rattle.std.specs.Cmp.Lexicographic.{slice_cmp, nat_list_cmp_total}
 use Rattle.std.specs.List.Sorted.{IsStrictlySortedBy}
 use Rattle.jm_json.specs.Tree.{Tree, null}
 use Rattle.jm_json.specs.Order.{KeysRise, put, put_all}
-use Rattle.jm_json.specs.Place.{AllBelow, AllAbove, IsPlace}
-use Rattle.jm_json.specs.declared.tree.Place.TheVariants.{Held, New}
-use Rattle.jm_json.specs.Runs.{first_order}
+use Rattle.jm_json.specs.KeyIndices.{AllBelow, AllAbove, IsKeyIndex}
+use Rattle.jm_json.specs.declared.tree.KeyIndex.TheVariants.{Held, New}
+use Rattle.jm_json.specs.FirstMembers.{first_order}
 use Rattle.jm_json.specs.Json.{member_of}
 use Rattle.jm_json.specs.declared.tree.Member.{Member}
 use Rattle.jm_json.specs.declared.tree.Json.{Json}
@@ -52,7 +52,7 @@ never_below k [] i d o h low e = absurd (omega arith)
 never_below k (m ∷ ms) zero d o h low e = sym e ∙ low.0
 never_below k (m ∷ ms) (suc i) d o h low e = never_below k ms i d o (omega arith) low.1 e
 
-pub held_not_past : (k : List ℕ) (ms : Pairs) (at : ℕ) → IsPlace (Held at) k ms → AllBelow k ms → ⊥
+pub held_not_past : (k : List ℕ) (ms : Pairs) (at : ℕ) → IsKeyIndex (Held at) k ms → AllBelow k ms → ⊥
 held_not_past k ms at place low =
     let same : slice_cmp nat_cmp k (get_or ms at (k, null)).0 ≡ Equal = same_key k _ (place.2 (k, null)) in
     let wrong : Equal ≡ Greater = never_below k ms at (k, null) Equal place.0 low same in
@@ -66,7 +66,7 @@ new_past k (m ∷ ms) (suc i) h high low = omega (arith, new_past k ms i (omega 
 
 -- ---- a value that is taken out
 
-pub name_at : (k : List ℕ) (ms : List Member) (i : ℕ) (m : Member) → i < length ms → m ≡ get_or ms i m → IsPlace (Held i) k (map member_of ms) → m.name ≡ k
+pub name_at : (k : List ℕ) (ms : List Member) (i : ℕ) (m : Member) → i < length ms → m ≡ get_or ms i m → IsKeyIndex (Held i) k (map member_of ms) → m.name ≡ k
 name_at k ms i m h is place = sym (ap (λ (p : List ℕ × Tree). p.0) (named ms i m is h)) ∙ place.2 (member_of m)
 
 pub rises_if_taken : (r : Option Json) (k : List ℕ) (old new : List Member) → MatchOption r (new ≡ old) (λ _. map member_of new ≡ put k null (map member_of old)) → KeysRise (map member_of old) → KeysRise (map member_of new)

@@ -15,8 +15,8 @@ use Rattle.serde_json.specs.Data as value
 use Rattle.serde_json.specs.Read.{of_json, of_items, of_members}
 use Rattle.jm_json.specs.Tree.{Tree, trees_of, fields_of}
 use Rattle.jm_json.specs.Order.{put}
-use Rattle.jm_json.specs.Data.{data_of, items_of, members_of}
-use Rattle.jm_json.specs.Whole.{first_bad, first_bad_item, first_bad_member, under, pointer_part}
+use Rattle.jm_json.specs.JsonValues.{data_of, items_of, members_of}
+use Rattle.jm_json.specs.Integers.{first_invalid, first_invalid_item, first_invalid_member, under, pointer_part}
 
 -- trees in front of items
 abbrev pub items_before : List Tree → Items → Items
@@ -90,21 +90,21 @@ left_none : (f : List ℕ → List ℕ) (a b : Option (List ℕ)) → option_or 
 left_none f None b e = (refl, e)
 left_none f (Some x) b e = absurd (cc)
 
-pub items_whole : (i : ℕ) (ts : List Tree) (t : Tree) → first_bad_item i (items_of (trees_of ts)) ≡ None → first_bad (data_of t) ≡ None → first_bad_item i (items_of (trees_of (ts ++ t ∷ []))) ≡ None
+pub items_whole : (i : ℕ) (ts : List Tree) (t : Tree) → first_invalid_item i (items_of (trees_of ts)) ≡ None → first_invalid (data_of t) ≡ None → first_invalid_item i (items_of (trees_of (ts ++ t ∷ []))) ≡ None
 items_whole i [] t all one = rw one refl
 items_whole i (u ∷ ts) t all one =
-    let parts = left_none (under (decimal i)) (first_bad (data_of u)) _ all in
+    let parts = left_none (under (decimal i)) (first_invalid (data_of u)) _ all in
     rw (parts.0) (items_whole (i + 1) ts t parts.1 one)
 
-whole_at : (o : Ordering) (k : List ℕ) (t : Tree) (m : List ℕ × Tree) (ms : List (List ℕ × Tree)) → slice_cmp nat_cmp k m.0 ≡ o → first_bad (data_of t) ≡ None
-    → first_bad (data_of m.1) ≡ None → first_bad_member (members_of (fields_of ms)) ≡ None → first_bad_member (members_of (fields_of (put k t ms))) ≡ None
-    → first_bad_member (members_of (fields_of (put k t (m ∷ ms)))) ≡ None
+whole_at : (o : Ordering) (k : List ℕ) (t : Tree) (m : List ℕ × Tree) (ms : List (List ℕ × Tree)) → slice_cmp nat_cmp k m.0 ≡ o → first_invalid (data_of t) ≡ None
+    → first_invalid (data_of m.1) ≡ None → first_invalid_member (members_of (fields_of ms)) ≡ None → first_invalid_member (members_of (fields_of (put k t ms))) ≡ None
+    → first_invalid_member (members_of (fields_of (put k t (m ∷ ms)))) ≡ None
 whole_at Less k t m ms e one head all more = rw (e, one, head) all
 whole_at Equal k t m ms e one head all more = rw (e, one) all
 whole_at Greater k t m ms e one head all more = rw (e, head) more
 
-pub members_whole : (k : List ℕ) (t : Tree) (ms : List (List ℕ × Tree)) → first_bad_member (members_of (fields_of ms)) ≡ None → first_bad (data_of t) ≡ None → first_bad_member (members_of (fields_of (put k t ms))) ≡ None
+pub members_whole : (k : List ℕ) (t : Tree) (ms : List (List ℕ × Tree)) → first_invalid_member (members_of (fields_of ms)) ≡ None → first_invalid (data_of t) ≡ None → first_invalid_member (members_of (fields_of (put k t ms))) ≡ None
 members_whole k t [] all one = rw one refl
 members_whole k t (m ∷ ms) all one =
-    let parts = left_none (under (pointer_part m.0)) (first_bad (data_of m.1)) _ all in
+    let parts = left_none (under (pointer_part m.0)) (first_invalid (data_of m.1)) _ all in
     whole_at _ k t m ms refl one parts.0 parts.1 (members_whole k t ms parts.1 one)

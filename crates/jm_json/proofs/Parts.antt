@@ -5,7 +5,7 @@ use Rattle.std.proofs.lemmas.Slice.Eq.{bytes_eq-Decides}
 use Rattle.std.proofs.lemmas.Fmt.{decimal_injective}
 use Rattle.jm_json.specs.Tree.{Tree}
 use Rattle.jm_json.specs.Find.{find}
-use Rattle.jm_json.specs.Whole.{pointer_part}
+use Rattle.jm_json.specs.Integers.{pointer_part}
 use Rattle.jm_json.specs.Pointer.{onto, cut, unescaped, name_of, item_named, stripped}
 
 abbrev pub HasNoSlash : List ℕ → ℕ → Type 0

@@ -8,9 +8,9 @@ use Rattle.std.specs.Cmp.Lexicographic.{slice_cmp}
 use Rattle.std.specs.List.Sorted.{IsStrictlySortedBy}
 use Rattle.jm_json.specs.Tree.{Tree, null}
 use Rattle.jm_json.specs.Order.{KeysRise}
-use Rattle.jm_json.specs.Place.{AllBelow, AllAbove, IsPlace}
+use Rattle.jm_json.specs.KeyIndices.{AllBelow, AllAbove, IsKeyIndex}
 use Rattle.jm_json.specs.Patch.{goes_on, is_prefix}
-use Rattle.jm_json.specs.declared.tree.Place.TheVariants.{Held, New}
+use Rattle.jm_json.specs.declared.tree.KeyIndex.TheVariants.{Held, New}
 use Rattle.jm_json.proofs.Puts.{split_at}
 
 abbrev Pairs : Type 0
@@ -84,17 +84,17 @@ unfolding IsStrictlySortedBy
 rest_above [] m ys rise = rise.0
 rest_above (x ∷ xs) m ys rise = rest_above xs m ys rise.1
 
-pub prefix_held : (p : List ℕ) (ms : Pairs) (i : ℕ) → IsPlace (Held i) (p ++ 47 ∷ []) ms → is_prefix p ms ≡ true
+pub prefix_held : (p : List ℕ) (ms : Pairs) (i : ℕ) → IsKeyIndex (Held i) (p ++ 47 ∷ []) ms → is_prefix p ms ≡ true
 prefix_held p ms i place =
     let d : List ℕ × Tree = get_or ms i (p, null) in
     let here : goes_on p (get_or ms i d).0 ≡ true = ap (goes_on p) (place.2 d) ∙ at_slash p in
     ap (is_prefix p) (split_at ms i d place.0) ∙ prefix_below p (take i ms) (get_or ms i d ∷ drop (i + 1) ms) place.1 ∙ (rw here refl)
 
-pub prefix_past : (p : List ℕ) (ms : Pairs) (i : ℕ) → length ms ≤ i → IsPlace (New i) (p ++ 47 ∷ []) ms → is_prefix p ms ≡ false
+pub prefix_past : (p : List ℕ) (ms : Pairs) (i : ℕ) → length ms ≤ i → IsKeyIndex (New i) (p ++ 47 ∷ []) ms → is_prefix p ms ≡ false
 prefix_past p ms i h place =
     ap (is_prefix p) (sym (take-append-drop i ms)) ∙ prefix_below p (take i ms) (drop i ms) place.1 ∙ ap (is_prefix p) (drop_all i ms h)
 
-pub prefix_new : (p : List ℕ) (ms : Pairs) (i : ℕ) (d : List ℕ × Tree) → i < length ms → KeysRise ms → IsPlace (New i) (p ++ 47 ∷ []) ms → is_prefix p ms ≡ goes_on p (get_or ms i d).0
+pub prefix_new : (p : List ℕ) (ms : Pairs) (i : ℕ) (d : List ℕ × Tree) → i < length ms → KeysRise ms → IsKeyIndex (New i) (p ++ 47 ∷ []) ms → is_prefix p ms ≡ goes_on p (get_or ms i d).0
 prefix_new p ms i d h rise place =
     let m = get_or ms i d in
     let rest = drop (i + 1) ms in

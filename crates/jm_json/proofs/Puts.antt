@@ -13,9 +13,9 @@ use Rattle.jm_json.specs.Find.{find}
 use Rattle.jm_json.specs.Patch.{take_away}
 use Rattle.jm_json.specs.Order.{KeysRise, put}
 use Rattle.jm_json.specs.Json.{tree_of, member_of}
-use Rattle.jm_json.specs.Place.{AllBelow, AllAbove, IsPlace}
+use Rattle.jm_json.specs.KeyIndices.{AllBelow, AllAbove, IsKeyIndex}
 use Rattle.jm_json.specs.declared.tree.Member.{Member}
-use Rattle.jm_json.specs.declared.tree.Place.TheVariants.{Held, New}
+use Rattle.jm_json.specs.declared.tree.KeyIndex.TheVariants.{Held, New}
 
 abbrev Pairs : Type 0
 Pairs = List (List ℕ × Tree)
@@ -162,7 +162,7 @@ low_at k ms i m h is rise e = goes_low k (map member_of ms) i (member_of m) (ins
 pub high_at : (k : List ℕ) (ms : List Member) (i : ℕ) (m : Member) → i < length ms → m ≡ get_or ms i m → KeysRise (map member_of ms) → slice_cmp nat_cmp k m.name ≡ Greater → AllBelow k (take (i + 1) (map member_of ms))
 high_at k ms i m h is rise e = goes_high k (map member_of ms) i (member_of m) (inside ms i h) rise (ap (λ (p : List ℕ × Tree). slice_cmp nat_cmp k p.0) (named ms i m is h) ∙ e)
 
-pub held_at : (k : List ℕ) (ms : List Member) (i : ℕ) (m : Member) → i < length ms → m ≡ get_or ms i m → KeysRise (map member_of ms) → slice_cmp nat_cmp k m.name ≡ Equal → IsPlace (Held i) k (map member_of ms)
+pub held_at : (k : List ℕ) (ms : List Member) (i : ℕ) (m : Member) → i < length ms → m ≡ get_or ms i m → KeysRise (map member_of ms) → slice_cmp nat_cmp k m.name ≡ Equal → IsKeyIndex (Held i) k (map member_of ms)
 held_at k ms i m h is rise e =
     let there : slice_cmp nat_cmp k (get_or (map member_of ms) i (member_of m)).0 ≡ Equal = ap (λ (p : List ℕ × Tree). slice_cmp nat_cmp k p.0) (named ms i m is h) ∙ e in
     let same : m.name ≡ k = sym ((bytes_eq-Decides k m.name).0 (sym (is_eq-slice_cmp k m.name) ∙ ap is_eq e)) in (
@@ -173,16 +173,16 @@ held_at k ms i m h is rise e =
 
 -- ---- what is found, put or taken away at a key's place
 
-pub found : (k : List ℕ) (ms : List Member) (i : ℕ) (m : Member) → i < length ms → m ≡ get_or ms i m → IsPlace (Held i) k (map member_of ms) → find k (map member_of ms) ≡ Some (tree_of m.value)
+pub found : (k : List ℕ) (ms : List Member) (i : ℕ) (m : Member) → i < length ms → m ≡ get_or ms i m → IsKeyIndex (Held i) k (map member_of ms) → find k (map member_of ms) ≡ Some (tree_of m.value)
 found k ms i m h is place =
     let there = split_at (map member_of ms) i (member_of m) place.0 ∙ ap (λ p. take i (map member_of ms) ++ p ∷ drop (i + 1) (map member_of ms)) (named ms i m is h) in
     let same : m.name ≡ k = sym (ap (λ (p : List ℕ × Tree). p.0) (named ms i m is h)) ∙ place.2 (member_of m) in
     ap (find k) there ∙ find_held k (take i (map member_of ms)) (member_of m) (drop (i + 1) (map member_of ms)) place.1 ((bytes_eq-Decides m.name k).1 same)
 
-pub not_found : (k : List ℕ) (ms : Pairs) (i : ℕ) → IsPlace (New i) k ms → find k ms ≡ None
+pub not_found : (k : List ℕ) (ms : Pairs) (i : ℕ) → IsKeyIndex (New i) k ms → find k ms ≡ None
 not_found k ms i place = ap (find k) (sym (take-append-drop i ms)) ∙ find_between k (take i ms) (drop i ms) place.1 place.2
 
-pub not_taken : (k : List ℕ) (ms : Pairs) (i : ℕ) → IsPlace (New i) k ms → take_away k ms ≡ ms
+pub not_taken : (k : List ℕ) (ms : Pairs) (i : ℕ) → IsKeyIndex (New i) k ms → take_away k ms ≡ ms
 not_taken k ms i place = ap (take_away k) (sym (take-append-drop i ms)) ∙ away_between k (take i ms) (drop i ms) place.1 place.2 ∙ take-append-drop i ms
 
 map_without : (ms : List Member) (i : ℕ) → map member_of (take i ms ++ drop (suc i) ms) ≡ take i (map member_of ms) ++ drop (suc i) (map member_of ms)
@@ -191,17 +191,17 @@ map_without [] (suc i) = refl
 map_without (x ∷ ms) zero = refl
 map_without (x ∷ ms) (suc i) = ap (λ zs. member_of x ∷ zs) (map_without ms i)
 
-pub taken : (k : List ℕ) (ms : List Member) (i : ℕ) (m : Member) → i < length ms → m ≡ get_or ms i m → IsPlace (Held i) k (map member_of ms) → take_away k (map member_of ms) ≡ map member_of (take i ms ++ drop (suc i) ms)
+pub taken : (k : List ℕ) (ms : List Member) (i : ℕ) (m : Member) → i < length ms → m ≡ get_or ms i m → IsKeyIndex (Held i) k (map member_of ms) → take_away k (map member_of ms) ≡ map member_of (take i ms ++ drop (suc i) ms)
 taken k ms i m h is place =
     let there = split_at (map member_of ms) i (member_of m) place.0 ∙ ap (λ p. take i (map member_of ms) ++ p ∷ drop (i + 1) (map member_of ms)) (named ms i m is h) in
     let same : m.name ≡ k = sym (ap (λ (p : List ℕ × Tree). p.0) (named ms i m is h)) ∙ place.2 (member_of m) in
     let rest : take i (map member_of ms) ++ drop (i + 1) (map member_of ms) ≡ map member_of (take i ms ++ drop (suc i) ms) = rw (add-one) (sym (map_without ms i)) in
     ap (take_away k) there ∙ away_held k (take i (map member_of ms)) (member_of m) (drop (i + 1) (map member_of ms)) place.1 ((bytes_eq-Decides m.name k).1 same) ∙ rest
 
-put_at_held : (k : List ℕ) (t : Tree) (ms : Pairs) (i : ℕ) → IsPlace (Held i) k ms → put k t ms ≡ take i ms ++ (k, t) ∷ drop (i + 1) ms
+put_at_held : (k : List ℕ) (t : Tree) (ms : Pairs) (i : ℕ) → IsKeyIndex (Held i) k ms → put k t ms ≡ take i ms ++ (k, t) ∷ drop (i + 1) ms
 put_at_held k t ms i place = ap (put k t) (split_at ms i (k, t) place.0) ∙ put_held k t (take i ms) (get_or ms i (k, t)) (drop (i + 1) ms) place.1 (same_key k _ (place.2 (k, t)))
 
-put_at_new : (k : List ℕ) (t : Tree) (ms : Pairs) (i : ℕ) → IsPlace (New i) k ms → put k t ms ≡ take i ms ++ (k, t) ∷ drop i ms
+put_at_new : (k : List ℕ) (t : Tree) (ms : Pairs) (i : ℕ) → IsKeyIndex (New i) k ms → put k t ms ≡ take i ms ++ (k, t) ∷ drop i ms
 put_at_new k t ms i place = ap (put k t) (sym (take-append-drop i ms)) ∙ put_between k t (take i ms) (drop i ms) place.1 place.2
 
 set_parts : (ms : Pairs) (i : ℕ) (p : List ℕ × Tree) → i < length ms → set ms i p ≡ take i ms ++ p ∷ drop (i + 1) ms
@@ -210,7 +210,7 @@ set_parts (m ∷ ms) zero p h = refl
 set_parts (m ∷ ms) (suc i) p h = rw (add-one) (ap (λ zs. m ∷ zs) (rw (add-one) at (set_parts ms i p (omega arith))))
 
 -- the members after a write at a key's place
-pub written : (k : List ℕ) (t : Tree) (ms : List Member) (i : ℕ) (m : Member) → member_of m ≡ (k, t) → IsPlace (Held i) k (map member_of ms) → map member_of (set ms i m) ≡ put k t (map member_of ms)
+pub written : (k : List ℕ) (t : Tree) (ms : List Member) (i : ℕ) (m : Member) → member_of m ≡ (k, t) → IsKeyIndex (Held i) k (map member_of ms) → map member_of (set ms i m) ≡ put k t (map member_of ms)
 written k t ms i m is place =
     map-set member_of ms i m ∙ ap (set (map member_of ms) i) is ∙ set_parts (map member_of ms) i (k, t) place.0 ∙ sym (put_at_held k t (map member_of ms) i place)
 
@@ -221,7 +221,7 @@ map_parts (x ∷ ms) zero m = refl
 map_parts (x ∷ ms) (suc i) m = ap (λ zs. member_of x ∷ zs) (map_parts ms i m)
 
 -- and after an insertion there
-pub inserted : (k : List ℕ) (t : Tree) (ms : List Member) (i : ℕ) (m : Member) → member_of m ≡ (k, t) → IsPlace (New i) k (map member_of ms) → map member_of (insert ms i m) ≡ put k t (map member_of ms)
+pub inserted : (k : List ℕ) (t : Tree) (ms : List Member) (i : ℕ) (m : Member) → member_of m ≡ (k, t) → IsKeyIndex (New i) k (map member_of ms) → map member_of (insert ms i m) ≡ put k t (map member_of ms)
 inserted k t ms i m is place =
     map_parts ms i m ∙ ap (λ p. take i (map member_of ms) ++ p ∷ drop i (map member_of ms)) is ∙ sym (put_at_new k t (map member_of ms) i place)
 

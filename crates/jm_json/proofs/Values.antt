@@ -16,7 +16,7 @@ use Rattle.jm_json.specs.Tree.{Tree, null, boolean, number, text, list, object, 
 use Rattle.jm_json.specs.Order.{KeysRise}
 use Rattle.jm_json.specs.Reading.{tree_from, trees_from, fields_from}
 use Rattle.jm_json.specs.Json.{tree_of, member_of}
-use Rattle.jm_json.specs.Data.{data_of, items_of, members_of}
+use Rattle.jm_json.specs.JsonValues.{data_of, items_of, members_of}
 use Rattle.jm_json.specs.declared.tree.Member.{Member}
 
 below_at : (k : List ℕ) (ms : List Member) (i : ℕ) (d : Member) → i < length ms → AllByRecursion (λ y. slice_cmp nat_cmp k y ≡ Less) (keys_of (map member_of ms)) → slice_cmp nat_cmp k (get_or ms i d).name ≡ Less

@@ -37,7 +37,7 @@ abbrev pub take_away : List ℕ → List (List ℕ × Tree) → List (List ℕ �
 take_away k [] = []
 take_away k (m ∷ ms) = cond (bytes_eq m.0 k) ms (m ∷ take_away k ms)
 
--- null takes the member away, and every other value is put in its place
+-- null removes the member, and every other value replaces it
 abbrev pub set_member : List ℕ → Tree → List (List ℕ × Tree) → List (List ℕ × Tree)
 set_member k null ms = take_away k ms
 set_member k (boolean b) ms = put k (boolean b) ms
@@ -75,11 +75,12 @@ abbrev pub all_changed : List (List ℕ × Tree) → Tree → Tree
 all_changed [] t = t
 all_changed (m ∷ ms) t = all_changed ms (changed (cut m.0) m.1 t)
 
--- the first path that is a prefix of another, or whose place is not there
-abbrev pub first_bad_path : List (List ℕ × Tree) → List (List ℕ × Tree) → Tree → Option (List ℕ)
-first_bad_path [] all t = None
-first_bad_path (m ∷ ms) all t =
-    cond (is_prefix m.0 all || not (is_placed (cut m.0) t)) (Some m.0) (first_bad_path ms all t)
+-- the first path that is a prefix of another, or that leads to no member that is there
+abbrev pub first_invalid_path : List (List ℕ × Tree) → List (List ℕ × Tree) → Tree
+    → Option (List ℕ)
+first_invalid_path [] all t = None
+first_invalid_path (m ∷ ms) all t =
+    cond (is_prefix m.0 all || not (is_placed (cut m.0) t)) (Some m.0) (first_invalid_path ms all t)
 
 pub data Patched : Type 0 where
   bad_patch : List ℕ → Patched
@@ -89,14 +90,14 @@ abbrev pub by_path : Option (List ℕ) → List (List ℕ × Tree) → Tree → 
 by_path (Some path) ms t = bad_patch path
 by_path None ms t = patched (all_changed ms t)
 
--- the tree that these members of a patch make, or the first bad path among them
+-- the tree that these members of a patch make, or the first invalid path among them
 abbrev pub patching_by : List (List ℕ × Tree) → Tree → Patched
-patching_by ms t = by_path (first_bad_path ms ms t) ms t
+patching_by ms t = by_path (first_invalid_path ms ms t) ms t
 
 abbrev pub by_members : Option (List (List ℕ × Tree)) → Tree → Patched
 by_members None t = bad_patch []
 by_members (Some ms) t = patching_by ms t
 
--- the tree that a patch makes of a tree, or its first bad path in the order of the keys
+-- the tree that a patch makes of a tree, or its first invalid path in the order of the keys
 abbrev pub patching : Tree → Tree → Patched
 patching t patch = by_members (as_object patch) t

@@ -1,4 +1,4 @@
--- When a patch is refused.
+-- When a patch is rejected.
 use Rattle.std.specs.Prelude.{◌≡◌, ⊤}
 use Rattle.jm_json.specs.Patch.{Patched, bad_patch}
 use Rattle.jm_json.specs.declared.patches.PatchFault.{PatchFault}

@@ -4,9 +4,9 @@ use Rattle.std.specs.Str.{is_utf8}
 use Rattle.serde_json.specs.Data as json
 use Rattle.serde_json.specs.Read as json_text
 use Rattle.jm_json.specs.Tree.{Tree, null, boolean, number, text, list, object, Trees, no_trees, tree, Fields, no_fields, field}
-use Rattle.jm_json.specs.Whole.{first_bad}
+use Rattle.jm_json.specs.Integers.{first_invalid}
 
--- the tree of a value all of whose numbers are whole
+-- the tree of a value all of whose numbers are integers
 abbrev mutual
   pub tree_from : json.Data → Tree
   tree_from json.null = null
@@ -37,7 +37,7 @@ by_number None d = whole (tree_from d)
 
 abbrev pub by_value : Option json.Data → Reading
 by_value None = not_json
-by_value (Some d) = by_number (first_bad d) d
+by_value (Some d) = by_number (first_invalid d) d
 
 abbrev pub reading_of : List ℕ → Reading
 reading_of bytes = cond (is_utf8 bytes) (by_value (json_text.read bytes)) not_json

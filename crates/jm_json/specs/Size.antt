@@ -1,4 +1,4 @@
--- How many places a list of trees has.
+-- How many values a tree holds, itself included.
 use Rattle.std.specs.Prelude.{ℕ, ◌+◌}
 use Rattle.jm_json.specs.Tree.{Tree, null, boolean, number, text, list, object, Trees, no_trees, tree, Fields, no_fields, field}
 

@@ -1,7 +1,7 @@
 // The calls of a request and the responses to them (RFC 8620, sections 3.2 to 3.4).
 ghost use Rattle.std.specs.Prelude.{◌≡◌, ◌==◌, [], ◌∷◌, ◌++◌, map, length, IfOk, OnOk, OnErr};
 ghost use Rattle.jm_json.specs.Call.{error_of};
-ghost use Rattle.jm_json.specs.Invoked.{call_of};
+ghost use Rattle.jm_json.specs.Invocations.{call_of};
 
 use crate::copies::copy;
 use crate::tree::{Json, Members};
@@ -52,7 +52,7 @@ impl Model for Invocations {
 
     ghost coded = { coded_list call_code };
 
-    ghost use Rattle.jm_json.specs.Invoked.{call_of};
+    ghost use Rattle.jm_json.specs.Invocations.{call_of};
 
     ghost view = { λ a. map call_of a.items.items };
 }

@@ -2,8 +2,8 @@
 ghost use Rattle.std.specs.Prelude.{◌≡◌, ◌<◌, ◌+◌, [], ◌∷◌, map, length, IfOk, IfSome, MatchOption};
 ghost use Rattle.jm_json.specs.Json.{tree_of, member_of};
 ghost use Rattle.jm_json.specs.Order.{KeysRise, put, put_all};
-ghost use Rattle.jm_json.specs.Place.{AllBelow};
-ghost use Rattle.jm_json.specs.Runs.{first_order};
+ghost use Rattle.jm_json.specs.KeyIndices.{AllBelow};
+ghost use Rattle.jm_json.specs.FirstMembers.{first_order};
 
 use crate::tree::{Json, Member, Members};
 use jm_base::{NoMemory, Text};
@@ -28,7 +28,7 @@ impl Model for MemberRuns {
     ghost use Rattle.std.specs.Prelude.{List, ℕ};
     ghost use Rattle.std.specs.Coded.{coded_list, coded×, coded_ℕ};
     ghost use Rattle.jm_json.specs.Tree.{Tree};
-    ghost use Rattle.jm_json.specs.Code.{tree_code};
+    ghost use Rattle.jm_json.specs.TreeCodes.{tree_code};
 
     ghost Value = { List (List ℕ × Tree) };
 
@@ -51,7 +51,7 @@ impl MemberRuns {
     }
 
     /// Sets the value at a key: in place of the one that was put before, else as a new member at
-    /// its place in the order.
+    /// its index in the order.
     pub fn put(self, alloc: Global, name: Text, value: Json) -> Result<MemberRuns, NoMemory>
         ensures { IfOk result (λ ms. ms ≡ put name (tree_of value) self) }
     {

@@ -3,13 +3,13 @@
 ghost use Rattle.std.specs.Prelude.{◌≡◌, ◌==◌, ◌<◌, length, slice_index, true, false, IsTrue, Some, None, IfOk, IfSome, OnOk};
 ghost use Rattle.serde_json.specs.Find.{of_integer};
 ghost use Rattle.serde_json.specs.Read.{number_of, number_from};
-ghost use Rattle.jm_json.specs.Taken.{IsTaken, AreTaken, MembersTaken};
+ghost use Rattle.jm_json.specs.Tokens.{IsTaken, AreTaken, MembersTaken};
 ghost use Rattle.jm_json.specs.Reading as reading;
 ghost use Rattle.jm_json.specs.Reading.{reading_of};
 ghost use Rattle.jm_json.specs.Tree.{trees_of, fields_of};
 ghost use Rattle.jm_json.specs.Json.{tree_of};
-ghost use Rattle.jm_json.specs.Data.{data_of, items_of, members_of};
-ghost use Rattle.jm_json.specs.Whole.{is_whole, first_bad, first_bad_item, first_bad_member};
+ghost use Rattle.jm_json.specs.JsonValues.{data_of, items_of, members_of};
+ghost use Rattle.jm_json.specs.Integers.{is_whole, first_invalid, first_invalid_item, first_invalid_member};
 
 use crate::tree::{Items, Json, Members};
 use fast_float::Numeral;
@@ -17,7 +17,7 @@ use jm_base::{NUMBER_LIMIT, NoMemory, Text};
 use json::{Invalid, Reader, Token};
 use std::alloc::{AllocError, Global};
 
-// The most arrays and objects that may be open at one place of a text.
+// The most arrays and objects that may be open at one byte of a text.
 const MAX_DEPTH: usize = 127;
 
 // An object with this many members is irregular if its next key does not come after the others, so
@@ -86,7 +86,7 @@ pub(crate) fn read_plainly(alloc: Global, scratch: &mut Scratch, bytes: &[u8]) -
 #[inline(always)]
 fn take_tree(alloc: Global, reader: &mut Reader<'_>, depth: usize) -> Result<Json, Stop>
     ensures ok { IfOk result (λ t. IsTaken depth (tree_of t) reader.old reader.new) }
-    ensures whole { IfOk result (λ t. first_bad (data_of (tree_of t)) ≡ None) }
+    ensures whole { IfOk result (λ t. first_invalid (data_of (tree_of t)) ≡ None) }
     ensures shorter { OnOk result (length reader.new < length reader.old) }
 {
     let token = reader.next().ok_or(Stop::Irregular)?;
@@ -118,7 +118,7 @@ fn take_tree(alloc: Global, reader: &mut Reader<'_>, depth: usize) -> Result<Jso
 #[inline(never)]
 fn take_items(alloc: Global, reader: &mut Reader<'_>, depth: usize) -> Result<Items, Stop>
     ensures ok { IfOk result (λ ts. AreTaken depth ts reader.old reader.new) }
-    ensures whole { IfOk result (λ ts. first_bad_item 0 (items_of (trees_of ts)) ≡ None) }
+    ensures whole { IfOk result (λ ts. first_invalid_item 0 (items_of (trees_of ts)) ≡ None) }
     ensures shorter { OnOk result (length reader.new < length reader.old) }
 {
     let mut found = Items::new(alloc);
@@ -133,7 +133,7 @@ fn take_items(alloc: Global, reader: &mut Reader<'_>, depth: usize) -> Result<It
 #[inline(never)]
 fn take_members(alloc: Global, reader: &mut Reader<'_>, depth: usize) -> Result<Members, Stop>
     ensures ok { IfOk result (λ ms. MembersTaken depth ms reader.old reader.new) }
-    ensures whole { IfOk result (λ ms. first_bad_member (members_of (fields_of ms)) ≡ None) }
+    ensures whole { IfOk result (λ ms. first_invalid_member (members_of (fields_of ms)) ≡ None) }
     ensures shorter { OnOk result (length reader.new < length reader.old) }
 {
     let mut found = Members::new(alloc);

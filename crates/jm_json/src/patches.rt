@@ -3,14 +3,14 @@ ghost use Rattle.std.specs.Prelude.{◌≡◌, ◌<◌, ◌≤◌, ◌&&◌, ◌
 ghost use Rattle.jm_json.specs.Json.{tree_of, member_of};
 ghost use Rattle.jm_json.specs.Find.{as_object, find};
 ghost use Rattle.jm_json.specs.Order.{KeysRise};
-ghost use Rattle.jm_json.specs.Place.{IsPlace};
+ghost use Rattle.jm_json.specs.KeyIndices.{IsKeyIndex};
 ghost use Rattle.jm_json.specs.Pointer.{cut, name_of, unescaped};
-ghost use Rattle.jm_json.specs.Patch.{at_member, goes_on, is_prefix, is_placed as is_placed_at, member_named, set_member, changed, all_changed, first_bad_path, patched, patching, patching_by};
+ghost use Rattle.jm_json.specs.Patch.{at_member, goes_on, is_prefix, is_placed as is_placed_at, member_named, set_member, changed, all_changed, first_invalid_path, patched, patching, patching_by};
 ghost use Rattle.jm_json.specs.Patching.{ExplainsPatch};
 
 use crate::copies::copy;
 use crate::paths::{after_byte, member_at, part_end};
-use crate::tree::{Json, Member, Members, Place, place_of};
+use crate::tree::{Json, KeyIndex, Member, Members, place_of};
 use jm_base::{NoMemory, Text};
 use std::alloc::Global;
 
@@ -34,8 +34,8 @@ impl From<NoMemory> for PatchFault {
 }
 
 /// Returns the tree changed by a patch, which is an object whose names are JSON Pointers without
-/// the slash that they begin with (RFC 8620, section 5.3). The tree is changed in place. Null takes
-/// the value at a path away, and every other value takes its place.
+/// the slash that they begin with (RFC 8620, section 5.3). The tree is changed in place. Null
+/// removes the value at a path, and every other value replaces it.
 ///
 /// Fails with `BadPatch` if a path is invalid: if it is a prefix of another path by parts, or if
 /// some part but the last names no member of an object, or if the last isn't a name in an object.
@@ -56,31 +56,31 @@ fn patch_members(alloc: Global, tree: Json, changes: &[Member]) -> Result<Json, 
         (λ t. patching_by (map member_of changes.now) (tree_of tree) ≡ patched (tree_of t))
         (λ e. ExplainsPatch e (patching_by (map member_of changes.now) (tree_of tree))) }
 {
-    match first_bad(alloc, &tree, changes)? {
+    match first_invalid(alloc, &tree, changes)? {
         Some(path) => Err(PatchFault::BadPatch(path.copy()?)),
         None => Ok(change_all(alloc, tree, changes)?),
     }
 }
 
-fn first_bad<'a>(
+fn first_invalid<'a>(
     alloc: Global,
     tree: &Json,
     changes: &'a [Member],
 ) -> Result<Option<&'a Text>, NoMemory>
     requires { KeysRise (map member_of changes.now) }
     ensures { IfOk result (λ o. option_map (λ p. p.now) o
-        ≡ first_bad_path (map member_of changes.now) (map member_of changes.now)
+        ≡ first_invalid_path (map member_of changes.now) (map member_of changes.now)
         (tree_of tree.now)) }
 {
     for change in changes {
-        if is_bad(alloc, tree, changes, change.name.as_bytes())? {
+        if is_invalid(alloc, tree, changes, change.name.as_bytes())? {
             return Ok(Some(&change.name));
         }
     }
     Ok(None)
 }
 
-fn is_bad(alloc: Global, tree: &Json, changes: &[Member], path: &[u8]) -> Result<bool, NoMemory>
+fn is_invalid(alloc: Global, tree: &Json, changes: &[Member], path: &[u8]) -> Result<bool, NoMemory>
     requires { KeysRise (map member_of changes.now) }
     ensures { IfOk result (λ b. b
         ≡ (is_prefix path.now (map member_of changes.now)
@@ -104,14 +104,14 @@ fn has_longer(alloc: Global, changes: &[Member], path: &[u8]) -> Result<bool, No
     Ok(has_longer_at(changes, path, place))
 }
 
-fn has_longer_at(changes: &[Member], path: &[u8], place: Place) -> bool
+fn has_longer_at(changes: &[Member], path: &[u8], place: KeyIndex) -> bool
     requires rise { KeysRise (map member_of changes.now) }
-    requires place { IsPlace place (path.now ++ 47 ∷ []) (map member_of changes.now) }
+    requires place { IsKeyIndex place (path.now ++ 47 ∷ []) (map member_of changes.now) }
     ensures { result ≡ is_prefix path.now (map member_of changes.now) }
 {
     match place {
-        Place::Held(_) => true,
-        Place::New(at) => if at < changes.len() {
+        KeyIndex::Held(_) => true,
+        KeyIndex::New(at) => if at < changes.len() {
             continues(path, changes[at].name.as_bytes())
         } else {
             false

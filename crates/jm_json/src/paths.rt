@@ -3,7 +3,7 @@ ghost use Rattle.std.specs.Prelude.{◌≡◌, ◌≢◌, ◌≤◌, ◌<◌, �
 ghost use Rattle.jm_json.specs.Json.{tree_of, member_of};
 ghost use Rattle.jm_json.specs.Find.{find};
 ghost use Rattle.jm_json.specs.Order.{KeysRise};
-ghost use Rattle.jm_json.specs.Whole.{pointer_byte, pointer_part};
+ghost use Rattle.jm_json.specs.Integers.{pointer_byte, pointer_part};
 ghost use Rattle.jm_json.specs.Pointer.{cut, name_of, item_named, child as child_of, followed, pointed, stripped};
 
 use crate::tree::{Json, Member, value_at};

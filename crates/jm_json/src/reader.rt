@@ -4,13 +4,13 @@ ghost use Rattle.std.specs.Prelude.{List, ℕ, true};
 ghost use Rattle.serde_json.specs.Data.{Data, array, object};
 ghost use Rattle.jm_json.specs.Reading as reading;
 ghost use Rattle.jm_json.specs.Reading.{reading_of};
-ghost use Rattle.jm_json.specs.Explained.{Explains};
+ghost use Rattle.jm_json.specs.Causes.{IsCauseOf};
 ghost use Rattle.serde_json.specs.View.{view, number_view, items_view, members_view};
 ghost use Rattle.serde_json.specs.Find.{of_integer};
 ghost use Rattle.jm_json.specs.Tree.{trees_of, fields_of};
 ghost use Rattle.jm_json.specs.Json.{tree_of};
-ghost use Rattle.jm_json.specs.Data.{data_of, items_of, members_of};
-ghost use Rattle.jm_json.specs.Whole.{is_whole, first_bad, first_bad_item, first_bad_member, under, pointer_part};
+ghost use Rattle.jm_json.specs.JsonValues.{data_of, items_of, members_of};
+ghost use Rattle.jm_json.specs.Integers.{is_whole, first_invalid, first_invalid_item, first_invalid_member, under, pointer_part};
 ghost use Rattle.jm_json.specs.Faults.{Refuses};
 
 use crate::parser::{INTEGER_LIMIT, Scratch, Stop, read_plainly};
@@ -61,7 +61,7 @@ impl From<NoMemory> for Misfit {
 /// number of another form in the order of the keys.
 pub fn read(alloc: Global, bytes: &[u8]) -> Result<Json, ReadFault>
     ensures { MatchResult result (λ t. reading_of bytes.now ≡ reading.whole (tree_of t))
-        (λ e. Explains e (reading_of bytes.now)) }
+        (λ e. IsCauseOf e (reading_of bytes.now)) }
 {
     let mut scratch = Scratch::new(alloc);
     read_with(alloc, &mut scratch, bytes)
@@ -70,7 +70,7 @@ pub fn read(alloc: Global, bytes: &[u8]) -> Result<Json, ReadFault>
 /// Reads JSON bytes like `read`, but reuses the buffers of the reader.
 pub fn read_with(alloc: Global, scratch: &mut Scratch, bytes: &[u8]) -> Result<Json, ReadFault>
     ensures { MatchResult result (λ t. reading_of bytes.now ≡ reading.whole (tree_of t))
-        (λ e. Explains e (reading_of bytes.now)) }
+        (λ e. IsCauseOf e (reading_of bytes.now)) }
 {
     match read_plainly(alloc, scratch, bytes) {
         Ok(tree) => Ok(tree),
@@ -84,7 +84,7 @@ pub fn read_with(alloc: Global, scratch: &mut Scratch, bytes: &[u8]) -> Result<J
 #[inline(never)]
 fn read_exactly(alloc: Global, bytes: &[u8]) -> Result<Json, ReadFault>
     ensures { MatchResult result (λ t. reading_of bytes.now ≡ reading.whole (tree_of t))
-        (λ e. Explains e (reading_of bytes.now)) }
+        (λ e. IsCauseOf e (reading_of bytes.now)) }
 {
     let value = match Value::from_slice(alloc, bytes) {
         Ok(value) => value,
@@ -105,7 +105,7 @@ fn read_exactly(alloc: Global, bytes: &[u8]) -> Result<Json, ReadFault>
 #[cycle(tree)]
 fn tree_from(alloc: Global, value: &Value) -> Result<Json, Misfit>
     ensures ok { IfOk result (λ t. data_of (tree_of t) ≡ view value.now) }
-    ensures whole { IfOk result (λ t. first_bad (view value.now) ≡ None) }
+    ensures whole { IfOk result (λ t. first_invalid (view value.now) ≡ None) }
     ensures err { IfErr result (λ e. Refuses e (view value.now)) }
 {
     match value {
@@ -141,7 +141,7 @@ fn integer_of(number: &Number) -> Option<i64>
 #[cycle(tree)]
 fn items_from(alloc: Global, values: &Vec<Value>) -> Result<Items, Misfit>
     ensures ok { IfOk result (λ ts. items_of (trees_of ts) ≡ items_view values.now.items) }
-    ensures whole { IfOk result (λ ts. first_bad_item 0 (items_view values.now.items) ≡ None) }
+    ensures whole { IfOk result (λ ts. first_invalid_item 0 (items_view values.now.items) ≡ None) }
     ensures err { IfErr result (λ e. Refuses e (array (items_view values.now.items))) }
 {
     let mut items = Items::new(alloc);
@@ -160,7 +160,8 @@ fn items_from(alloc: Global, values: &Vec<Value>) -> Result<Items, Misfit>
 #[cycle(tree)]
 fn members_from(alloc: Global, values: &Map<String, Value>) -> Result<Members, Misfit>
     ensures ok { IfOk result (λ ms. members_of (fields_of ms) ≡ members_view values.now.entries) }
-    ensures whole { IfOk result (λ ms. first_bad_member (members_view values.now.entries) ≡ None) }
+    ensures whole { IfOk result
+        (λ ms. first_invalid_member (members_view values.now.entries) ≡ None) }
     ensures err { IfErr result (λ e. Refuses e (object (members_view values.now.entries))) }
 {
     let mut members = Members::new(alloc);

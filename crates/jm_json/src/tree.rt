@@ -4,7 +4,7 @@ ghost use Rattle.jm_json.specs.Tree.{null};
 ghost use Rattle.jm_json.specs.Json.{tree_of, member_of};
 ghost use Rattle.jm_json.specs.Order.{KeysRise, put};
 ghost use Rattle.jm_json.specs.Patch.{take_away};
-ghost use Rattle.jm_json.specs.Place.{AllBelow, IsPlace};
+ghost use Rattle.jm_json.specs.KeyIndices.{AllBelow, IsKeyIndex};
 ghost use Rattle.jm_json.specs.Find.{find, as_text, as_list, as_object};
 
 use jm_base::{NoMemory, Text};
@@ -50,7 +50,7 @@ pub struct Member {
 
 // The index of a key in an object, or the index at which it would be inserted.
 #[derive(Clone, Copy)]
-pub(crate) enum Place {
+pub(crate) enum KeyIndex {
     Held(usize),
     New(usize),
 }
@@ -59,7 +59,7 @@ impl Model for Items {
     ghost use Rattle.std.specs.Prelude.{List};
     ghost use Rattle.std.specs.Coded.{coded_list};
     ghost use Rattle.jm_json.specs.Tree.{Tree};
-    ghost use Rattle.jm_json.specs.Code.{tree_code};
+    ghost use Rattle.jm_json.specs.TreeCodes.{tree_code};
 
     ghost Value = { List Tree };
 
@@ -75,7 +75,7 @@ impl Model for Items {
 
     ghost size = { λ ts. trees_size (trees_of ts) };
 
-    ghost use Rattle.jm_json.specs.Falls.{items_deep};
+    ghost use Rattle.jm_json.specs.Depths.{items_deep};
 
     ghost size_decreases = { λ a h. items_deep a.items.items };
 }
@@ -84,7 +84,7 @@ impl Model for Members {
     ghost use Rattle.std.specs.Prelude.{List, ℕ};
     ghost use Rattle.std.specs.Coded.{coded_list, coded×, coded_ℕ};
     ghost use Rattle.jm_json.specs.Tree.{Tree};
-    ghost use Rattle.jm_json.specs.Code.{tree_code};
+    ghost use Rattle.jm_json.specs.TreeCodes.{tree_code};
 
     ghost Value = { List (List ℕ × Tree) };
 
@@ -104,7 +104,7 @@ impl Model for Members {
 
     ghost size = { λ ms. fields_size (fields_of ms) };
 
-    ghost use Rattle.jm_json.specs.Falls.{members_deep};
+    ghost use Rattle.jm_json.specs.Depths.{members_deep};
 
     ghost size_decreases = { λ a h. members_deep a.members.items };
 }
@@ -267,7 +267,7 @@ impl Members {
         is_past_all(self.members.as_slice(), name.as_bytes())
     }
 
-    // Takes the value at a key out of the object, and leaves null in its place.
+    // Takes the value at a key out of the object, and leaves null there.
     pub(crate) fn take_value(&mut self, name: &str) -> Option<Json>
         ensures value { option_map tree_of result ≡ find name.now self.old }
         ensures rest { MatchOption result (self.new ≡ self.old)
@@ -319,8 +319,8 @@ pub(crate) fn value_at<'a>(members: &'a [Member], name: &[u8]) -> Option<&'a Jso
     ensures { option_map (λ j. tree_of j.now) result ≡ find name.now (map member_of members.now) }
 {
     match place_of(members, name) {
-        Place::Held(at) => Some(&members[at].value),
-        Place::New(_) => None,
+        KeyIndex::Held(at) => Some(&members[at].value),
+        KeyIndex::New(_) => None,
     }
 }
 
@@ -333,11 +333,11 @@ fn remove_member(members: &mut Vec<Member>, name: &[u8]) -> Option<Json>
         ≡ take_away name.now (map member_of members.old.items) }
 {
     match place_of(members.as_slice(), name) {
-        Place::Held(at) => {
+        KeyIndex::Held(at) => {
             let Member { value, .. } = members.remove(at);
             Some(value)
         }
-        Place::New(_) => None,
+        KeyIndex::New(_) => None,
     }
 }
 
@@ -348,12 +348,12 @@ fn is_past_all(members: &[Member], name: &[u8]) -> bool
     ensures not_past { AllBelow name.now (map member_of members.now) → IsTrue result }
 {
     match place_of(members, name) {
-        Place::Held(_) => false,
-        Place::New(at) => at == members.len(),
+        KeyIndex::Held(_) => false,
+        KeyIndex::New(at) => at == members.len(),
     }
 }
 
-// Takes the value at a name out, and leaves null in its place.
+// Takes the value at a name out, and leaves null there.
 fn take_value_of(members: &mut Vec<Member>, name: &[u8]) -> Option<Json>
     requires { KeysRise (map member_of members.old.items) }
     ensures value { option_map tree_of result ≡ find name.now (map member_of members.old.items) }
@@ -362,8 +362,8 @@ fn take_value_of(members: &mut Vec<Member>, name: &[u8]) -> Option<Json>
         ≡ put name.now null (map member_of members.old.items)) }
 {
     match place_of(members.as_slice(), name) {
-        Place::Held(at) => Some(mem::replace(&mut members[at].value, Json::Null)),
-        Place::New(_) => None,
+        KeyIndex::Held(at) => Some(mem::replace(&mut members[at].value, Json::Null)),
+        KeyIndex::New(_) => None,
     }
 }
 
@@ -375,11 +375,11 @@ fn put_member(members: &mut Vec<Member>, name: Text, value: Json) -> Result<(), 
     ensures err { OnErr result (members.new.items ≡ members.old.items) }
 {
     match place_of(members.as_slice(), name.as_bytes()) {
-        Place::Held(at) => {
+        KeyIndex::Held(at) => {
             members[at] = Member { name, value };
             Ok(())
         }
-        Place::New(at) => {
+        KeyIndex::New(at) => {
             members.insert(at, Member { name, value })?;
             Ok(())
         }
@@ -388,9 +388,9 @@ fn put_member(members: &mut Vec<Member>, name: Text, value: Json) -> Result<(), 
 
 // Returns the index of a key by binary search. The last key is compared first, so that a key that
 // comes after all takes one comparison.
-pub(crate) fn place_of(members: &[Member], name: &[u8]) -> Place
+pub(crate) fn place_of(members: &[Member], name: &[u8]) -> KeyIndex
     requires { KeysRise (map member_of members.now) }
-    ensures { IsPlace result name.now (map member_of members.now) }
+    ensures { IsKeyIndex result name.now (map member_of members.now) }
 {
     let mut low = 0;
     let mut high = members.len();
@@ -398,10 +398,10 @@ pub(crate) fn place_of(members: &[Member], name: &[u8]) -> Place
     'halves: while low < high {
         match name.cmp(members[at].name.as_bytes()) {
             Ordering::Less => high = at,
-            Ordering::Equal => return Place::Held(at),
+            Ordering::Equal => return KeyIndex::Held(at),
             Ordering::Greater => low = at + 1,
         }
         at = low + (high - low) / 2;
     }
-    Place::New(low)
+    KeyIndex::New(low)
 }

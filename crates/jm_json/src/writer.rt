@@ -5,13 +5,13 @@ ghost use Rattle.serde_json.specs.Find.{of_integer};
 ghost use Rattle.serde_json.specs.Read as json_text;
 ghost use Rattle.serde_json.specs.Read.{max_depth};
 ghost use Rattle.serde_json.specs.Written.{compact_text, WritesValue, WritesItems, WritesMembers};
-ghost use Rattle.jm_json.specs.Whole.{first_bad};
+ghost use Rattle.jm_json.specs.Integers.{first_invalid};
 ghost use Rattle.jm_json.specs.Reading as reading;
 ghost use Rattle.jm_json.specs.Reading.{reading_of};
 ghost use Rattle.jm_json.specs.Tree.{trees_of, fields_of};
 ghost use Rattle.jm_json.specs.Json.{tree_of, member_of};
 ghost use Rattle.jm_json.specs.Order.{KeysRise};
-ghost use Rattle.jm_json.specs.Data.{data_of, items_of, members_of};
+ghost use Rattle.jm_json.specs.JsonValues.{data_of, items_of, members_of};
 
 use crate::tree::{Json, Member};
 use jm_base::{Bytes, NoMemory};
@@ -27,7 +27,7 @@ const INITIAL_TEXT_BYTES: usize = 256;
 pub fn write(alloc: Global, tree: &Json) -> Result<Bytes, NoMemory>
     ensures text { IfOk result (λ b. b ≡ compact_text (data_of (tree_of tree.now))) }
     ensures reads_back { IfOk result (λ b. depth (data_of (tree_of tree.now)) ≤ max_depth
-        → first_bad (data_of (tree_of tree.now)) ≡ None → reading_of b
+        → first_invalid (data_of (tree_of tree.now)) ≡ None → reading_of b
         ≡ reading.whole (tree_of tree.now)) }
 {
     let mut bytes = Vec::with_capacity(alloc, INITIAL_TEXT_BYTES)?;

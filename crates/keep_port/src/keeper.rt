@@ -31,7 +31,7 @@ pub trait Keeper: Drop + Send {
     /// The content, if the keeper knows it.
     ghost kept: { Self → Option Kept };
 
-    /// What a crash at this moment may leave.
+    /// What a crash may leave now.
     ghost image: { Self → Kept → Type 0 };
 
     /// How often `load` has failed. It never falls.

@@ -13,7 +13,7 @@ pub struct Kept {
 }
 
 impl Kept {
-    /// Returns the content with no base and no rows. It takes no memory.
+    /// Returns the content with no base and no rows. Allocates nothing.
     pub fn new(alloc: Global) -> Kept
         ensures base { result.base ≡ None }
         ensures rows { result.rows ≡ [] }
@@ -24,7 +24,7 @@ impl Kept {
         }
     }
 
-    /// Returns an equal content in memory of its own. Fails if memory runs out.
+    /// Returns a copy of the content, in memory of its own. Fails if memory runs out.
     pub fn copy(&self, alloc: Global) -> Result<Kept, NoMemory>
         ensures { IfOk result (λ k. k ≡ self.now) }
     {

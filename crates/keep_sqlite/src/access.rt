@@ -46,24 +46,24 @@ impl<S: Alter + Drop> Opens<S> for Adopted {
     }
 }
 
-/// Where the database is.
+/// A connection to the database, which the first call opens.
 #[derive(Drop)]
-pub enum Place<S: Alter + Drop, O: Opens<S>> {
-    /// Not opened yet, and to be opened by this.
+pub enum LazyConnection<S: Alter + Drop, O: Opens<S>> {
+    /// Not open yet; this opens it.
     At(O),
     /// Open.
     Open(Connection<S>),
 }
 
-impl<S: Alter + Drop, O: Opens<S>> Place<S, O> {
+impl<S: Alter + Drop, O: Opens<S>> LazyConnection<S, O> {
     fn connection(&mut self) -> Result<&mut Connection<S>, Error> {
-        if let Place::At(opener) = self {
+        if let LazyConnection::At(opener) = self {
             let opened = opener.open()?;
-            *self = Place::Open(opened);
+            *self = LazyConnection::Open(opened);
         }
         match self {
-            Place::Open(connection) => Ok(connection),
-            Place::At(_) => Err(CANNOT_OPEN),
+            LazyConnection::Open(connection) => Ok(connection),
+            LazyConnection::At(_) => Err(CANNOT_OPEN),
         }
     }
 
@@ -80,54 +80,57 @@ impl<S: Alter + Drop, O: Opens<S>> Place<S, O> {
     }
 }
 
-/// The database, and the last place of its commits, if its tables were created or checked.
+/// The database, and the number of its last row, if its tables were created or checked.
 #[derive(Drop)]
 pub struct Access<S: Alter + Drop, O: Opens<S>> {
-    place: Place<S, O>,
+    connection: LazyConnection<S, O>,
     last: Option<i64>,
 }
 
 impl<S: Alter + Drop, O: Opens<S>> Access<S, O> {
     /// Returns the access to this database, of which the tables are neither created nor checked
     /// yet.
-    pub fn new(place: Place<S, O>) -> Access<S, O>
-        ensures place { result.place ≡ place }
+    pub fn new(connection: LazyConnection<S, O>) -> Access<S, O>
+        ensures connection { result.connection ≡ connection }
         ensures last { result.last ≡ None }
     {
-        Access { place, last: None }
+        Access {
+            connection,
+            last: None,
+        }
     }
 
-    /// Returns the rows in the order of their places. After an error the next call checks the
+    /// Returns the rows in the order of their numbers. After an error the next call checks the
     /// tables again.
     pub fn load(&mut self, alloc: Global) -> Result<Rows, Error>
         ensures forgets { IfErr result (λ _. self.new.last ≡ None) }
     {
         self.last = None;
-        let rows = self.place.load(alloc)?;
+        let rows = self.connection.load(alloc)?;
         self.last = i64::try_from(rows.len()).ok();
         Ok(rows)
     }
 
     /// Adds a row after the others.
     pub fn append(&mut self, alloc: Global, row: &[u8]) -> Result<(), Error> {
-        let place = self.place.append(alloc, self.last, row)?;
-        self.last = Some(place);
+        let last = self.connection.append(alloc, self.last, row)?;
+        self.last = Some(last);
         Ok(())
     }
 
-    /// Keeps these rows in place of the ones before.
+    /// Replaces the rows by these.
     pub fn replace(&mut self, alloc: Global, rows: &[Bytes]) -> Result<(), Error> {
-        let place = self.place.replace(alloc, self.last, rows)?;
-        self.last = Some(place);
+        let last = self.connection.replace(alloc, self.last, rows)?;
+        self.last = Some(last);
         Ok(())
     }
 
     /// Runs statements on the connection, and returns whether one is open and ran them.
     #[cfg(test)]
     pub fn run(&mut self, text: &str) -> bool {
-        match &mut self.place {
-            Place::Open(connection) => connection.execute_batch(text).is_ok(),
-            Place::At(_) => false,
+        match &mut self.connection {
+            LazyConnection::Open(connection) => connection.execute_batch(text).is_ok(),
+            LazyConnection::At(_) => false,
         }
     }
 }

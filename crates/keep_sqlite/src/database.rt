@@ -5,7 +5,7 @@ use jm_base::{Bytes, Rows};
 use sqlite::{Alter, Connection, Error, ErrorCode, Transaction};
 use std::alloc::Global;
 
-/// Returns the rows in the order of their places.
+/// Returns the rows in the order of their numbers.
 pub fn load<S: Alter>(alloc: Global, connection: &mut Connection<S>) -> Result<Rows, Error> {
     let mut tx = begin(connection)?;
     let rows = tables::rows(alloc, &mut tx)?;
@@ -13,7 +13,7 @@ pub fn load<S: Alter>(alloc: Global, connection: &mut Connection<S>) -> Result<R
     Ok(Rows::from_vec(rows))
 }
 
-/// Adds a row after the others, and returns its place. `last` is the last place, if it is known.
+/// Adds a row after the others, and returns its number. `last` is the last number, if it is known.
 pub fn append<S: Alter>(
     alloc: Global,
     connection: &mut Connection<S>,
@@ -21,13 +21,13 @@ pub fn append<S: Alter>(
     row: &[u8],
 ) -> Result<i64, Error> {
     let mut tx = begin(connection)?;
-    let last = last_place(alloc, &mut tx, last)?;
-    let place = tables::insert(&mut tx, last, row)?;
+    let last = last_number(alloc, &mut tx, last)?;
+    let number = tables::insert(&mut tx, last, row)?;
     tx.commit()?;
-    Ok(place)
+    Ok(number)
 }
 
-/// Keeps these rows in place of the ones before, and returns the last place.
+/// Replaces the rows by these, and returns the last number.
 pub fn replace<S: Alter>(
     alloc: Global,
     connection: &mut Connection<S>,
@@ -35,7 +35,7 @@ pub fn replace<S: Alter>(
     rows: &[Bytes],
 ) -> Result<i64, Error> {
     let mut tx = begin(connection)?;
-    last_place(alloc, &mut tx, last)?;
+    last_number(alloc, &mut tx, last)?;
     let last = tables::insert_all(&mut tx, rows)?;
     tx.commit()?;
     Ok(last)
@@ -48,8 +48,8 @@ fn begin<S: Alter>(connection: &mut Connection<S>) -> Result<Transaction<'_, S>,
     Ok(connection.transaction())
 }
 
-// the tables are created or checked if the last place is not known yet
-fn last_place<S: Alter>(
+// the tables are created or checked if the last number is not known yet
+fn last_number<S: Alter>(
     alloc: Global,
     tx: &mut Transaction<'_, S>,
     known: Option<i64>,

@@ -5,7 +5,7 @@ ghost use Rattle.keep_port.specs.Keeping.{IsCounted, IsContent, IsUnknownOr, con
 ghost use Rattle.keep_port.specs.declared.kept.Kept.{Kept};
 ghost use Rattle.keep_sqlite.specs.Answers.{Answers};
 
-use crate::access::{Access, Adopted, AtPath, Opens, Place};
+use crate::access::{Access, Adopted, AtPath, LazyConnection, Opens};
 use jm_base::Text;
 use jm_edge::EdgeFault;
 use keep_port::{Keeper, Kept};
@@ -38,12 +38,13 @@ impl SqliteKeeper<FileStore<File>, AtPath> {
     /// Returns a keeper of the file at this path. It opens nothing: the first call opens or creates
     /// the file. A call that can't open it fails, and the next one tries again.
     pub fn at(rt: &HostRuntime, path: Text) -> SqliteKeeper<FileStore<File>, AtPath>
-        ensures unopened { result.access.place ≡ Place.At (record { rt = rt.now; path = path }) }
+        ensures unopened { result.access.connection
+            ≡ LazyConnection.At (record { rt = rt.now; path = path }) }
         ensures loads { result.load_faults ≡ 0 }
         ensures appends { result.append_faults ≡ 0 }
         ensures replaces { result.replace_faults ≡ 0 }
     {
-        SqliteKeeper::new(Place::At(AtPath::new(rt, path)))
+        SqliteKeeper::new(LazyConnection::At(AtPath::new(rt, path)))
     }
 }
 
@@ -51,24 +52,24 @@ impl<S: Alter + Drop> SqliteKeeper<S, Adopted> {
     /// Returns a keeper of the database that this connection is open to. While a transaction of the
     /// connection has not ended, each call fails.
     pub fn adopt(connection: Connection<S>) -> SqliteKeeper<S, Adopted>
-        ensures adopted { result.access.place ≡ Place.Open connection }
+        ensures adopted { result.access.connection ≡ LazyConnection.Open connection }
         ensures loads { result.load_faults ≡ 0 }
         ensures appends { result.append_faults ≡ 0 }
         ensures replaces { result.replace_faults ≡ 0 }
     {
-        SqliteKeeper::new(Place::Open(connection))
+        SqliteKeeper::new(LazyConnection::Open(connection))
     }
 }
 
 impl<S: Alter + Drop, O: Opens<S>> SqliteKeeper<S, O> {
-    fn new(place: Place<S, O>) -> SqliteKeeper<S, O>
-        ensures place { result.access.place ≡ place }
+    fn new(connection: LazyConnection<S, O>) -> SqliteKeeper<S, O>
+        ensures connection { result.access.connection ≡ connection }
         ensures loads { result.load_faults ≡ 0 }
         ensures appends { result.append_faults ≡ 0 }
         ensures replaces { result.replace_faults ≡ 0 }
     {
         SqliteKeeper {
-            access: Access::new(place),
+            access: Access::new(connection),
             load_faults: 0,
             append_faults: 0,
             replace_faults: 0,
@@ -120,7 +121,7 @@ impl<S: Alter + Drop + Send, O: Opens<S> + Send> Keeper for SqliteKeeper<S, O> {
         answer(&mut self.append_faults, self.access.append(alloc, row))
     }
 
-    /// Keeps these rows in place of the ones before. Fails if there is a base, and then asks
+    /// Replaces the rows by these. Fails if there is a base, and then asks
     /// nothing of the database.
     fn replace(&mut self, alloc: Global, whole: &Kept) -> Result<(), EdgeFault>
         ensures base { IsSome whole.now.base → result ≡ Err EdgeFault.Failed }

@@ -22,8 +22,8 @@ const COMMITS: &str = "SELECT place, bytes FROM commits ORDER BY place";
 
 const INSERT: &str = "INSERT INTO commits (place, bytes) VALUES (?1, ?2)";
 
-/// Returns the rows in the order of their places. It creates the tables if neither is there, and
-/// fails if any is not of this format.
+/// Returns the rows in the order of their numbers, the column `place`. It creates the tables if
+/// neither is there, and fails if any is not of this format.
 pub fn rows<S: Alter>(alloc: Global, tx: &mut Transaction<'_, S>) -> Result<Vec<Bytes>, Error> {
     if is_new(tx)? {
         tx.execute_batch(MAKE)?;
@@ -64,38 +64,38 @@ fn check_about<S: Alter>(tx: &mut Transaction<'_, S>) -> Result<(), Error> {
 
 fn read_rows(alloc: Global, found: Vec<Row>) -> Result<Vec<Bytes>, Error> {
     let mut rows = Vec::with_capacity(alloc, found.len())?;
-    let mut place = 0i64;
+    let mut number = 0i64;
     for row in found {
-        place = place.saturating_add(1);
-        rows.push(read_row(&row, place)?)?;
+        number = number.saturating_add(1);
+        rows.push(read_row(&row, number)?)?;
     }
     Ok(rows)
 }
 
-fn read_row(row: &Row, place: i64) -> Result<Bytes, Error> {
+fn read_row(row: &Row, number: i64) -> Result<Bytes, Error> {
     let found: i64 = row.get(0)?;
-    if found != place {
+    if found != number {
         return Err(OTHER_FORM);
     }
     let bytes: Vec<u8> = row.get(1)?;
     Ok(Bytes::from_vec(bytes))
 }
 
-/// Returns the last place of so many rows.
+/// Returns the number of the last of so many rows.
 pub fn last_of(rows: usize) -> Result<i64, Error> {
     i64::try_from(rows).map_err(|_| OTHER_FORM)
 }
 
-/// Adds a row at the place after the last one, and returns its place.
+/// Adds a row with the number after the last one, and returns its number.
 pub fn insert<S: Alter>(tx: &mut Transaction<'_, S>, last: i64, row: &[u8]) -> Result<i64, Error> {
-    let Some(place) = last.checked_add(1) else {
+    let Some(number) = last.checked_add(1) else {
         return Err(OTHER_FORM);
     };
-    tx.execute(INSERT, params![place, row])?;
-    Ok(place)
+    tx.execute(INSERT, params![number, row])?;
+    Ok(number)
 }
 
-/// Removes all rows and adds these at the places from 1, and returns the last place.
+/// Removes all rows, adds these with the numbers from 1 on, and returns the last number.
 pub fn insert_all<S: Alter>(tx: &mut Transaction<'_, S>, rows: &[Bytes]) -> Result<i64, Error> {
     tx.execute("DELETE FROM commits", &[])?;
     let mut last = 0i64;

@@ -7,9 +7,9 @@ use Rattle.jm_base.specs.declared.identifiers.Kind.{Kind}
 use Rattle.jm_base.specs.declared.identifiers.Kind.TheVariants.{Mailbox as OfMailbox, Email as OfEmail, Thread as OfThread}
 use Rattle.mail_records.specs.Contents.{Content, AreTables, AreNumbered, NextAtMost, email_number}
 use Rattle.mail_records.specs.Edits.{id_of, after_edit, after_edits, AllFit}
-use Rattle.mail_records.specs.Histories.{History, Entry, Floors, FloorsAtMost, floor_of, edits_in, blobs_in, edits_of, ids_of, blobs_of, blobs_after, end_of, end_after, content_at, content_of, account_after, grown_by, NamesThread, HasOneThread, IsSound, IsFounded}
+use Rattle.mail_records.specs.Histories.{History, Entry, Floors, FloorsAtMost, floor_of, edits_in, blobs_in, edits_of, ids_of, blobs_of, blobs_after, end_of, end_after, content_at, content_of, account_after, grown_by, NamesThread, HasOneThread, IsSound, IsFounded, max_floor}
 use Rattle.mail_records.specs.States.{is_kind_of, last_place, last_position, placed_above, state_at, state_of}
-use Rattle.mail_records.specs.Moved.{floors_at, moved_up}
+use Rattle.mail_records.specs.FloorMoves.{floors_at, moved_up}
 use Rattle.mail_records.specs.declared.records.Email.{Email}
 use Rattle.mail_records.specs.declared.edits.Edit.{Edit}
 use Rattle.mail_records.specs.declared.edits.Edit.TheVariants.{PutMailbox, DropMailbox, PutEmail, DropEmail, PutThread, DropThread}
@@ -102,7 +102,7 @@ state_of-moved_up h kind c = position_above h kind c (ids_of (moved_up h c)) ∙
 
 -- ---- what a founded and sound history keeps
 
-pub IsFounded-moved_up : (h : History) (c : ℕ) → end_after h c ≤ 2 ^ 52 → IsFounded h → IsSound h → IsFounded (moved_up h c)
+pub IsFounded-moved_up : (h : History) (c : ℕ) → end_after h c ≤ max_floor → IsFounded h → IsSound h → IsFounded (moved_up h c)
 IsFounded-moved_up h c low founded sound =
     let k = end_after h c in
     let le : h.floor ≤ k = omega arith in

@@ -20,8 +20,8 @@ NumbersRise numbers = IsStrictlySortedBy nat_cmp numbers
 abbrev pub TextsRise : List (List ℕ) → Type 0
 TextsRise texts = IsStrictlySortedBy (slice_cmp nat_cmp) texts
 
--- an email's mailboxes, keywords and links rise strictly, and its dates are moments of the years
--- 0001 to 9999
+-- an email's mailboxes, keywords and links rise strictly, and its dates are timestamps of the
+-- years 0001 to 9999
 pub record IsFormedEmail (e : Email) : Type 0 where
   pub mailboxes : NumbersRise e.mailboxes
   pub keywords : TextsRise e.keywords

@@ -1,5 +1,5 @@
--- What an account holds at one moment: a finite map of each kind of record, and the next number of
--- each.
+-- What an account holds at one position: a finite map of each kind of record, and the next number
+-- of each.
 use Rattle.std.specs.Prelude.{◌≡◌, ℕ, ◌≤◌, Bool, List, [], Option, is_some}
 use Rattle.mail_records.specs.Tables.{lookup, IsTable, IsNumbered}
 use Rattle.mail_records.specs.declared.records.Mailbox.{Mailbox}

@@ -81,7 +81,7 @@ abbrev pub AllFit : Content → List Edit → Type 0
 AllFit c [] = ⊤
 AllFit c (e ∷ es) = Fits c e × AllFit (after_edit c e) es
 
--- an email that is put in the place of one keeps its thread
+-- an email that replaces one keeps its thread
 abbrev pub KeepsThread : Content → Edit → Type 0
 KeepsThread c (PutEmail item was) =
     (x : Email) → email_at c item.number ≡ Some x → x.thread ≡ item.thread

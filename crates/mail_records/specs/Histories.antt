@@ -145,18 +145,28 @@ grown_by h more = record h { entries = h.entries ++ more }
 abbrev pub grown : History → Entry → History
 grown h e = grown_by h (e ∷ [])
 
+-- The greatest floor: half of the positions that a JSON number holds (RFC 8620, 1.3).
+abbrev pub max_floor : ℕ
+max_floor = 2 ^ 52
+
+-- The greatest last position of an account, and the greatest next number of a kind of record: a
+-- floor is at most `max_floor`, and the limit of edits keeps fewer than 2^26 edits after it. It is
+-- below 2^53, so that a JSON number holds it (RFC 8620, 1.3).
+abbrev pub max_position : ℕ
+max_position = max_floor + 2 ^ 26
+
 -- each kind's floor position is at most the floor
 pub record FloorsAtMost (floors : Floors) (floor : ℕ) : Type 0 where
   pub mailbox : floors.mailbox ≤ floor
   pub email : floors.email ≤ floor
   pub thread : floors.thread ≤ floor
 
--- What holds of each history from its beginning on: the floor is at most 2^52 and each kind's floor
--- position at most the floor, and the base is in number order with each number below its kind's
--- next one, and each next number at most the floor plus 1. Edits that fit keep the base's part: a
--- next number is then at most the last position plus 1.
+-- What holds of each history from its beginning on: the floor is at most `max_floor` and each
+-- kind's floor position at most the floor, and the base is in number order with each number below
+-- its kind's next one, and each next number at most the floor plus 1. Edits that fit keep the
+-- base's part: a next number is then at most the last position plus 1.
 pub record IsFounded (h : History) : Type 0 where
-  pub low : h.floor ≤ 2 ^ 52
+  pub low : h.floor ≤ max_floor
   pub floors : FloorsAtMost h.floors h.floor
   pub tables : AreTables h.base
   pub numbered : AreNumbered h.base

@@ -8,4 +8,4 @@ pub mod Orders
 pub mod OrderSteps
 pub mod Laws
 pub mod Views
-pub mod Moved
+pub mod FloorMoves

@@ -9,12 +9,12 @@ use Rattle.std.specs.Cmp.Lexicographic.{slice_cmp}
 use Rattle.mail_records.specs.Tables.{without}
 use Rattle.mail_records.specs.Orders.{Key}
 
--- with this item in its place, if none is equal to it
+-- with this item at its index, if none is equal to it
 abbrev pub put_in : {K : Type 0} → (K → K → Ordering) → K → List K → List K
 put_in R k [] = k ∷ []
 put_in R k (x ∷ xs) = match_ordering (R x k) (x ∷ put_in R k xs) (x ∷ xs) (k ∷ x ∷ xs)
 
--- with these items in their places
+-- with these items at their indices
 abbrev pub put_all_in : {K : Type 0} → (K → K → Ordering) → List K → List K → List K
 put_all_in R [] xs = xs
 put_all_in R (k ∷ ks) xs = put_all_in R ks (put_in R k xs)

@@ -30,7 +30,7 @@ pub record Key : Type 0 where
   pub place : ℕ
 
 -- by group (none is first), then by text in byte order, then by the time received, then by number,
--- then by place
+-- then by index
 abbrev pub key_cmp : Key → Key → Ordering
 key_cmp a b =
     ordering_then (option_cmp nat_cmp a.group b.group)
@@ -85,7 +85,8 @@ abbrev pub keys_of : {R E : Type 0} → (R → ℕ) → (E → ℕ) → (Option 
     → List Key
 keys_of number owner key rows es = map (key_of number owner key rows) es
 
--- ---- mailboxes by parent and name (RFC 8621, 2): the one key of a mailbox has its parent as group and its name as text
+-- ---- mailboxes by parent and name (RFC 8621, 2): the one key of a mailbox has its parent as group
+-- and its name as text
 
 abbrev pub name_key : Mailbox → Key
 name_key m =
@@ -163,7 +164,8 @@ abbrev pub threaded_key : Option Email → Threaded → Key
 threaded_key o t =
     record { group = Some t.thread; text = []; received = t.received; number = t.email; place = 0 }
 
--- ---- emails by mailbox and the time received: a key for each mailbox of the email, which is its group
+-- ---- emails by mailbox and the time received: a key for each mailbox of the email, which is its
+-- group
 
 abbrev pub placed_key_of : Email → ℕ → Key
 placed_key_of e m = record {

@@ -25,19 +25,19 @@ is_kind_of kind i = is_kind kind i.kind
 abbrev pub edits_of_kind : Kind → List Edit → List Edit
 edits_of_kind kind edits = filter (λ e. is_kind kind (kind_of e)) edits
 
--- the place of the last item that passes, from whether the first one does and from the place among
--- the others
+-- the index of the last item that passes, counted from 1: from whether the first one does, and from
+-- the index among the others
 abbrev pub place_with : Bool → Option ℕ → Option ℕ
 place_with first (Some n) = Some (n + 1)
 place_with first None = if first then Some 1 else None
 
--- the place of the last item that passes, counted from 1
+-- the index of the last item that passes, counted from 1
 abbrev pub last_place : {A : Type 0} → (A → Bool) → List A → Option ℕ
 last_place test [] = None
 last_place test (x ∷ xs) = place_with (test x) (last_place test xs)
 
--- the position of a place: that many above the floor, or otherwise, where there is none, the one
--- given
+-- the position of an index: that many above the floor, or, if there is none, the position
+-- `otherwise`
 abbrev pub placed_above : ℕ → ℕ → Option ℕ → ℕ
 placed_above floor otherwise (Some n) = floor + n
 placed_above floor otherwise None = otherwise

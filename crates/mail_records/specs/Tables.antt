@@ -8,7 +8,7 @@ abbrev pub lookup : {R : Type 0} → (R → ℕ) → ℕ → List R → Option R
 lookup number n [] = None
 lookup number n (r ∷ rs) = if number r == n then Some r else lookup number n rs
 
--- with this record in the place of its number
+-- with this record at the index of its number
 abbrev pub put : {R : Type 0} → (R → ℕ) → R → List R → List R
 put number r [] = r ∷ []
 put number r (x ∷ xs) =
@@ -20,12 +20,12 @@ put number r (x ∷ xs) =
 abbrev pub without : {R : Type 0} → (R → ℕ) → ℕ → List R → List R
 without number n rs = filter (λ r. not (number r == n)) rs
 
--- the numbers rise strictly: each record stands once
+-- the numbers rise strictly: each record is there once
 abbrev pub IsTable : {R : Type 0} → (R → ℕ) → List R → Type 0
 IsTable number [] = ⊤
 IsTable number (r ∷ rs) = AllByRecursion (λ x. number r < number x) rs × IsTable number rs
 
--- i is the place of the first record whose number is not below n
+-- i is the index of the first record whose number is not below n
 pub record IsPlace {R : Type 0} (number : R → ℕ) (n : ℕ) (rows : List R) (i : ℕ) : Type 0 where
   pub within : i ≤ length rows
   pub before : AllByRecursion (λ r. number r < n) (take i rows)
@@ -37,7 +37,7 @@ pub record IsNumbered {R : Type 0} (number : R → ℕ) (rows : List R) (next : 
   pub from_one : AllByRecursion (λ r. 1 ≤ number r) rows
   pub below_next : AllByRecursion (λ r. number r < next) rows
 
--- the records of a table, and for how many more room stands ready
+-- the records of a table, and for how many more there is room
 pub record Rows (R : Type 0) : Type 0 where
   pub rows : List R
   pub spare : ℕ

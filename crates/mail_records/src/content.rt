@@ -50,7 +50,7 @@ impl Model for Content {
 }
 
 impl Content {
-    /// No record, each kind's next number being 1. It takes no memory.
+    /// Returns a content with no record, each kind's next number being 1. Allocates nothing.
     pub fn new(alloc: Global) -> Content
         ensures { result.content ≡ empty_content }
     {
@@ -64,7 +64,7 @@ impl Content {
         }
     }
 
-    /// The same content, in memory of its own.
+    /// Returns a copy of the content, in memory of its own.
     pub fn copy(&self, alloc: Global) -> Result<Content, NoMemory>
         ensures { IfOk result (λ c. c.content ≡ self.now.content) }
     {
@@ -129,7 +129,7 @@ impl Content {
         self.threads.get(number)
     }
 
-    /// The number that the next new record of a kind has.
+    /// Returns the number that the next new record of a kind has.
     pub fn next(&self, kind: Kind) -> u64
         ensures { result ≡ next_of self.now.content kind }
     {
@@ -290,7 +290,7 @@ impl Content {
         }
     }
 
-    /// Applies an edit that fits, for which room is reserved. It takes no memory.
+    /// Applies an edit that fits, for which room is reserved. Allocates nothing.
     pub fn apply_ready(&mut self, edit: Edit)
         requires room { 1 ≤ self.old.spare }
         requires fits { Fits self.old.content edit }
@@ -320,7 +320,7 @@ fn product(count: usize, each: usize) -> Result<usize, NoMemory>
     }
 }
 
-/// Applies an edit that fits. Where there is no memory for it, the content is as before.
+/// Applies an edit that fits. If an allocation fails, the content is as before.
 pub fn apply(alloc: Global, content: &mut Content, edit: &Edit) -> Result<(), NoMemory>
     requires fits { Fits content.old.content edit.now }
     requires next { HasNext content.old.content edit.now }

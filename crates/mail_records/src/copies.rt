@@ -1,10 +1,10 @@
-// Copies of lists, in memory of their own.
+// Copies of lists and strings, each in memory of its own.
 ghost use Rattle.std.specs.Prelude.{◌≡◌, IfOk, MatchOption, None, Some};
 
 use jm_base::{NoMemory, Numbers, Text, Texts};
 use std::alloc::Global;
 
-/// The same numbers, in memory of their own.
+/// Returns a copy of the numbers, in memory of its own.
 pub fn copy_numbers(alloc: Global, numbers: &Numbers) -> Result<Numbers, NoMemory>
     ensures { IfOk result (λ n. n ≡ numbers.now) }
 {
@@ -21,14 +21,14 @@ fn copies(alloc: Global, texts: &[Text]) -> Result<Vec<Text>, NoMemory>
     Ok(all)
 }
 
-/// The same texts, in memory of their own.
+/// Returns a copy of the strings, in memory of its own.
 pub fn copy_texts(alloc: Global, texts: &Texts) -> Result<Texts, NoMemory>
     ensures { IfOk result (λ t. t ≡ texts.now) }
 {
     Ok(Texts::from_vec(copies(alloc, texts.as_slice())?))
 }
 
-/// The same text or none, in memory of its own.
+/// Returns a copy of the string, in memory of its own, if there is one.
 pub fn copy_optional(text: &Option<Text>) -> Result<Option<Text>, NoMemory>
     ensures { IfOk result (λ t. t ≡ text.now) }
 {

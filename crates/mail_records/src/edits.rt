@@ -44,7 +44,7 @@ pub enum Edit {
 impl Edit {
     ghost use Rattle.mail_records.specs.Edits.{kind_of};
 
-    /// The kind of record that it puts or drops.
+    /// Returns the kind of the record that the edit puts or drops.
     pub fn kind(&self) -> Kind
         ensures { result ≡ kind_of self.now }
     {
@@ -55,7 +55,7 @@ impl Edit {
         }
     }
 
-    /// The same edit, in memory of its own.
+    /// Returns a copy of the edit, in memory of its own.
     pub fn copy(&self, alloc: Global) -> Result<Edit, NoMemory>
         ensures { IfOk result (λ e. e ≡ self.now) }
     {
@@ -112,7 +112,7 @@ fn copies(alloc: Global, edits: &[Edit]) -> Result<Vec<Edit>, NoMemory>
     Ok(all)
 }
 
-/// The same edits, in memory of their own.
+/// Returns a copy of the edits, in memory of its own.
 pub fn copy_edits(alloc: Global, edits: &[Edit]) -> Result<Edits, NoMemory>
     ensures { IfOk result (λ e. e ≡ edits.now) }
 {

@@ -111,7 +111,7 @@ impl Emails {
         Ok(())
     }
 
-    /// Puts an email in the place of its number, for which there is room.
+    /// Puts an email at the index of its number, for which there is room.
     pub(crate) fn put_ready(&mut self, item: Email)
         requires spare { 1 ≤ self.old.spare }
         requires placed { length item.mailboxes ≤ self.old.placed }

@@ -35,8 +35,9 @@ fn drop_email_fits(table: &Table<Email>, number: u64, thread: u64) -> bool
     }
 }
 
-/// Whether an edit fits the content before it: its `was` is right, a new record has its kind's next
-/// number, and a record that is dropped is there, an email with the thread that the edit names.
+/// Returns whether an edit fits the content before it: its `was` is right, a new record has its
+/// kind's next number, and a record that is dropped is there, an email with the thread that the
+/// edit names.
 pub fn fits(content: &Content, edit: &Edit) -> bool
     ensures { IsTrue result ↔ Fits content.now.content edit.now }
 {
@@ -80,8 +81,8 @@ fn stays_in_thread(table: &Table<Email>, number: u64, thread: u64) -> bool
     }
 }
 
-/// Whether an edit keeps the thread of its email: it isn't the put of an email in the place of one
-/// of another thread.
+/// Returns whether an edit keeps the thread of its email: it doesn't replace an email by one of
+/// another thread.
 pub fn keeps_thread(content: &Content, edit: &Edit) -> bool
     ensures { IsTrue result ↔ KeepsThread content.now.content edit.now }
 {
@@ -129,8 +130,8 @@ fn still_keeps(before: bool, content: &Content, edit: &Edit) -> bool
     before && keeps_thread(content, edit)
 }
 
-/// Applies edits one after the other, or answers None where one of them doesn't fit the content
-/// before it.
+/// Applies edits one after the other, or returns None if one of them doesn't fit the content before
+/// it.
 pub fn apply_fitting(
     alloc: Global,
     content: Content,

@@ -86,7 +86,7 @@ impl Mailboxes {
         Ok(())
     }
 
-    /// Puts a mailbox in the place of its number, for which there is room.
+    /// Puts a mailbox at the index of its number, for which there is room.
     pub(crate) fn put_ready(&mut self, item: Mailbox)
         requires { 1 ≤ self.old.spare }
         ensures rows { self.new.rows ≡ put mailbox_number item self.old.rows }

@@ -135,7 +135,7 @@ fn place_of<R: Record, E: Entry<R>>(table: &Table<R>, entries: &[E], key: &SortK
     entries.partition_point(|entry| is_below(&entry.key_in(table), key))
 }
 
-// Puts an entry in its place, for which room is ready.
+// Puts an entry at its index, for which room is ready.
 fn put_entry<R: Record, E: Entry<R>>(table: &Table<R>, entries: &mut Vec<E>, entry: E)
     requires rise { KeysRise (keys_of R.number E.owner E.key table.now.rows entries.old.items) }
     requires room { vec_len entries.old < vec_capacity entries.old }
@@ -175,7 +175,7 @@ fn drop_entry<R: Record, E: Entry<R>>(table: &Table<R>, entries: &mut Vec<E>, ke
     }
 }
 
-// Puts the entries of a record of the table in their places, for which room is ready.
+// Puts the entries of a record of the table at their indices, for which room is ready.
 fn put_entries<R: Record, E: Entry<R>>(table: &Table<R>, entries: &mut Vec<E>, row: &R)
     requires rise { KeysRise (keys_of R.number E.owner E.key table.now.rows entries.old.items) }
     requires there { lookup R.number (R.number row.now) table.now.rows ≡ Some row.now }
@@ -230,7 +230,7 @@ pub(crate) fn leave<R: Record, E: Entry<R>>(
     }
 }
 
-// As leave, where there is a record of the number.
+// Like `leave`, for a number that has a record.
 fn leave_for<R: Record, E: Entry<R>>(
     table: &Table<R>,
     entries: &mut Vec<E>,

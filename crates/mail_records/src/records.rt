@@ -21,7 +21,7 @@ pub struct Summary {
     pub from: Text,
     /// The name, else the address, of the first receiver.
     pub to: Text,
-    /// The moment of the field Date, where it tells one.
+    /// The timestamp of the field Date, if it has one.
     pub sent: Option<UtcDate>,
     /// Whether the message has an attachment.
     pub attachment: bool,
@@ -66,12 +66,12 @@ pub struct Email {
 #[derive(Drop)]
 pub struct Thread {
     pub number: u64,
-    /// The numbers of its emails, by the moment received, and of equal moments by number.
+    /// The numbers of its emails in the order of the timestamp received, then of number.
     pub emails: Numbers,
 }
 
 impl Summary {
-    /// The same summary, in memory of its own.
+    /// Returns a copy of the summary, in memory of its own.
     pub fn copy(&self, alloc: Global) -> Result<Summary, NoMemory>
         ensures { IfOk result (λ s. s ≡ self.now) }
     {

@@ -1,5 +1,5 @@
 // A finite map from numbers to records: the records in number order in a vector, with room that may
-// stand ready.
+// be ready for more.
 ghost use Rattle.std.specs.Prelude.{◌≡◌, ◌+◌, ◌<◌, ◌≤◌, ℕ, [], Some, None, OnOk, IfOk, MatchOption, length, take, insert, remove, slice_set, vec_len, vec_capacity};
 ghost use Rattle.mail_records.specs.Tables.{IsPlace, IsTable, lookup, put, without};
 
@@ -11,16 +11,16 @@ use std::marker::Model;
 pub trait Record: Drop {
     ghost number: { Self → ℕ };
 
-    /// Its number.
+    /// Returns the number of the record.
     fn number(&self) -> u64
         ensures { result ≡ number self.now };
 
-    /// The same record, in memory of its own.
+    /// Returns a copy of the record, in memory of its own.
     fn copy(&self, alloc: Global) -> Result<Self, NoMemory>
         ensures { IfOk result (λ r. r ≡ self.now) };
 }
 
-// The place of the first record whose number is not below this one.
+// Returns the index of the first record whose number is not below this one.
 fn place_of<R: Record>(rows: &[R], number: u64) -> usize
     requires { IsTable R.number rows.now }
     ensures { IsPlace R.number number rows.now result }
@@ -28,7 +28,7 @@ fn place_of<R: Record>(rows: &[R], number: u64) -> usize
     rows.partition_point(|row| row.number() < number)
 }
 
-// The record of a number.
+// Lends the record of a number.
 fn find<R: Record>(rows: &[R], number: u64) -> Option<&R>
     requires { IsTable R.number rows.now }
     ensures { MatchOption result (lookup R.number number rows.now ≡ None)
@@ -60,7 +60,7 @@ pub(crate) fn insert_ready<R: Drop>(rows: &mut Vec<R>, place: usize, item: R)
     }
 }
 
-// Another record in the place of one.
+// Replaces the record at an index.
 fn replace<R: Drop>(rows: &mut Vec<R>, place: usize, item: R)
     requires { place < vec_len rows.old }
     ensures items { rows.new.items ≡ slice_set rows.old.items place item }
@@ -70,7 +70,7 @@ fn replace<R: Drop>(rows: &mut Vec<R>, place: usize, item: R)
     rows[place] = item;
 }
 
-// Puts a record in the place of its number, for which room is reserved.
+// Puts a record at the index of its number, for which room is reserved.
 fn put_ready<R: Record>(rows: &mut Vec<R>, item: R)
     requires table { IsTable R.number rows.old.items }
     requires room { vec_len rows.old < vec_capacity rows.old }
@@ -107,7 +107,7 @@ fn take_out<R: Record>(rows: &mut Vec<R>, number: u64)
     }
 }
 
-// The same records, in memory of their own.
+// Returns a copy of the records, in memory of its own.
 fn copies<R: Record>(alloc: Global, rows: &[R]) -> Result<Vec<R>, NoMemory>
     ensures { IfOk result (λ v. v.items ≡ rows.now) }
 {
@@ -130,13 +130,16 @@ impl<R: Record> Model for Table<R> {
 
     ghost Value = { Rows R };
 
-    ghost view = { λ t. record { rows = t.rows.items; spare = vec_capacity t.rows - vec_len t.rows } };
+    ghost view = { λ t. record {
+      rows = t.rows.items;
+      spare = vec_capacity t.rows - vec_len t.rows;
+    } };
 
     ghost invariant = { λ t. IsTable R.number t.rows.items };
 }
 
 impl<R: Record> Table<R> {
-    /// No records. It takes no memory.
+    /// Returns a table without records. Allocates nothing.
     pub fn new(alloc: Global) -> Table<R>
         ensures { result.rows ≡ [] }
     {
@@ -145,7 +148,7 @@ impl<R: Record> Table<R> {
         }
     }
 
-    /// The same records, in memory of their own.
+    /// Returns a copy of the table, in memory of its own.
     pub fn copy(&self, alloc: Global) -> Result<Table<R>, NoMemory>
         ensures { IfOk result (λ t. t.rows ≡ self.now.rows) }
     {
@@ -180,7 +183,7 @@ impl<R: Record> Table<R> {
         Ok(())
     }
 
-    /// Puts a record in the place of its number, for which room is reserved.
+    /// Puts a record at the index of its number, for which room is reserved.
     pub fn put_ready(&mut self, item: R)
         requires { 1 ≤ self.old.spare }
         ensures rows { self.new.rows ≡ put R.number item self.old.rows }

@@ -23,23 +23,23 @@ passed [] (suc k) = refl
 passed (x ∷ xs) zero = refl
 passed (x ∷ xs) (suc k) = passed xs k
 
-behind_prefix : (c : ℕ) (cs : List ℕ) → is_ascii_whitespace c ≡ false → (prefix_size (c ∷ cs) == 0) ≡ false → without_prefixes (c ∷ cs) 0 ≡ without_prefixes (drop (prefix_size (c ∷ cs) - 1) cs) 0
-behind_prefix c cs white none =
+after_one_prefix : (c : ℕ) (cs : List ℕ) → is_ascii_whitespace c ≡ false → (prefix_size (c ∷ cs) == 0) ≡ false → without_prefixes (c ∷ cs) 0 ≡ without_prefixes (drop (prefix_size (c ∷ cs) - 1) cs) 0
+after_one_prefix c cs white none =
     ap (λ b. if b then without_prefixes cs 0 else (if prefix_size (c ∷ cs) == 0 then c ∷ cs else without_prefixes cs (prefix_size (c ∷ cs) - 1))) white
     ∙ ap (λ b. if b then c ∷ cs else without_prefixes cs (prefix_size (c ∷ cs) - 1)) none
     ∙ passed cs (prefix_size (c ∷ cs) - 1)
 
-pub nothing_behind : (n : ℕ) (xs : List ℕ) → length xs ≤ n → drop n xs ≡ []
-nothing_behind zero [] h = refl
-nothing_behind (suc n) [] h = refl
-nothing_behind zero (x ∷ xs) h = absurd (omega arith)
-nothing_behind (suc n) (x ∷ xs) h = nothing_behind n xs (omega arith)
+pub nothing_after : (n : ℕ) (xs : List ℕ) → length xs ≤ n → drop n xs ≡ []
+nothing_after zero [] h = refl
+nothing_after (suc n) [] h = refl
+nothing_after zero (x ∷ xs) h = absurd (omega arith)
+nothing_after (suc n) (x ∷ xs) h = nothing_after n xs (omega arith)
 
-pub behind_sized : (text : List ℕ) (c : ℕ) (after rest : List ℕ) (size : ℕ) → text ≡ c ∷ after → is_ascii_whitespace c ≡ false → size ≡ prefix_size text → (size ≡ 0 → ⊥) → rest ≡ drop (size - 1) after → without_prefixes text 0 ≡ without_prefixes rest 0
-behind_sized text c after rest size at white sized some is =
+pub after_sized : (text : List ℕ) (c : ℕ) (after rest : List ℕ) (size : ℕ) → text ≡ c ∷ after → is_ascii_whitespace c ≡ false → size ≡ prefix_size text → (size ≡ 0 → ⊥) → rest ≡ drop (size - 1) after → without_prefixes text 0 ≡ without_prefixes rest 0
+after_sized text c after rest size at white sized some is =
     let same : size ≡ prefix_size (c ∷ after) = sized ∙ ap prefix_size at in
     let none : (prefix_size (c ∷ after) == 0) ≡ false = ne_eqb (prefix_size (c ∷ after)) 0 (λ e. some (same ∙ e)) in
     ap (λ xs. without_prefixes xs 0) at
-    ∙ behind_prefix c after white none
+    ∙ after_one_prefix c after white none
     ∙ ap (λ n. without_prefixes (drop (n - 1) after) 0) (sym same)
     ∙ ap (λ xs. without_prefixes xs 0) (sym is)

@@ -1,4 +1,4 @@
--- The last place at which a text may be cut.
+-- The last byte offset at which a text may be cut.
 use Rattle.std.proofs.Common.{◌≡◌, ℕ, zero, suc, ◌<◌, ◌≤◌, Bool, true, false, not, ◌&&◌, eqb, cond, List, length, take, refl, sym, ap, subst, ◌∙◌, ⊎_elim, arith}
 use Rattle.std.specs.Fmt.{is_char_start}
 use Rattle.std.specs.Fmt.Cut.{floor_char_boundary}
@@ -32,7 +32,7 @@ cut_within most text is = ⊎_elim (λ less. less)
     (λ more. absurd (false≢true (sym (ap (λ t. not (eqb most 0) && t) (le-ltb most (length text) more) ∙ and_false (not (eqb most 0))) ∙ is)))
     (cases_lt most (length text))
 
--- a text that is cut at the last place of a character up to here
+-- a text that is cut at the last offset of a character up to here
 pub cut_taken : (most : ℕ) (text : List ℕ) (kept : ℕ) → is_cut most text ≡ true → kept ≤ most → IsCharBoundary text kept → ((j : ℕ) → kept < j → j ≤ most → ¬ (IsCharBoundary text j))
     → cut_to most text ≡ take kept text
 cut_taken most text kept is below last none =

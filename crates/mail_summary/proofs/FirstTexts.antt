@@ -1,7 +1,6 @@
--- Where the first text among some leaves stands.
+-- Where the first text among some leaves is.
 use Rattle.std.proofs.Common.{◌≡◌, ℕ, true, false, List, [], ◌∷◌, Option, Some, None, refl, subst}
-use Rattle.mime_type.specs.Node.{Node}
-use Rattle.mime_type.specs.PartTrees.{PartTrees}
+use Rattle.mime_type.specs.PartTrees.{Node, PartTrees}
 use Rattle.mime_tree.specs.Places.{IsPlaced, AllPlaced}
 use Rattle.mail_summary.specs.Leaves.{leaf_numbered, is_text, if_text, first_text}
 use Rattle.mail_summary.proofs.LeafFacts.{leaf_placed}

@@ -3,11 +3,10 @@ use Rattle.std.proofs.Common.{◌≡◌, ℕ, zero, suc, ◌<◌, ◌≤◌, Boo
 use Rattle.std.specs.Prelude.{find, ◌||◌, if◌then◌else◌}
 use Rattle.std.specs.List.{list_any}
 use Rattle.std.specs.Option.{option_or}
-use Rattle.mime_type.specs.Node.{Node}
-use Rattle.mime_type.specs.PartTrees.{PartTrees, none, part, part_count}
-use Rattle.mime_type.specs.Joined.{tree_of, joined, node_of}
+use Rattle.mime_type.specs.PartTrees.{Node, PartTrees, none, part, part_count}
+use Rattle.mime_type.specs.PartViews.{tree_of, joined, node_of}
 use Rattle.mime_type.specs.declared.part.Part.{Part}
-use Rattle.mime_tree.specs.Kept.{walked}
+use Rattle.mime_tree.specs.PartLimit.{walked}
 use Rattle.mime_tree.specs.Places.{IsPlaced, AllPlaced}
 use Rattle.mail_summary.specs.Leaves.{has_number, leaf_numbered}
 
@@ -25,7 +24,7 @@ pub any_append : (p : Node → Bool) (xs ys : List Node) → list_any p (xs ++ y
 any_append p [] ys = refl
 any_append p (x ∷ xs) ys = elim (p x) as (λ b. (b || list_any p (xs ++ ys)) ≡ ((b || list_any p xs) || list_any p ys)) [ true ↦ refl | false ↦ any_append p xs ys ]
 
--- all these places stand
+-- all these byte offsets are in order
 abbrev pub AllStand : ℕ → List Node → Type 0
 AllStand size [] = Unit {0}
 AllStand size (x ∷ xs) = IsPlaced size x × AllStand size xs
@@ -60,7 +59,7 @@ found_first n i [] d h = absurd (omega arith)
 found_first n zero (p ∷ ps) d h = find_node n p (walked (joined ps none))
 found_first n (suc i) (p ∷ ps) d h = found_first n i ps d (omega arith)
 
--- a leaf of a part stands before those of the later ones
+-- a leaf of a part is before those of the later ones
 pub found_next : (n i : ℕ) (ps : List Part) (p : Part) → i < length ps → p ≡ get_or ps i p → leaf_numbered n (joined (drop i ps) none) ≡ option_or (leaf_numbered n (tree_of p none)) (leaf_numbered n (joined (drop (i + 1) ps) none))
 found_next n i ps p h is =
     found_first n i ps p h

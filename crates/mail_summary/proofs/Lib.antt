@@ -1,7 +1,7 @@
 mod LeafFacts
 mod LinkFacts
 mod CharacterFacts
-mod Fronts
+mod Prefixes
 mod Cuts
 mod FirstTexts
 mod LineEnds

@@ -1,4 +1,4 @@
--- What stands before the first CR of a text stays.
+-- What is before the first CR of a text stays.
 use Rattle.std.proofs.Common.{◌≡◌, ◌≢◌, ℕ, suc, ◌<◌, ◌&&◌, cond, List, [], ◌∷◌, ◌++◌, length, get_or, refl, ap, ◌∙◌, append-nil, sym, arith}
 use Rattle.std.proofs.lemmas.Bool.{ne_eqb}
 use Rattle.mail_summary.specs.Texts.{is_line_feed, with_line_feeds}

@@ -26,7 +26,7 @@ short_append (x ∷ xs) ys = elim (is_short x) as (λ b. (if b then x ∷ filter
 pub gathered_both : (kept xs ys : List (List ℕ)) → gathered kept (filter is_short (xs ++ ys)) ≡ gathered (gathered kept (filter is_short xs)) (filter is_short ys)
 gathered_both kept xs ys = ap (gathered kept) (short_append xs ys) ∙ gathered_append kept (filter is_short xs) (filter is_short ys)
 
--- the text at a place, where all before it are below
+-- the text at an index, if all before it are below
 pub put_less : (id : List ℕ) (xs : List (List ℕ)) (i : ℕ) (x : List ℕ) → i < length xs → x ≡ get_or xs i x → slice_cmp nat_cmp id x ≡ Less → put id (drop i xs) ≡ id ∷ drop i xs
 put_less id xs i x h is less = ap (put id) (drop_at xs i x h is) ∙ ap (λ o. put_by o id x (drop (suc i) xs) (put id (drop (suc i) xs))) less ∙ ap (λ ys. id ∷ ys) (sym (drop_at xs i x h is))
 

@@ -13,7 +13,7 @@ later_lacks c b bs none i low = none (suc i) (omega arith)
 first_lacks : (c b : ℕ) (bs : List ℕ) → Lacks c (b ∷ bs) → eqb b c ≡ false
 first_lacks c b bs none = ne_eqb b c (none 0 (omega arith))
 
--- what stands before the first bracket that opens a tag
+-- what is before the first bracket that opens a tag
 pub tags_front : (front rest : List ℕ) → Lacks 60 front → without_tags (front ++ rest) ≡ front ++ without_tags rest
 tags_front [] rest none = refl
 tags_front (b ∷ bs) rest none =

@@ -2,9 +2,8 @@
 use Rattle.std.specs.Prelude.{ℕ, Bool, true, false, ◌&&◌, ◌||◌, not, ◌==◌, List, [], ◌∷◌, find, Option, Some, None, option_map, bytes_eq, codes, slice_range}
 use Rattle.std.specs.List.{list_any}
 use Rattle.mime_codec.specs.Decoded.{decoded}
-use Rattle.mime_type.specs.Node.{Node}
-use Rattle.mime_type.specs.PartTrees.{PartTrees}
-use Rattle.mime_tree.specs.Kept.{walked, parts_of}
+use Rattle.mime_type.specs.PartTrees.{Node, PartTrees}
+use Rattle.mime_tree.specs.PartLimit.{walked, parts_of}
 use Rattle.body_lists.specs.Lists.{is_plain, is_html, lists_in}
 
 abbrev pub is_number : ℕ → Option ℕ → Bool

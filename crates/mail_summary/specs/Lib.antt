@@ -1,8 +1,7 @@
-pub mod Shown
 pub mod Leaves
 pub mod Texts
 pub mod Subjects
 pub mod Links
 pub mod Received
 pub mod Summaries
-pub mod Values
+pub mod Views

@@ -5,9 +5,11 @@ use Rattle.std.specs.declared.cmp.Ordering.{Ordering}
 use Rattle.std.specs.declared.cmp.Ordering.TheVariants.{Less, Equal, Greater}
 use Rattle.std.specs.Cmp.Lexicographic.{slice_cmp}
 use Rattle.mime_lines.specs.Fields.{fields_of}
-use Rattle.mime_lines.specs.Named.{last_value_of}
+use Rattle.mime_lines.specs.FieldOffsets.{last_value_of}
 use Rattle.header_forms.specs.Texts.{on_one_line}
 use Rattle.header_forms.specs.Angles.{angle_texts}
+use Rattle.mail_records.specs.declared.limits.TheConstants.{MAX_LINKS_PER_EMAIL}
+use Rattle.mail_summary.specs.declared.links.TheConstants.{MAX_LINK_BYTES}
 
 abbrev pub if_value : Option (List ℕ) → List (List ℕ)
 if_value None = []
@@ -17,17 +19,17 @@ if_value (Some value) = angle_texts (on_one_line value)
 abbrev pub ids_of : List ℕ → List ℕ → List (List ℕ)
 ids_of bytes name = if_value (last_value_of bytes name (fields_of bytes))
 
--- those that may link, in the order in which they are taken
+-- the identifiers that may link, in the order in which they are read
 abbrev pub all_ids : List ℕ → List (List ℕ)
 all_ids bytes = ids_of bytes (codes "Message-ID")
     ++ (ids_of bytes (codes "In-Reply-To") ++ ids_of bytes (codes "References"))
 
--- a long one links nothing
+-- an identifier of more than `MAX_LINK_BYTES` links nothing
 abbrev pub is_short : List ℕ → Bool
-is_short id = nat_le (length id) 256
+is_short id = nat_le (length id) MAX_LINK_BYTES
 
--- at its place in byte order before or after the first of some texts; one that is there already
--- stays alone
+-- an identifier at its index in byte order, before or after the first of some texts; one that is
+-- there already isn't repeated
 abbrev pub put_by : Ordering → List ℕ → List ℕ → List (List ℕ) → List (List ℕ) → List (List ℕ)
 put_by Less id x xs later = id ∷ x ∷ xs
 put_by Equal id x xs later = x ∷ xs
@@ -38,9 +40,9 @@ put id [] = id ∷ []
 put id (x ∷ xs) = put_by (slice_cmp nat_cmp id x) id x xs (put id xs)
 
 abbrev pub put_if_few : List ℕ → List (List ℕ) → List (List ℕ)
-put_if_few id kept = if nat_lt (length kept) 100 then put id kept else kept
+put_if_few id kept = if nat_lt (length kept) MAX_LINKS_PER_EMAIL then put id kept else kept
 
--- each once and in byte order, the first 100 of them
+-- each once and in byte order, the first `MAX_LINKS_PER_EMAIL` of them
 abbrev pub gathered : List (List ℕ) → List (List ℕ) → List (List ℕ)
 gathered kept [] = kept
 gathered kept (id ∷ ids) = gathered (put_if_few id kept) ids

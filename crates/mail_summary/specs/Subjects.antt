@@ -10,8 +10,8 @@ prefix_size text =
     if starts_with nat_eq text (codes "re:") || starts_with nat_eq text (codes "fw:") then 3
     else (if starts_with nat_eq text (codes "fwd:") then 4 else 0)
 
--- after this many characters, those without the prefixes at their front and the white space round
--- each
+-- the characters after this many, without the prefixes at their beginning and the white space
+-- around each
 abbrev pub without_prefixes : List ℕ → ℕ → List ℕ
 without_prefixes [] left = []
 without_prefixes (b ∷ bs) (suc left) = without_prefixes bs left
@@ -20,6 +20,6 @@ without_prefixes (b ∷ bs) zero =
     else (if prefix_size (b ∷ bs) == 0 then b ∷ bs
     else without_prefixes bs (prefix_size (b ∷ bs) - 1))
 
--- of the characters of a subject, in lower case
+-- the characters of a subject in lower case, without its prefixes
 abbrev pub stripped : List ℕ → List ℕ
 stripped characters = spaced (without_prefixes (map to_ascii_lowercase characters) 0)

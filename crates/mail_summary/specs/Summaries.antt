@@ -5,9 +5,9 @@ use Rattle.std.specs.Str.{chars}
 use Rattle.jm_base.specs.declared.identifiers.UtcDate.{UtcDate}
 use Rattle.mail_records.specs.declared.records.Summary.{Summary}
 use Rattle.mime_lines.specs.Fields.{fields_of}
-use Rattle.mime_lines.specs.Named.{last_value_of}
-use Rattle.mime_tree.specs.Kept.{parts_of}
-use Rattle.header_forms.specs.Texts.{on_one_line, text_of}
+use Rattle.mime_lines.specs.FieldOffsets.{last_value_of}
+use Rattle.mime_tree.specs.PartLimit.{parts_of}
+use Rattle.header_forms.specs.Texts.{on_one_line, text_form}
 use Rattle.header_forms.specs.Addresses.{addresses_in}
 use Rattle.header_forms.specs.declared.address.Address.{Address}
 use Rattle.header_forms.specs.Dates.{utc_of}
@@ -22,7 +22,7 @@ last_field_value bytes name = last_value_of bytes name (fields_of bytes)
 
 abbrev pub subject_by : Option (List ℕ) → List ℕ
 subject_by None = []
-subject_by (Some value) = brief (stripped (chars (text_of value)))
+subject_by (Some value) = brief (stripped (chars (text_form value)))
 
 -- the name, else the address, of the first address
 abbrev pub first_name : List Address → List ℕ

@@ -5,19 +5,20 @@ use Rattle.std.specs.Str.{chars, encode_utf8_all}
 use Rattle.std.specs.Fmt.Cut.{floor_char_boundary}
 use Rattle.mime_codec.specs.declared.coding.Coding.{Coding}
 use Rattle.mime_codec.specs.declared.coding.Coding.TheVariants.{Plain, Quoted, Base64, Unknown}
-use Rattle.mime_type.specs.Node.{Node}
-use Rattle.mime_tree.specs.Kept.{parts_of}
-use Rattle.mime_words.specs.Charsets.{charset_named, text_of, has_problem}
+use Rattle.mime_type.specs.PartTrees.{Node}
+use Rattle.mime_tree.specs.PartLimit.{parts_of}
+use Rattle.mime_words.specs.Charsets.{charset_named, decoded_text, has_problem}
 use Rattle.body_lists.specs.Lists.{is_html, lists_in}
 use Rattle.mail_summary.specs.Leaves.{body_bytes, first_text}
+use Rattle.mail_summary.specs.declared.characters.TheConstants.{MAX_SHOWN_CHARACTERS}
 
--- the charset of a part; one that says none has us-ascii
+-- the charset of a part; a part without one has us-ascii
 abbrev pub charset_name : Node → List ℕ
 charset_name x = unwrap_or x.charset (codes "us-ascii")
 
 -- a part's body as text
 abbrev pub body_text : List ℕ → Node → List ℕ
-body_text bytes x = text_of (charset_named (charset_name x)) (body_bytes bytes x)
+body_text bytes x = decoded_text (charset_named (charset_name x)) (body_bytes bytes x)
 
 abbrev pub is_unknown : Coding → Bool
 is_unknown Plain = false
@@ -25,7 +26,8 @@ is_unknown Quoted = false
 is_unknown Base64 = false
 is_unknown Unknown = true
 
--- an encoding problem: of the charset, or a transfer encoding that isn't known
+-- an encoding problem (RFC 8621, section 4.1.4): of the charset, or a transfer encoding that isn't
+-- known
 abbrev pub body_problem : List ℕ → Node → Bool
 body_problem bytes x =
     is_unknown x.coding || has_problem (charset_named (charset_name x)) (body_bytes bytes x)
@@ -40,7 +42,7 @@ with_line_feeds [] = []
 with_line_feeds (b ∷ bs) =
     if b == 13 && is_line_feed bs then with_line_feeds bs else b ∷ with_line_feeds bs
 
--- at most so many bytes of a text, and no part of a character; 0 means all
+-- at most this many bytes of a text, and no part of a character; 0 means all
 abbrev pub is_cut : ℕ → List ℕ → Bool
 is_cut most text = not (most == 0) && nat_lt most (length text)
 
@@ -60,9 +62,9 @@ body_value bytes most x = let text = with_line_feeds (body_text bytes x) in reco
   truncated = is_cut most text;
 }
 
--- a text of these characters, at most 256 of them
+-- a text of these characters, at most `MAX_SHOWN_CHARACTERS` of them
 abbrev pub brief : List ℕ → List ℕ
-brief characters = encode_utf8_all (take 256 characters)
+brief characters = encode_utf8_all (take MAX_SHOWN_CHARACTERS characters)
 
 -- a space before characters, unless there is one, or nothing
 abbrev pub with_gap : List ℕ → List ℕ
@@ -75,8 +77,8 @@ spaced [] = []
 spaced (c ∷ cs) = if is_ascii_whitespace c then with_gap (spaced cs) else c ∷ spaced cs
 
 -- a gap before a text, if there is one
-abbrev pub behind : Bool → List ℕ → List ℕ
-behind gap characters = if gap then with_gap characters else characters
+abbrev pub with_gap_if : Bool → List ℕ → List ℕ
+with_gap_if gap characters = if gap then with_gap characters else characters
 
 abbrev pub without_space : List ℕ → List ℕ
 without_space [] = []
@@ -86,8 +88,8 @@ without_space (c ∷ cs) = if c == 32 then cs else c ∷ cs
 abbrev pub one_spaced : List ℕ → List ℕ
 one_spaced characters = without_space (spaced characters)
 
--- HTML read from a place: `outside` is its text where no tag is open there; where one is open,
--- `inside` is the text after the first bracket that closes it
+-- HTML read from a byte offset on: `outside` is its text if no tag is open there; `inside`, if one
+-- is open there, is the text after the first bracket that closes it
 pub record Read : Type 0 where
   pub outside : List ℕ
   pub inside : Option (List ℕ)
@@ -115,6 +117,7 @@ abbrev pub preview_by : List ℕ → Option Node → List ℕ
 preview_by bytes None = []
 preview_by bytes (Some x) = brief (one_spaced (chars (shown_text x (body_text bytes x))))
 
--- the first words of the first text that is shown where HTML isn't
+-- the preview (RFC 8621, section 4.1.4): the first characters of the first text that is shown if
+-- HTML isn't
 abbrev pub preview : List ℕ → List ℕ
 preview bytes = let tree = parts_of bytes in preview_by bytes (first_text tree (lists_in tree).text)

@@ -1,13 +1,13 @@
 // The text of a part's body, and a body value.
 ghost use Rattle.std.specs.Prelude.{◌≡◌, length, IfOk, string_bytes};
 ghost use Rattle.mime_codec.specs.Decoded.{decoded};
-ghost use Rattle.mime_type.specs.Joined.{node_of};
+ghost use Rattle.mime_type.specs.PartViews.{node_of};
 ghost use Rattle.mime_tree.specs.Places.{IsPlaced};
-ghost use Rattle.mime_words.specs.Charsets.{charset_named, text_of, has_problem};
+ghost use Rattle.mime_words.specs.Charsets.{charset_named, decoded_text, has_problem};
 ghost use Rattle.mail_summary.specs.Leaves.{body_bytes};
 ghost use Rattle.mail_summary.specs.Texts;
 ghost use Rattle.mail_summary.specs.Texts.{body_text, body_value};
-ghost use Rattle.mail_summary.specs.Values.{value_of};
+ghost use Rattle.mail_summary.specs.Views.{value_of};
 
 use crate::texts_lines::with_line_feeds_of;
 use jm_base::{NoMemory, Text};
@@ -28,7 +28,7 @@ pub struct BodyValue {
     pub truncated: bool,
 }
 
-/// Whether a transfer encoding isn't known.
+/// Returns whether a transfer encoding isn't known.
 fn is_unknown(coding: Coding) -> bool
     ensures { result ≡ Texts.is_unknown coding }
 {
@@ -38,7 +38,7 @@ fn is_unknown(coding: Coding) -> bool
     }
 }
 
-/// The charset of a part, or us-ascii, where it says none.
+/// Returns the charset of a part; a part without one has us-ascii.
 fn charset_name(part: &Part) -> &[u8]
     ensures { result.now ≡ Texts.charset_name (node_of part.now) }
 {
@@ -48,14 +48,14 @@ fn charset_name(part: &Part) -> &[u8]
     }
 }
 
-/// The text that a body of this coding and charset encodes.
+/// Returns the text that a body in this transfer encoding and charset encodes.
 fn read_text(
     alloc: Global,
     coding: Coding,
     charset: &[u8],
     body: &[u8],
 ) -> Result<Decoded, NoMemory>
-    ensures text { IfOk result (λ d. d.text ≡ text_of (charset_named charset.now)
+    ensures text { IfOk result (λ d. d.text ≡ decoded_text (charset_named charset.now)
         (decoded coding body.now)) }
     ensures problem { IfOk result (λ d. d.problem
         ≡ has_problem (charset_named charset.now) (decoded coding body.now)) }
@@ -69,7 +69,7 @@ fn read_text(
     }
 }
 
-/// The text of a part's body, and whether its charset or its bytes are a problem.
+/// Reads the text of a part's body, and whether its charset or its bytes are an encoding problem.
 pub(crate) fn read_body_text(alloc: Global, bytes: &[u8], part: &Part) -> Result<Decoded, NoMemory>
     requires { IsPlaced (length bytes.now) (node_of part.now) }
     ensures text { IfOk result (λ d. d.text ≡ body_text bytes.now (node_of part.now)) }
@@ -81,14 +81,14 @@ pub(crate) fn read_body_text(alloc: Global, bytes: &[u8], part: &Part) -> Result
     read_text(alloc, part.coding, charset_name(part), body)
 }
 
-/// Whether a text has more bytes than this; 0 means all.
+/// Returns whether a text has more bytes than this; 0 means all.
 fn is_cut(most: u64, text: &str) -> bool
     ensures { result ≡ Texts.is_cut most text.now }
 {
     most != 0 && most < text.len() as u64
 }
 
-/// Cuts a text to at most so many bytes, before a character that doesn't fit; 0 means all.
+/// Cuts a text to at most this many bytes, before a character that doesn't fit; 0 means all.
 fn cut(most: u64, text: &mut String)
     ensures { string_bytes text.new ≡ Texts.cut_to most (string_bytes text.old) }
 {
@@ -98,7 +98,7 @@ fn cut(most: u64, text: &mut String)
     }
 }
 
-/// The text of a leaf, cut to at most `most` bytes, where that isn't 0 (RFC 8621, section 4.2:
+/// Returns the text of a leaf, cut to at most `most` bytes unless that is 0 (RFC 8621, section 4.2:
 /// bodyValues and maxBodyValueBytes).
 pub fn body_value_of(
     alloc: Global,

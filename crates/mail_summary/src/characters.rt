@@ -1,22 +1,24 @@
 // Texts as lists of characters.
-ghost use Rattle.std.specs.Prelude.{◌≡◌, ◌++◌, ◌∷◌, List, ℕ, take, map, IfOk, string_bytes};
+ghost use Rattle.std.specs.Prelude.{◌≡◌, ◌+◌, ◌++◌, ◌∷◌, List, ℕ, take, map, IfOk, string_bytes};
 ghost use Rattle.std.specs.Char.{to_ascii_lowercase};
 ghost use Rattle.std.specs.Str.{chars, encode_utf8_all};
 ghost use Rattle.mail_summary.specs.Texts;
-ghost use Rattle.mail_summary.specs.Texts.{behind, brief, spaced};
+ghost use Rattle.mail_summary.specs.Texts.{with_gap_if, brief, spaced};
 
 use jm_base::{NoMemory, Text};
 use std::alloc::Global;
 
-/// How many characters of a text are kept.
+/// The most characters of a preview, and of a summary's subject and names.
 const MAX_SHOWN_CHARACTERS: usize = 256;
 
+/// Returns the characters of a text.
 pub fn characters(alloc: Global, text: &str) -> Result<Vec<char>, NoMemory>
     ensures { IfOk result (λ cs. cs.items ≡ chars text.now) }
 {
     Ok(text.chars().collect(alloc)?)
 }
 
+/// Returns characters with the ASCII letters in lower case.
 pub fn lower(alloc: Global, text: &[char]) -> Result<Vec<char>, NoMemory>
     ensures { IfOk result (λ cs. cs.items ≡ map to_ascii_lowercase text.now) }
 {
@@ -27,8 +29,9 @@ pub fn lower(alloc: Global, text: &[char]) -> Result<Vec<char>, NoMemory>
     Ok(out)
 }
 
-fn front(text: &[char]) -> &[char]
-    ensures { result.now ≡ take 256 text.now }
+/// Returns the first `MAX_SHOWN_CHARACTERS` characters of a text.
+fn shown_prefix(text: &[char]) -> &[char]
+    ensures { result.now ≡ take MAX_SHOWN_CHARACTERS text.now }
 {
     if text.len() > MAX_SHOWN_CHARACTERS {
         &text[..MAX_SHOWN_CHARACTERS]
@@ -37,6 +40,7 @@ fn front(text: &[char]) -> &[char]
     }
 }
 
+/// Returns the text of some characters, as UTF-8.
 fn encode(alloc: Global, text: &[char]) -> Result<String, NoMemory>
     ensures { IfOk result (λ s. string_bytes s ≡ encode_utf8_all text.now) }
 {
@@ -47,14 +51,14 @@ fn encode(alloc: Global, text: &[char]) -> Result<String, NoMemory>
     Ok(out)
 }
 
-/// A text of the first 256 characters.
+/// Returns the text of the first `MAX_SHOWN_CHARACTERS` of some characters.
 pub fn brief_of(alloc: Global, text: &[char]) -> Result<Text, NoMemory>
     ensures { IfOk result (λ t. t ≡ brief text.now) }
 {
-    Ok(Text::from_string(encode(alloc, front(text))?))
+    Ok(Text::from_string(encode(alloc, shown_prefix(text))?))
 }
 
-/// The first 256 characters of a text.
+/// Returns the first `MAX_SHOWN_CHARACTERS` characters of a text.
 pub fn brief_text(alloc: Global, text: &str) -> Result<Text, NoMemory>
     ensures { IfOk result (λ t. t ≡ brief (chars text.now)) }
 {
@@ -62,11 +66,11 @@ pub fn brief_text(alloc: Global, text: &str) -> Result<Text, NoMemory>
     brief_of(alloc, all.as_slice())
 }
 
-/// Adds a character, after a space where there is a gap before it; tells whether there is one after
-/// it.
+/// Adds a character, after a space if there is a gap before it; returns whether there is a gap
+/// after it.
 fn push_spaced(out: &mut Vec<char>, gap: bool, c: char) -> Result<bool, NoMemory>
-    ensures { (later : List ℕ) → IfOk result (λ g. out.new.items ++ behind g (spaced later)
-        ≡ out.old.items ++ behind gap (spaced (c ∷ later))) }
+    ensures { (later : List ℕ) → IfOk result (λ g. out.new.items ++ with_gap_if g (spaced later)
+        ≡ out.old.items ++ with_gap_if gap (spaced (c ∷ later))) }
 {
     if c.is_ascii_whitespace() {
         return Ok(true);
@@ -80,7 +84,7 @@ fn push_spaced(out: &mut Vec<char>, gap: bool, c: char) -> Result<bool, NoMemory
     Ok(false)
 }
 
-/// One space for each run of white space, and none at the end.
+/// Returns some characters with one space for each run of white space, and none at the end.
 pub fn space_out(alloc: Global, text: &[char]) -> Result<Vec<char>, NoMemory>
     ensures { IfOk result (λ cs. cs.items ≡ spaced text.now) }
 {
@@ -92,7 +96,7 @@ pub fn space_out(alloc: Global, text: &[char]) -> Result<Vec<char>, NoMemory>
     Ok(out)
 }
 
-/// Without a space at the beginning.
+/// Returns some characters without a space at the beginning.
 fn after_space(text: &[char]) -> &[char]
     ensures { result.now ≡ Texts.without_space text.now }
 {
@@ -102,10 +106,11 @@ fn after_space(text: &[char]) -> &[char]
     }
 }
 
-/// The first 257 characters of a text with one space for each run of white space and none at the
-/// end, and perhaps more of them.
-fn front_spaced(alloc: Global, text: &str) -> Result<Vec<char>, NoMemory>
-    ensures { IfOk result (λ cs. take 257 cs.items ≡ take 257 (spaced (chars text.now))) }
+/// Returns the first `MAX_SHOWN_CHARACTERS` + 1 characters of a text with one space for each run of
+/// white space and none at the end, and perhaps more of them.
+fn spaced_prefix(alloc: Global, text: &str) -> Result<Vec<char>, NoMemory>
+    ensures { IfOk result (λ cs. take (MAX_SHOWN_CHARACTERS + 1) cs.items
+        ≡ take (MAX_SHOWN_CHARACTERS + 1) (spaced (chars text.now))) }
 {
     let mut out = Vec::new(alloc);
     let mut gap = false;
@@ -118,11 +123,11 @@ fn front_spaced(alloc: Global, text: &str) -> Result<Vec<char>, NoMemory>
     Ok(out)
 }
 
-/// The first 256 characters of a text with one space for each run of white space and none at either
-/// end.
+/// Returns the first `MAX_SHOWN_CHARACTERS` characters of a text with one space for each run of
+/// white space and none at either end.
 pub fn brief_spaced(alloc: Global, text: &str) -> Result<Text, NoMemory>
     ensures { IfOk result (λ t. t ≡ brief (Texts.one_spaced (chars text.now))) }
 {
-    let out = front_spaced(alloc, text)?;
+    let out = spaced_prefix(alloc, text)?;
     brief_of(alloc, after_space(out.as_slice()))
 }

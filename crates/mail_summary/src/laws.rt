@@ -7,7 +7,9 @@ ghost use Rattle.mail_text.specs.declared.comment.State.TheVariants.{Outside};
 ghost use Rattle.mail_summary.specs.Texts.{cut_to, one_spaced, with_line_feeds, without_tags};
 ghost use Rattle.mail_summary.specs.Subjects.{stripped};
 ghost use Rattle.mail_summary.specs.Links.{gathered};
-ghost use Rattle.mail_summary.specs.Received.{behind_last};
+ghost use Rattle.header_forms.specs.Dates.{utc_of};
+ghost use Rattle.header_forms.specs.Texts.{on_one_line};
+ghost use Rattle.mail_summary.specs.Received.{after_last, first_value_of, received, timestamp_after};
 
 /// Examples of the texts that a summary and a body are made of.
 pub fn examples_of_texts()
@@ -17,14 +19,22 @@ pub fn examples_of_texts()
     ensures lines { with_line_feeds (codes "a\r\nb\r\r\n\n") ≡ codes "a\nb\r\n\n" }
     ensures cut { cut_to 2 (97 ∷ 195 ∷ 169 ∷ []) ≡ 97 ∷ [] }
     ensures links { gathered [] (codes "b" ∷ codes "a" ∷ codes "b" ∷ codes "ab" ∷ []) ≡ codes "a" ∷ codes "ab" ∷ codes "b" ∷ [] }
-    ensures date { behind_last Outside (codes "a; b (c; d \\) e) f; g (h; i)") ≡ Some (codes " g (h; i)") }
+    ensures date { after_last Outside (codes "a; b (c; d \\) e) f; g (h; i)") ≡ Some (codes " g (h; i)") }
 {}
 
 /// In a Received field the date is what follows the last semicolon outside comments (RFC 5322,
 /// section 3.6.7): where the comments before a semicolon are closed and no other semicolon follows,
 /// it is all that follows this one.
+/// The same is so of a whole field on one line, and of the first Received field of a message.
 pub fn date_of_received_follows_the_last_semicolon()
-    ensures { (front back : List ℕ) → after_text Outside front ≡ Outside
-        → list_any (λ b. b == 59) back ≡ false → behind_last Outside (front ++ 59 ∷ back)
+    ensures text { (front back : List ℕ) → after_text Outside front ≡ Outside
+        → list_any (λ b. b == 59) back ≡ false → after_last Outside (front ++ 59 ∷ back)
         ≡ Some back }
+    ensures field { (value front back : List ℕ) → on_one_line value ≡ front ++ 59 ∷ back
+        → after_text Outside front ≡ Outside → list_any (λ b. b == 59) back ≡ false
+        → timestamp_after value ≡ utc_of back }
+    ensures message { (bytes value front back : List ℕ)
+        → first_value_of bytes (codes "Received") ≡ Some value
+        → on_one_line value ≡ front ++ 59 ∷ back → after_text Outside front ≡ Outside
+        → list_any (λ b. b == 59) back ≡ false → received bytes ≡ utc_of back }
 {}

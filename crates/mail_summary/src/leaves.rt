@@ -2,12 +2,12 @@
 ghost use Rattle.std.specs.Prelude.{◌≡◌, ◌≤◌, length, find, option_map, IfOk};
 ghost use Rattle.std.specs.List.{list_any};
 ghost use Rattle.mime_type.specs.PartTrees.{none};
-ghost use Rattle.mime_type.specs.Joined.{node_of, tree_of, joined};
-ghost use Rattle.mime_tree.specs.Kept.{walked};
+ghost use Rattle.mime_type.specs.PartViews.{node_of, tree_of, joined};
+ghost use Rattle.mime_tree.specs.PartLimit.{walked};
 ghost use Rattle.mime_tree.specs.Places.{IsPlaced};
 ghost use Rattle.mail_summary.specs.Leaves;
 ghost use Rattle.mail_summary.specs.Leaves.{body_bytes, first_text, leaf_numbered, part_bytes_of, has_attachment_in, shows_attachment};
-ghost use Rattle.mail_summary.specs.Shown.{node_in};
+ghost use Rattle.mail_summary.specs.Views.{node_in};
 
 use body_lists::lists;
 use jm_base::{Bytes, NoMemory};
@@ -25,7 +25,7 @@ fn has_number(part: &Part, number: u64) -> bool
     }
 }
 
-/// The leaf with this number, of a part and those within it.
+/// Returns the leaf with this number (partId), of a part and those within it.
 #[cycle(leaf)]
 pub fn leaf(part: &Part, number: u64) -> Option<&Part>
     ensures { option_map node_in result ≡ leaf_numbered number (tree_of part.now none) }
@@ -48,7 +48,7 @@ fn leaf_within(parts: &[Part], number: u64) -> Option<&Part>
     None
 }
 
-/// The bytes that a part's body encodes.
+/// Returns the bytes that a part's body encodes.
 pub fn read_body(alloc: Global, bytes: &[u8], part: &Part) -> Result<Bytes, NoMemory>
     requires { IsPlaced (length bytes.now) (node_of part.now) }
     ensures { IfOk result (λ b. b ≡ body_bytes bytes.now (node_of part.now)) }
@@ -60,8 +60,8 @@ pub fn read_body(alloc: Global, bytes: &[u8], part: &Part) -> Result<Bytes, NoMe
     )
 }
 
-/// The bytes that the leaf with this number encodes (RFC 8621, section 4.1.4: blobId); none where
-/// no leaf has it.
+/// Returns the bytes that the leaf with this number encodes (RFC 8621, section 4.1.4: blobId); none
+/// if no leaf has it.
 pub fn part_bytes(alloc: Global, bytes: &[u8], number: u64) -> Result<Option<Bytes>, NoMemory>
     ensures { IfOk result (λ b. b ≡ part_bytes_of bytes.now number) }
 {
@@ -90,7 +90,7 @@ fn is_among(numbers: &[u64], number: Option<u64>) -> bool
     }
 }
 
-/// Whether a part is one of these attachments and isn't inline.
+/// Returns whether a part is one of these attachments and isn't inline.
 fn shows(attachments: &[u64], part: &Part) -> bool
     ensures { result ≡ shows_attachment attachments.now (node_of part.now) }
 {
@@ -99,14 +99,16 @@ fn shows(attachments: &[u64], part: &Part) -> bool
 
 #[cycle(attached)]
 fn any_shows(attachments: &[u64], part: &Part) -> bool
-    ensures { result ≡ list_any (shows_attachment attachments.now) (walked (tree_of part.now none)) }
+    ensures { result
+        ≡ list_any (shows_attachment attachments.now) (walked (tree_of part.now none)) }
 {
     shows(attachments, part) || any_shows_within(attachments, part.parts.as_slice())
 }
 
 #[cycle(attached)]
 fn any_shows_within(attachments: &[u64], parts: &[Part]) -> bool
-    ensures { result ≡ list_any (shows_attachment attachments.now) (walked (joined parts.now none)) }
+    ensures { result
+        ≡ list_any (shows_attachment attachments.now) (walked (joined parts.now none)) }
 {
     for part in parts {
         if any_shows(attachments, part) {
@@ -116,7 +118,8 @@ fn any_shows_within(attachments: &[u64], parts: &[Part]) -> bool
     false
 }
 
-/// Whether a message has an attachment that isn't inline (RFC 8621, section 4.1.4: hasAttachment).
+/// Returns whether a message has an attachment that isn't inline (RFC 8621, section 4.1.4:
+/// hasAttachment).
 pub fn has_attachment(alloc: Global, root: &Part) -> Result<bool, NoMemory>
     ensures { IfOk result (λ b. b ≡ has_attachment_in (tree_of root.now none)) }
 {

@@ -1,5 +1,5 @@
-//! What a message says without its view: its summary, the moment when it was received, the bytes of
-//! its leaves, and the texts of its bodies (RFC 8621, sections 4.1 and 4.2).
+//! What is read of a message apart from its JSON view: its summary, the timestamp at which it was
+//! received, the bytes of its leaves, and the texts of its bodies (RFC 8621, sections 4.1 and 4.2).
 #![tactic(auto)]
 
 mod body_value;

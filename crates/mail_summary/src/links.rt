@@ -2,7 +2,7 @@
 ghost use Rattle.std.specs.Prelude.{◌≡◌, ◌≤◌, ◌++◌, ◌∷◌, [], take, drop, length, filter, MatchOption, IfOk, OnOk, All};
 ghost use Rattle.mail_records.specs.Commits.{TextsRise};
 ghost use Rattle.mime_lines.specs.Fields.{fields_of};
-ghost use Rattle.mime_lines.specs.Named.{IsWithin, last_value_of};
+ghost use Rattle.mime_lines.specs.FieldOffsets.{IsWithin, last_value_of};
 ghost use Rattle.mail_summary.specs.Links;
 ghost use Rattle.mail_summary.specs.Links.{gathered, if_value, is_short, links, put_if_few};
 
@@ -14,11 +14,11 @@ use std::alloc::Global;
 use std::cmp::Ordering;
 use std::collections::VecDeque;
 
-/// How many bytes one has at most that links.
+/// The most bytes of an identifier that links a message to others.
 const MAX_LINK_BYTES: usize = 256;
 
-/// The place of a text among texts in byte order; none where it is there already.
-fn place_of(kept: &[Text], id: &Text) -> Option<usize>
+/// Returns the index of a text among texts in byte order; none if it is there already.
+fn index_of(kept: &[Text], id: &Text) -> Option<usize>
     ensures { MatchOption result (Links.put id.now kept.now ≡ kept.now)
         (λ i. (i ≤ length kept.now) × (Links.put id.now kept.now ≡ take i kept.now ++ id.now
         ∷ drop i kept.now)) }
@@ -33,15 +33,16 @@ fn place_of(kept: &[Text], id: &Text) -> Option<usize>
     Some(kept.len())
 }
 
-/// Puts an identifier where it belongs, if it is short and fewer than the limit are there.
+/// Adds an identifier at its index, if it isn't longer than `MAX_LINK_BYTES` and fewer than
+/// `MAX_LINKS_PER_EMAIL` are there.
 fn put(kept: &mut Vec<Text>, id: Text) -> Result<(), NoMemory>
     ensures { OnOk result (kept.new.items ≡ gathered kept.old.items (filter is_short (id ∷ []))) }
 {
     if id.as_str().len() > MAX_LINK_BYTES || kept.len() >= MAX_LINKS_PER_EMAIL as usize {
         return Ok(());
     }
-    match place_of(kept.as_slice(), &id) {
-        Some(place) => Ok(kept.insert(place, id)?),
+    match index_of(kept.as_slice(), &id) {
+        Some(index) => Ok(kept.insert(index, id)?),
         None => Ok(()),
     }
 }
@@ -57,7 +58,7 @@ fn put_all(kept: Vec<Text>, ids: Texts) -> Result<Vec<Text>, NoMemory>
     Ok(kept)
 }
 
-/// The identifiers of the last field that has this name.
+/// Reads the identifiers of the last field that has this name.
 fn ids_of(alloc: Global, bytes: &[u8], fields: &FieldSpans, name: &[u8]) -> Result<Texts, NoMemory>
     requires { All (IsWithin bytes.now) fields.now }
     ensures { IfOk result (λ ids. ids ≡ if_value (last_value_of bytes.now name.now fields.now)) }
@@ -69,7 +70,7 @@ fn ids_of(alloc: Global, bytes: &[u8], fields: &FieldSpans, name: &[u8]) -> Resu
     angle_texts_of(alloc, line.as_str())
 }
 
-/// The identifiers that link a message whose header has these fields.
+/// Reads the identifiers that link a message whose header has these fields (RFC 8621, section 3).
 pub(crate) fn links_of(alloc: Global, bytes: &[u8], fields: &FieldSpans) -> Result<Texts, NoMemory>
     requires within { All (IsWithin bytes.now) fields.now }
     requires fields { fields.now ≡ fields_of bytes.now }

@@ -2,10 +2,10 @@
 ghost use Rattle.std.specs.Prelude.{◌≡◌, All, Some, None, IfOk, find, option_map, if◌then◌else◌};
 ghost use Rattle.jm_base.specs.UtcDates.{IsUtcDate};
 ghost use Rattle.std.specs.Option.{ForSome};
-ghost use Rattle.mime_lines.specs.Named.{IsWithin, is_named, value_in};
+ghost use Rattle.mime_lines.specs.FieldOffsets.{IsWithin, is_named, value_in};
 ghost use Rattle.mail_summary.specs.Received;
-ghost use Rattle.mail_summary.specs.Received.{moment_behind, received, first_value_of};
-ghost use Rattle.mail_summary.specs.Shown.{bytes_in};
+ghost use Rattle.mail_summary.specs.Received.{timestamp_after, received, first_value_of};
+ghost use Rattle.mail_summary.specs.Views.{bytes_in};
 
 use header_forms::{on_one_line, timestamp_of};
 use jm_base::{NoMemory, UtcDate};
@@ -13,7 +13,7 @@ use mail_text::{State, next_state};
 use mime_lines::{Field, fields};
 use std::alloc::Global;
 
-/// The value of the first field that has this name.
+/// Returns the value of the first field that has this name.
 fn first_value<'a>(bytes: &'a [u8], fields: &[Field], name: &[u8]) -> Option<&'a [u8]>
     requires { All (IsWithin bytes.now) fields.now }
     ensures { option_map bytes_in result ≡ option_map (value_in bytes.now)
@@ -36,7 +36,7 @@ fn is_mark(state: State, byte: u8) -> bool
     }
 }
 
-/// What follows the last semicolon up to here.
+/// Returns what follows the last semicolon up to here.
 fn latest<'a>(last: Option<&'a [u8]>, state: State, byte: u8, after: &'a [u8]) -> Option<&'a [u8]>
     ensures { option_map bytes_in result ≡ (if Received.is_mark state byte then Some after.now
         else option_map bytes_in last.entry) }
@@ -48,9 +48,9 @@ fn latest<'a>(last: Option<&'a [u8]>, state: State, byte: u8, after: &'a [u8]) -
     }
 }
 
-/// What follows the last semicolon outside comments.
-fn behind_last(text: &[u8]) -> Option<&[u8]>
-    ensures { option_map bytes_in result ≡ Received.behind_last State.Outside text.now }
+/// Returns what follows the last semicolon outside comments.
+fn after_last(text: &[u8]) -> Option<&[u8]>
+    ensures { option_map bytes_in result ≡ Received.after_last State.Outside text.now }
 {
     let mut state = State::Outside;
     let mut last = None;
@@ -63,27 +63,28 @@ fn behind_last(text: &[u8]) -> Option<&[u8]>
     last
 }
 
-fn read_moment(alloc: Global, value: &[u8]) -> Result<Option<UtcDate>, NoMemory>
-    ensures value { IfOk result (λ d. d ≡ moment_behind value.now) }
+/// Reads the timestamp after the last semicolon outside comments.
+fn read_timestamp(alloc: Global, value: &[u8]) -> Result<Option<UtcDate>, NoMemory>
+    ensures value { IfOk result (λ d. d ≡ timestamp_after value.now) }
     ensures kept { IfOk result (λ d. ForSome d IsUtcDate) }
 {
     let line = on_one_line(alloc, value)?;
-    match behind_last(line.as_bytes()) {
+    match after_last(line.as_bytes()) {
         Some(text) => Ok(timestamp_of(text)),
         None => Ok(None),
     }
 }
 
-/// The moment when a message was received: that of the date after the last semicolon outside
-/// comments in its first Received field (RFC 5322, section 3.6.7). None where the field, the
-/// semicolon or a date isn't there, or the moment isn't of the years 0001 to 9999.
+/// Reads the timestamp at which a message was received: that of the date after the last semicolon
+/// outside comments in its first Received field (RFC 5322, section 3.6.7). None if the field, the
+/// semicolon or a valid date isn't there, or the timestamp isn't in the years 0001 to 9999.
 pub fn received_of(alloc: Global, bytes: &[u8]) -> Result<Option<UtcDate>, NoMemory>
     ensures value { IfOk result (λ d. d ≡ received bytes.now) }
     ensures kept { IfOk result (λ d. ForSome d IsUtcDate) }
 {
     let head = fields(alloc, bytes)?;
     match first_value(bytes, head.fields.as_slice(), b"Received") {
-        Some(value) => read_moment(alloc, value),
+        Some(value) => read_timestamp(alloc, value),
         None => Ok(None),
     }
 }

@@ -1,7 +1,7 @@
-// The subject by which threads are distinguished.
+// The subject by which threads are distinguished (RFC 5256, section 2.1, in part).
 ghost use Rattle.std.specs.Prelude.{◌≡◌, ◌<◌, length, drop, MatchOption, IfOk, IfSome};
 ghost use Rattle.std.specs.Str.{chars};
-ghost use Rattle.header_forms.specs.Texts.{text_of};
+ghost use Rattle.header_forms.specs.Texts.{text_form};
 ghost use Rattle.mail_summary.specs.Subjects;
 ghost use Rattle.mail_summary.specs.Subjects.{stripped, without_prefixes};
 ghost use Rattle.mail_summary.specs.Texts.{brief};
@@ -11,7 +11,8 @@ use header_forms::text_of_value;
 use jm_base::{NoMemory, Text};
 use std::alloc::Global;
 
-/// The length of the prefix of a reply or a forward with which a text in lower case begins, or 0.
+/// Returns the length of the prefix of a reply or a forward with which a text in lower case begins,
+/// or 0.
 fn prefix_size(text: &[char]) -> usize
     ensures value { result ≡ Subjects.prefix_size text.now }
 {
@@ -24,8 +25,8 @@ fn prefix_size(text: &[char]) -> usize
     }
 }
 
-/// The text without its first characters.
-fn after_front(text: &[char], size: usize) -> &[char]
+/// Returns the text without its first `size` characters.
+fn after_characters(text: &[char], size: usize) -> &[char]
     ensures { result.now ≡ drop size text.now }
 {
     if size < text.len() {
@@ -35,8 +36,8 @@ fn after_front(text: &[char], size: usize) -> &[char]
     }
 }
 
-/// What follows the white space or the prefix at the beginning.
-fn behind_prefix(text: &[char]) -> Option<&[char]>
+/// Returns what follows the white space or the prefix at the beginning; none if there is neither.
+fn after_first_prefix(text: &[char]) -> Option<&[char]>
     ensures value { MatchOption result (without_prefixes text.now 0 ≡ text.now)
         (λ a. without_prefixes text.now 0 ≡ without_prefixes a.now 0) }
     ensures shorter { IfSome result (λ a. length a.now < length text.now) }
@@ -51,24 +52,25 @@ fn behind_prefix(text: &[char]) -> Option<&[char]>
     if size == 0 {
         return None;
     }
-    Some(after_front(after, size - 1))
+    Some(after_characters(after, size - 1))
 }
 
-/// A text in lower case without the prefixes at its front, and the white space round each.
+/// Returns a text in lower case without the prefixes at its beginning and the white space around
+/// each.
 fn after_prefixes(text: &[char]) -> &[char]
     ensures { result.now ≡ without_prefixes text.now 0 }
 {
     let mut rest = text;
-    while let Some(after) = behind_prefix(rest) {
+    while let Some(after) = after_first_prefix(rest) {
         rest = after;
     }
     rest
 }
 
-/// The subject of a value without the prefixes of replies and forwards, in lower case and with one
-/// space for each run of white space.
+/// Reads the subject of a value without the prefixes of replies and forwards, in lower case and
+/// with one space for each run of white space.
 pub fn read_subject(alloc: Global, value: &[u8]) -> Result<Text, NoMemory>
-    ensures { IfOk result (λ t. t ≡ brief (stripped (chars (text_of value.now)))) }
+    ensures { IfOk result (λ t. t ≡ brief (stripped (chars (text_form value.now)))) }
 {
     let text = text_of_value(alloc, value)?;
     let all = characters(alloc, text.as_str())?;

@@ -3,7 +3,7 @@ ghost use Rattle.std.specs.Prelude.{◌≡◌, All, IfOk, codes, unwrap_or};
 ghost use Rattle.std.specs.Option.{ForSome, option_and_then};
 ghost use Rattle.std.specs.Str.{chars};
 ghost use Rattle.jm_base.specs.UtcDates.{IsUtcDate};
-ghost use Rattle.mime_lines.specs.Named.{IsWithin, last_value_of};
+ghost use Rattle.mime_lines.specs.FieldOffsets.{IsWithin, last_value_of};
 ghost use Rattle.mail_summary.specs.Texts.{brief};
 ghost use Rattle.mail_summary.specs.Summaries.{first_name, name_by, sent_by, subject_by};
 ghost use Rattle.mail_summary.specs.Summaries;
@@ -29,7 +29,7 @@ fn subject_in(alloc: Global, bytes: &[u8], fields: &FieldSpans) -> Result<Text, 
     }
 }
 
-/// The name, else the address, of an address.
+/// Returns the name of an address; an address without one has its email.
 fn name_of(alloc: Global, address: &Address) -> Result<Text, NoMemory>
     ensures { IfOk result (λ t. t ≡ brief (chars (unwrap_or address.now.name address.now.email))) }
 {
@@ -48,7 +48,7 @@ fn first_name_in(alloc: Global, addresses: &[Address]) -> Result<Text, NoMemory>
     }
 }
 
-/// The name of the first address of the last field that has this name.
+/// Reads the name of the first address of the last field that has this name.
 fn name_in(alloc: Global, bytes: &[u8], fields: &FieldSpans, name: &[u8]) -> Result<Text, NoMemory>
     requires { All (IsWithin bytes.now) fields.now }
     ensures { IfOk result (λ t. t ≡ name_by (last_value_of bytes.now name.now fields.now)) }
@@ -75,7 +75,7 @@ fn sent_in(alloc: Global, bytes: &[u8], fields: &FieldSpans) -> Result<Option<Ut
     }
 }
 
-/// The summary of a message, in time linear in its bytes. Total for all bytes.
+/// Reads the summary of a message, in time linear in its bytes. It fails only if memory runs out.
 pub fn summary_of(alloc: Global, bytes: &[u8]) -> Result<Summary, NoMemory>
     ensures value { IfOk result (λ s. s ≡ Summaries.summary bytes.now) }
     ensures kept { IfOk result (λ s. ForSome s.sent IsUtcDate) }

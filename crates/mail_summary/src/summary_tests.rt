@@ -1,4 +1,4 @@
-// Summaries, moments of receipt and bytes of leaves.
+// Summaries, timestamps of receipt and bytes of leaves.
 use crate::{part_bytes, received_of, summary_of};
 use jm_base::NoMemory;
 use std::alloc::Global;
@@ -104,7 +104,7 @@ fn links_are_few_and_short(rt: HostRuntime) -> Result<(), Fail> {
 }
 
 #[test]
-fn moments_of_receipt(rt: HostRuntime) -> Result<(), Fail> {
+fn timestamps_of_receipt(rt: HostRuntime) -> Result<(), Fail> {
     let table: [(&[u8], Option<i64>); 9] = [
         (b"Received: x; Thu, 1 Jan 1970 00:00:09 +0000", Some(9)),
         // The first field counts, and it alone.

@@ -57,8 +57,8 @@ at_end Outside = Some []
 at_end (Inside depth) = None
 at_end (Escaped depth) = None
 
--- what is left of a text after the white space and the comments at its front; none if a comment
--- there isn't closed
+-- what follows the white space and the comments at the beginning of a text; none if a comment there
+-- isn't closed
 abbrev pub gap_from : (ℕ → Bool) → List ℕ → State → Option (List ℕ)
 gap_from white [] state = at_end state
 gap_from white (b ∷ bs) state =

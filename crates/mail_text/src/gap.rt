@@ -23,7 +23,7 @@ fn is_white_byte(white: WhiteSpace, byte: u8) -> bool
     }
 }
 
-/// Whether a byte is in white space or in a comment.
+/// Returns whether a byte is in white space or in a comment.
 fn is_in_gap(white: WhiteSpace, state: State, byte: u8) -> bool
     ensures { result ≡ Comments.is_in_gap (is_white white) state byte }
 {
@@ -34,7 +34,7 @@ fn is_in_gap(white: WhiteSpace, state: State, byte: u8) -> bool
     }
 }
 
-/// Returns what is left of a text after the white space and the comments at its front; none if a
+/// Returns what follows the white space and the comments at the beginning of a text; none if a
 /// comment there isn't closed.
 pub fn skip_gap(text: &[u8], white: WhiteSpace) -> Option<&[u8]>
     ensures value { option_map (λ r. r.now) result ≡ after_gap (is_white white) text.now }

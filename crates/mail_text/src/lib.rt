@@ -1,8 +1,8 @@
 //! What the texts of mail share: comments and white space (RFC 5322, section 3.2.2), trimming, and
 //! names that are compared without case.
 //!
-//! [`skip_gap`] skips white space and comments; [`next_state`] says, byte by byte, which bytes are
-//! in comments. No call takes memory.
+//! [`skip_gap`] skips white space and comments; [`next_state`] tells, byte by byte, which bytes are
+//! in comments. No call allocates.
 #![tactic(auto)]
 
 mod comment;

@@ -2,11 +2,10 @@
 use Rattle.std.proofs.Common.{◌≡◌, ℕ, zero, suc, ◌<◌, ◌≤◌, List, [], ◌∷◌, ◌++◌, length, get_or, map, Option, Some, None, Bool, true, false, cond, refl, sym, ap, ◌∙◌, append_assoc, append-nil, arith}
 use Rattle.std.specs.Prelude.{find, IfSome}
 use denote.Ref.{Bor}
-use Rattle.mime_type.specs.Node.{Node}
-use Rattle.mime_type.specs.PartTrees.{PartTrees, none, part, part_count}
-use Rattle.mime_type.specs.Joined.{tree_of, joined, node_of}
+use Rattle.mime_type.specs.PartTrees.{Node, PartTrees, none, part, part_count}
+use Rattle.mime_type.specs.PartViews.{tree_of, joined, node_of}
 use Rattle.mime_type.specs.declared.part.Part.{Part}
-use Rattle.mime_tree.specs.Kept.{walked}
+use Rattle.mime_tree.specs.PartLimit.{walked}
 use Rattle.mime_tree.specs.Places.{AllPlaced, IsPlaced}
 use Rattle.mail_view.specs.Views.{ArePlaced, nodes_of}
 

@@ -79,7 +79,7 @@ abbrev pub get_mailboxes : Content → ℕ → Tree → Bool → Got
 get_mailboxes c state args read_only =
     get_if_object (mailboxes_got c state read_only) (as_object args)
 
--- the same, of an account with this history, at its end
+-- the answer to a get of mailboxes, of an account with this history, at its end
 abbrev pub get_in : History → Tree → Bool → Got
 get_in h args read_only = get_mailboxes (content_of h) (state_of h OfMailbox) args read_only
 

@@ -3,7 +3,7 @@ use Rattle.std.specs.Prelude.{ℕ, List, [], ◌∷◌, map, filter, Option, Som
 use Rattle.std.specs.Str.Lossy.{utf8_lossy}
 use Rattle.jm_json.specs.Tree.{Tree, null, text}
 use Rattle.mime_lines.specs.Fields.{fields_of}
-use Rattle.mime_lines.specs.Named.{name_in, value_in, is_named, last_value_of}
+use Rattle.mime_lines.specs.FieldOffsets.{name_in, value_in, is_named, last_value_of}
 use Rattle.mime_lines.specs.declared.field.Field.{Field}
 use Rattle.header_forms.specs.Forms.{form_tree}
 use Rattle.header_forms.specs.declared.form.Form.{Form}

@@ -2,13 +2,13 @@
 use Rattle.std.specs.Prelude.{◌≡◌, ℕ, List, All, length}
 use Rattle.jm_json.specs.Tree.{Tree}
 use Rattle.mime_lines.specs.Fields.{fields_of}
-use Rattle.mime_lines.specs.Named.{IsWithin}
+use Rattle.mime_lines.specs.FieldOffsets.{IsWithin}
 use Rattle.mime_type.specs.PartTrees.{none}
-use Rattle.mime_type.specs.Joined.{tree_of}
-use Rattle.mime_tree.specs.Kept.{parts_of, walked}
+use Rattle.mime_type.specs.PartViews.{tree_of}
+use Rattle.mime_tree.specs.PartLimit.{parts_of, walked}
 use Rattle.mime_tree.specs.Places.{AllPlaced}
 use Rattle.body_lists.specs.Lists.{Lists, lists_in}
-use Rattle.body_lists.specs.Shown.{lists_of}
+use Rattle.body_lists.specs.Views.{lists_of}
 use Rattle.mail_view.specs.Parts.{leaves_tree, structure_tree}
 use Rattle.mail_view.specs.Views.{ArePlaced, nodes_of}
 use Rattle.mail_view.specs.declared.message.Message.{Message}

@@ -1,9 +1,9 @@
--- Trees that objects of many kinds are made of.
+-- JSON trees for objects of many kinds.
 use Rattle.std.specs.Prelude.{ℕ, List, [], ◌∷◌, ◌++◌, map, decimal, Option, Some, None}
 use Rattle.jm_json.specs.Tree.{Tree, null, text, list, object, trees_of, fields_of}
 use Rattle.jm_json.specs.Order.{put}
 
--- the members put into others one after the other; each key stands once, in byte order
+-- the members put into others one after the other; each key is there once, in byte order
 abbrev pub put_all : List (List ℕ × Tree) → List (List ℕ × Tree) → List (List ℕ × Tree)
 put_all [] members = members
 put_all (m ∷ more) members = put_all more (put m.0 m.1 members)

@@ -98,6 +98,6 @@ parse_got blobs args = got_unless (invalid_account args) (parse_by blobs args (b
 abbrev pub parse_emails : List (List ℕ) → Tree → Got
 parse_emails blobs args = get_if_object (parse_got blobs) (as_object args)
 
--- the same, of an account with this history, at its end
+-- the answer to an Email/parse, of an account with this history, at its end
 abbrev pub parse_in : History → Tree → Got
 parse_in h args = parse_emails (blobs_of h) args

@@ -3,9 +3,8 @@ use Rattle.std.specs.Prelude.{ℕ, ◌==◌, Bool, false, List, [], ◌∷◌, �
 use Rattle.jm_json.specs.Tree.{Tree, null, number, text, object, fields_of}
 use Rattle.jm_json.specs.Order.{put}
 use Rattle.mime_words.specs.Words.{decoded_words}
-use Rattle.mime_type.specs.Node.{Node}
-use Rattle.mime_type.specs.PartTrees.{PartTrees, none, part}
-use Rattle.mime_tree.specs.Kept.{walked}
+use Rattle.mime_type.specs.PartTrees.{Node, PartTrees, none, part}
+use Rattle.mime_tree.specs.PartLimit.{walked}
 use Rattle.header_forms.specs.Forms.{text_or_null}
 use Rattle.mail_summary.specs.Leaves.{body_bytes, has_number}
 use Rattle.mail_view.specs.Objects.{put_all, list_tree, texts_or_null, decimal_or_null}

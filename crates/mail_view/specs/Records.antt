@@ -1,14 +1,15 @@
 -- The records that the ids of a get name (RFC 8620, 5.1).
-use Rattle.std.specs.Prelude.{ℕ, ◌^◌, List, [], ◌∷◌, length, Bool, ◌&&◌, not, nat_le, nat_lt, is_none, Option, Some, None, filter, filter_map, bytes_eq}
+use Rattle.std.specs.Prelude.{ℕ, List, [], ◌∷◌, length, Bool, ◌&&◌, not, nat_le, nat_lt, is_none, Option, Some, None, filter, filter_map, bytes_eq}
 use Rattle.std.specs.List.{find as first_that}
 use Rattle.jm_base.specs.Ids.{id_text}
 use Rattle.jm_base.specs.declared.identifiers.Kind.{Kind}
+use Rattle.jm_base.specs.declared.identifiers.TheConstants.{NUMBER_LIMIT}
 
--- the string is the id of this number: ids are of numbers from 1 and below 2^53
+-- the string is the id of this number: ids are of numbers from 1 and below `NUMBER_LIMIT`
 abbrev pub is_id_text : Kind → List ℕ → ℕ → Bool
 is_id_text kind id n =
     nat_le 1 n
-    && nat_lt n (2 ^ 53)
+    && nat_lt n NUMBER_LIMIT
     && bytes_eq (id_text (record { kind = kind; number = n })) id
 
 -- the record that an id names, if it names one, among the records of a kind with these numbers
@@ -16,7 +17,7 @@ abbrev pub record_named : {A : Type 0} → Kind → (A → ℕ) → List A → L
 record_named kind number_of records id =
     first_that (λ r. is_id_text kind id (number_of r)) records
 
--- the same strings, each once, in the order of their first mention
+-- these strings, each once, in the order of their first mention
 abbrev pub first_mentions : List (List ℕ) → List (List ℕ)
 first_mentions [] = []
 first_mentions (t ∷ ts) = t ∷ filter (λ s. not (bytes_eq s t)) (first_mentions ts)

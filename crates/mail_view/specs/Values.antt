@@ -2,9 +2,8 @@
 use Rattle.std.specs.Prelude.{ℕ, Bool, ◌&&◌, ◌||◌, List, [], ◌∷◌, ◌++◌, decimal, Option, Some, None, nat_eq, codes, if◌then◌else◌}
 use Rattle.std.specs.List.{flat_map, starts_with}
 use Rattle.jm_json.specs.Tree.{Tree, boolean, text}
-use Rattle.mime_type.specs.Node.{Node}
-use Rattle.mime_type.specs.PartTrees.{PartTrees}
-use Rattle.mime_tree.specs.Kept.{walked}
+use Rattle.mime_type.specs.PartTrees.{Node, PartTrees}
+use Rattle.mime_tree.specs.PartLimit.{walked}
 use Rattle.body_lists.specs.Lists.{Lists, lists_in}
 use Rattle.mail_summary.specs.Leaves.{is_among}
 use Rattle.mail_summary.specs.Texts.{Value, body_value}

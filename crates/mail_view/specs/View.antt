@@ -1,14 +1,15 @@
 -- The JSON view of a message (RFC 8621, 4.1, 4.2 and 4.9).
-use Rattle.std.specs.Prelude.{ℕ, ℤ, pos, negsuc, Bool, true, ◌&&◌, not, int_lt, List, [], ◌∷◌, length, map, Option, Some, None, if◌then◌else◌}
+use Rattle.std.specs.Prelude.{ℕ, ℤ, pos, Bool, true, ◌&&◌, not, int_lt, List, [], ◌∷◌, length, map, Option, Some, None, if◌then◌else◌}
 use Rattle.std.specs.Str.Lossy.{utf8_lossy}
 use Rattle.jm_base.specs.Ids.{id_text}
 use Rattle.jm_base.specs.UtcDates.{utc_text}
 use Rattle.jm_base.specs.declared.identifiers.UtcDate.{UtcDate}
+use Rattle.jm_base.specs.declared.utc_dates.TheConstants.{FIRST_TIMESTAMP, LAST_TIMESTAMP}
 use Rattle.jm_base.specs.declared.identifiers.Kind.{Kind}
 use Rattle.jm_base.specs.declared.identifiers.Kind.TheVariants.{Mailbox as OfMailbox, Email as OfEmail, Thread as OfThread}
 use Rattle.jm_json.specs.Tree.{Tree, null, boolean, number, text, object, fields_of}
 use Rattle.mail_records.specs.declared.records.Email.{Email as EmailRecord}
-use Rattle.mime_tree.specs.Kept.{parts_of}
+use Rattle.mime_tree.specs.PartLimit.{parts_of}
 use Rattle.body_lists.specs.Lists.{lists_in}
 use Rattle.mail_summary.specs.Leaves.{has_attachment_in}
 use Rattle.mail_summary.specs.Texts.{preview}
@@ -47,10 +48,10 @@ mailboxes_tree e = set_tree (map (identifier OfMailbox) e.mailboxes)
 abbrev pub keywords_tree : EmailRecord → Tree
 keywords_tree e = set_tree e.keywords
 
--- a date of the years 0001 to 9999; no other has a text
+-- a date from `FIRST_TIMESTAMP` to `LAST_TIMESTAMP`; no other date has a text
 abbrev pub has_date_text : UtcDate → Bool
 has_date_text date =
-    not (int_lt date.seconds (negsuc 62135596799)) && not (int_lt (pos 253402300799) date.seconds)
+    not (int_lt date.seconds FIRST_TIMESTAMP) && not (int_lt (pos LAST_TIMESTAMP) date.seconds)
 
 abbrev pub date_tree : UtcDate → Tree
 date_tree date = if has_date_text date then text (utc_text date) else null

@@ -2,8 +2,8 @@
 use Rattle.std.specs.Prelude.{ℕ, List, [], ◌∷◌, map, Option, option_map}
 use denote.Ref.{Bor}
 use Rattle.mail_records.specs.declared.records.Email.{Email as EmailRecord}
-use Rattle.mime_type.specs.Node.{Node}
-use Rattle.mime_type.specs.Joined.{node_of}
+use Rattle.mime_type.specs.PartTrees.{Node}
+use Rattle.mime_type.specs.PartViews.{node_of}
 use Rattle.mime_type.specs.declared.part.Part.{Part}
 use Rattle.mime_tree.specs.Places.{IsPlaced}
 

@@ -2,7 +2,7 @@
 ghost use Rattle.std.specs.Prelude.{◌≡◌, All, IfOk, map};
 ghost use Rattle.jm_json.specs.Json.{tree_of};
 ghost use Rattle.mime_lines.specs.Fields.{fields_of};
-ghost use Rattle.mime_lines.specs.Named.{IsWithin, last_value_of};
+ghost use Rattle.mime_lines.specs.FieldOffsets.{IsWithin, last_value_of};
 ghost use Rattle.header_forms.specs.Forms.{form_tree};
 ghost use Rattle.mail_view.specs.Headers.{field_tree, header_among, header_tree, headers_tree, value_or_null, values_of};
 
@@ -13,7 +13,7 @@ use jm_json::{Items, Json, Members};
 use mime_lines::{Field, FieldSpans, last_value};
 use std::alloc::Global;
 
-// The values of all fields of this name, in a form.
+// Returns the values of all fields of this name, in a form.
 fn write_all_values(
     alloc: Global,
     bytes: &[u8],
@@ -35,7 +35,7 @@ fn write_all_values(
     Ok(values)
 }
 
-// The value of the last field of this name, in a form, or null.
+// Returns the value of the last field of this name, in a form, or null.
 fn write_last_value(
     alloc: Global,
     bytes: &[u8],
@@ -53,7 +53,7 @@ fn write_last_value(
     }
 }
 
-// A field that is asked for, of these fields.
+// Returns a field that is asked for, of these fields.
 fn write_header_among(
     alloc: Global,
     bytes: &[u8],
@@ -85,7 +85,7 @@ pub(crate) fn write_header(
     write_header_among(alloc, bytes, fields, asked)
 }
 
-// A field with its name and its raw value.
+// Returns a field with its name and its raw value.
 fn write_field(alloc: Global, bytes: &[u8], field: &Field) -> Result<Json, NoMemory>
     requires { IsWithin bytes.now field.now }
     ensures { IfOk result (λ t. tree_of t ≡ field_tree bytes.now field.now) }

@@ -1,4 +1,4 @@
-//! The JSON view of a message, and what gets of an account are answered (RFC 8620, section 5.1;
+//! The JSON view of a message, and the answers to gets of an account (RFC 8620, section 5.1;
 //! RFC 8621, sections 2, 4.1, 4.2 and 4.9).
 //!
 //! The view of a message is defined in `specs/View.antt`, that of a mailbox in

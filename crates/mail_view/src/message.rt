@@ -2,7 +2,7 @@
 ghost use Rattle.std.specs.Prelude.{◌≡◌, IfOk, length};
 ghost use Rattle.jm_json.specs.Json.{tree_of as json_of};
 ghost use Rattle.jm_json.specs.Tree.{boolean, text as text_tree};
-ghost use Rattle.mime_tree.specs.Kept.{parts_of};
+ghost use Rattle.mime_tree.specs.PartLimit.{parts_of};
 ghost use Rattle.mail_summary.specs.Leaves.{has_attachment_in};
 ghost use Rattle.mail_summary.specs.Texts;
 ghost use Rattle.mail_view.specs.Messages.{IsRead, message_leaves, message_lists, message_structure};
@@ -29,7 +29,7 @@ pub(crate) struct Message<'a> {
     pub lists: &'a BodyLists,
 }
 
-// The leaves of these numbers.
+// Returns the leaves of these numbers.
 fn write_leaf_list(
     alloc: Global,
     message: &Message<'_>,

@@ -2,7 +2,7 @@
 ghost use Rattle.std.specs.Prelude.{◌≡◌, All, IfOk, IfSome};
 ghost use Rattle.jm_json.specs.Json.{tree_of as json_of};
 ghost use Rattle.mime_lines.specs.Fields.{fields_of};
-ghost use Rattle.mime_lines.specs.Named.{IsWithin};
+ghost use Rattle.mime_lines.specs.FieldOffsets.{IsWithin};
 ghost use Rattle.mail_view.specs.Messages.{IsRead};
 ghost use Rattle.mail_view.specs.View.{property_tree, view_members, view_tree};
 ghost use Rattle.mail_view.specs.Views.{email_of};
@@ -25,7 +25,7 @@ use mime_lines::{FieldSpans, fields};
 use mime_tree::parts;
 use std::alloc::Global;
 
-// A property of a message that is read, and of the email that it is, if it is one.
+// Returns a property of a message that is read, and of the email that it is, if it is one.
 fn write_property(
     alloc: Global,
     message: &Message<'_>,
@@ -56,7 +56,7 @@ fn write_property(
     }
 }
 
-// The properties that are asked for, of a message that is read.
+// Returns the properties that are asked for, of a message that is read.
 fn write_members(
     alloc: Global,
     message: &Message<'_>,
@@ -78,7 +78,8 @@ fn write_members(
     Ok(members)
 }
 
-// The properties that are asked for, if all of them are metadata: no line of the message is read.
+// Returns the properties that are asked for, if all of them are metadata: no line of the message is
+// read.
 fn write_metadata_members(
     alloc: Global,
     bytes: &[u8],
@@ -101,8 +102,8 @@ fn write_metadata_members(
     Ok(Some(members))
 }
 
-// A property for which no body is read, of a message with these header fields. It is the same
-// whatever else is wanted.
+// Returns a property for which no body is read, of a message with these header fields. It does not
+// depend on what else is wanted.
 fn write_header_property(
     alloc: Global,
     bytes: &[u8],
@@ -127,7 +128,7 @@ fn write_header_property(
     }
 }
 
-// The properties that are asked for, if none of them needs a body: only the header is read.
+// Returns the properties that are asked for, if none of them needs a body: only the header is read.
 fn write_header_members(
     alloc: Global,
     bytes: &[u8],
@@ -160,7 +161,7 @@ fn write_header_members(
     Ok(Some(members))
 }
 
-// The properties that are asked for, of a message that is read here.
+// Returns the properties that are asked for, of a message that is read here.
 fn write_message_members(
     alloc: Global,
     bytes: &[u8],
@@ -189,7 +190,7 @@ fn write_message_members(
     write_members(alloc, &message, email, wanted)
 }
 
-// Whether a property is found only in the parts of a message.
+// Returns whether a property is found only in the parts of a message.
 fn needs_parts(property: &Property) -> bool {
     !matches!(
         property,

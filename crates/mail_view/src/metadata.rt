@@ -7,15 +7,12 @@ ghost use Rattle.mail_view.specs.View.{date_tree, id_tree, identifier, keywords_
 ghost use Rattle.mail_view.specs.Views.{email_of};
 
 use get_args::MetadataProperty;
-use jm_base::{Id, Kind, NoMemory, Text, UtcDate, id_text, utc_text};
+use jm_base::{
+    FIRST_TIMESTAMP, Id, Kind, LAST_TIMESTAMP, NoMemory, Text, UtcDate, id_text, utc_text,
+};
 use jm_json::{Json, Members};
 use mail_records::Email;
 use std::alloc::Global;
-
-// The first and the last second of the years 0001 to 9999, in seconds since the beginning of 1970.
-const FIRST_DATE_SECONDS: i64 = -62135596800;
-
-const LAST_DATE_SECONDS: i64 = 253402300799;
 
 fn write_id(alloc: Global, kind: Kind, number: u64) -> Result<Text, NoMemory>
     ensures { IfOk result (λ t. t ≡ identifier kind number) }
@@ -89,7 +86,7 @@ fn write_keywords(alloc: Global, email: Option<&Email>) -> Result<Json, NoMemory
 fn write_date(alloc: Global, date: &UtcDate) -> Result<Json, NoMemory>
     ensures { IfOk result (λ t. json_of t ≡ date_tree date.now) }
 {
-    if date.seconds < FIRST_DATE_SECONDS || LAST_DATE_SECONDS < date.seconds {
+    if date.seconds < FIRST_TIMESTAMP || date.seconds > LAST_TIMESTAMP as i64 {
         return Ok(Json::Null);
     }
     Ok(Json::Text(utc_text(alloc, date)?))

@@ -3,9 +3,9 @@ ghost use Rattle.std.specs.Prelude.{◌≡◌, All, IfOk, length, map, option_ma
 ghost use Rattle.jm_json.specs.Json.{tree_of};
 ghost use Rattle.jm_json.specs.Tree.{text};
 ghost use Rattle.mime_lines.specs.Fields.{fields_of};
-ghost use Rattle.mime_lines.specs.Named.{IsWithin};
+ghost use Rattle.mime_lines.specs.FieldOffsets.{IsWithin};
 ghost use Rattle.mime_tree.specs.Places.{IsPlaced};
-ghost use Rattle.mime_type.specs.Joined.{node_of};
+ghost use Rattle.mime_type.specs.PartViews.{node_of};
 ghost use Rattle.mime_words.specs.Words.{decoded_words};
 ghost use Rattle.header_forms.specs.Forms;
 ghost use Rattle.mail_view.specs.Objects;
@@ -73,7 +73,7 @@ fn write_decimal(alloc: Global, number: Option<u64>) -> Result<Json, NoMemory>
     }
 }
 
-// The blob id of a leaf's decoded body.
+// Returns the blob id of a leaf's decoded body.
 fn write_leaf_blob_id(alloc: Global, blob: &str, number: Option<u64>) -> Result<Json, NoMemory>
     ensures { IfOk result (λ t. tree_of t ≡ Parts.leaf_blob blob.now number) }
 {
@@ -86,7 +86,7 @@ fn write_leaf_blob_id(alloc: Global, blob: &str, number: Option<u64>) -> Result<
     }
 }
 
-// A file name, with its encoded-words decoded (RFC 2047).
+// Returns a file name, with its encoded-words decoded (RFC 2047).
 fn write_name(alloc: Global, name: &Option<Text>) -> Result<Json, NoMemory>
     ensures { IfOk result (λ t.
         tree_of t ≡ Forms.text_or_null (option_map decoded_words name.now)) }
@@ -97,7 +97,7 @@ fn write_name(alloc: Global, name: &Option<Text>) -> Result<Json, NoMemory>
     }
 }
 
-// The number of bytes of the decoded body of a part.
+// Returns the number of bytes of the decoded body of a part.
 fn write_size(bytes: &[u8], part: &Part) -> Json
     requires { IsPlaced (length bytes.now) (node_of part.now) }
     ensures { tree_of result ≡ size_tree bytes.now (node_of part.now) }
@@ -106,7 +106,7 @@ fn write_size(bytes: &[u8], part: &Part) -> Json
     Json::Int(decoded_size(part.coding, body) as i64)
 }
 
-// A property of a part with these bytes, `own`, and these header fields.
+// Returns a property of a part with these bytes, `own`, and these header fields.
 fn write_part_property(
     alloc: Global,
     showing: &Showing<'_>,

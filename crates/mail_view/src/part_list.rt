@@ -1,9 +1,9 @@
 // The parts of a message in walk order, and views of some of them (RFC 8621, section 4.1.4).
 ghost use Rattle.std.specs.Prelude.{◌≡◌, ◌++◌, IfOk, OnOk, length, option_map};
-ghost use Rattle.mime_tree.specs.Kept.{walked};
+ghost use Rattle.mime_tree.specs.PartLimit.{walked};
 ghost use Rattle.mime_tree.specs.Places.{AllPlaced};
 ghost use Rattle.mime_type.specs.PartTrees.{none};
-ghost use Rattle.mime_type.specs.Joined.{joined, node_of, tree_of};
+ghost use Rattle.mime_type.specs.PartViews.{joined, node_of, tree_of};
 ghost use Rattle.mail_summary.specs.Leaves.{is_number};
 ghost use Rattle.mail_view.specs.Parts.{leaves_among, part_numbered};
 ghost use Rattle.mail_view.specs.Views.{ArePlaced, nodes_of};
@@ -14,7 +14,7 @@ use jm_json::Items;
 use mime_type::Part;
 use std::alloc::Global;
 
-// Adds a part and those within it. Multiparts nest at most 32 deep.
+// Adds a part and those within it. Multiparts nest at most `MAX_MULTIPART_LEVELS` deep.
 #[cycle(walk)]
 fn add_part<'a>(walk: &mut Vec<&'a Part>, part: &'a Part) -> Result<(), NoMemory>
     ensures { OnOk result (nodes_of walk.new.items

@@ -3,7 +3,7 @@ ghost use Rattle.std.specs.Prelude.{◌≡◌, ◌∷◌, [], IfOk, length};
 ghost use Rattle.jm_json.specs.Json.{tree_of as json_of};
 ghost use Rattle.mime_tree.specs.Places.{AllPlaced};
 ghost use Rattle.mime_type.specs.PartTrees.{none};
-ghost use Rattle.mime_type.specs.Joined.{joined, node_of, tree_of};
+ghost use Rattle.mime_type.specs.PartViews.{joined, node_of, tree_of};
 ghost use Rattle.mail_view.specs.Parts;
 
 use crate::part::{Showing, write_part_members};
@@ -12,7 +12,7 @@ use jm_json::{Items, Json, Members};
 use mime_type::Part;
 use std::alloc::Global;
 
-// The members of a part, of a multipart with the parts within it.
+// Returns the members of a part, of a multipart with the parts within it.
 fn add_sub_parts(
     alloc: Global,
     part: &Part,
@@ -29,7 +29,8 @@ fn add_sub_parts(
     Ok(members)
 }
 
-/// Returns the view of a part with those within it. Multiparts nest at most 32 deep.
+/// Returns the view of a part with those within it. Multiparts nest at most `MAX_MULTIPART_LEVELS`
+/// deep.
 #[cycle(structure)]
 pub(crate) fn write_structure(
     alloc: Global,

@@ -30,7 +30,7 @@ fn shown(
     Ok(String::from_utf8(write(alloc, &tree)?.into_vec())?)
 }
 
-// What arguments ask for, or the name of the one that is refused.
+// What arguments ask for, or the name of the one that is invalid.
 fn asked(alloc: Global, args: &str, parse: bool) -> Result<Result<Wanted, Text>, Fail> {
     let args = read(alloc, args.as_bytes())?;
     match read_wanted(alloc, &args, parse) {
@@ -142,8 +142,8 @@ fn fields_are_shown_by_their_names(rt: HostRuntime) -> Result<(), Fail> {
     check(&rt, rt.alloc(), "A: 1\nB: 2\nA: 3\n\n", &rows)
 }
 
-// What is shown of the email below where no properties are named (RFC 8621, section 4.2), and the
-// one part for which `PART` stands.
+// The properties of the email below if no properties are named (RFC 8621, section 4.2). The one
+// part replaces `PART`.
 const ALL: &str =
     "{\"attachments\":[],\"bcc\":null,\"blobId\":\"b1\",\"bodyValues\":{},\"cc\":null,\"from\":null,\"hasAttachment\":false,\"htmlBody\":[PART],\"id\":\"E7\",\"inReplyTo\":null,\"keywords\":{\"$seen\":true},\"mailboxIds\":{\"M10\":true,\"M2\":true},\"messageId\":null,\"preview\":\"\",\"receivedAt\":\"1970-01-01T00:00:09Z\",\"references\":null,\"replyTo\":null,\"sender\":null,\"sentAt\":null,\"size\":5,\"subject\":null,\"textBody\":[PART],\"threadId\":\"T3\",\"to\":null}";
 

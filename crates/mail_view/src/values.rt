@@ -1,10 +1,10 @@
 // bodyValues: the decoded text of body parts (RFC 8621, sections 4.1.4 and 4.2).
 ghost use Rattle.std.specs.Prelude.{◌≡◌, [], IfOk, OnOk, length};
 ghost use Rattle.jm_json.specs.Json.{tree_of as json_of};
-ghost use Rattle.mime_tree.specs.Kept.{parts_of};
+ghost use Rattle.mime_tree.specs.PartLimit.{parts_of};
 ghost use Rattle.mime_tree.specs.Places.{IsPlaced};
-ghost use Rattle.mime_type.specs.Joined.{node_of};
-ghost use Rattle.body_lists.specs.Shown.{lists_of};
+ghost use Rattle.mime_type.specs.PartViews.{node_of};
+ghost use Rattle.body_lists.specs.Views.{lists_of};
 ghost use Rattle.mail_summary.specs.Leaves;
 ghost use Rattle.mail_summary.specs.Texts;
 ghost use Rattle.mail_view.specs.Objects.{put_all};
@@ -21,7 +21,7 @@ use mail_summary::body_value_of;
 use mime_type::Part;
 use std::alloc::Global;
 
-// Whether a number is one of these.
+// Returns whether a number is one of these.
 fn is_among(numbers: &[u64], number: u64) -> bool
     ensures { result ≡ Leaves.is_among numbers.now (Some number) }
 {
@@ -42,7 +42,7 @@ fn is_listed(numbers: &[u64], number: Option<u64>) -> bool
     }
 }
 
-// Whether the text of a part is asked for.
+// Returns whether the text of a part is asked for.
 fn is_value_wanted(wanted: &Wanted, lists: &BodyLists, part: &Part) -> bool
     ensures { result ≡ is_asked wanted.now (lists_of lists.now) (node_of part.now) }
 {
@@ -52,7 +52,7 @@ fn is_value_wanted(wanted: &Wanted, lists: &BodyLists, part: &Part) -> bool
             || (wanted.html_values && is_listed(lists.html.as_slice(), part.number)))
 }
 
-// The text of a part.
+// Returns the text of a part.
 fn write_value(alloc: Global, bytes: &[u8], most: u64, part: &Part) -> Result<Json, NoMemory>
     requires { IsPlaced (length bytes.now) (node_of part.now) }
     ensures { IfOk result (λ t.
@@ -89,7 +89,7 @@ fn put_value(
     values.put(name, write_value(alloc, bytes, wanted.most_bytes, part)?)
 }
 
-// The texts of some parts.
+// Returns the texts of some parts.
 fn write_part_values(
     alloc: Global,
     bytes: &[u8],

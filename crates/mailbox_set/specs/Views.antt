@@ -1,5 +1,6 @@
 -- What contracts see of the types of this crate.
-use Rattle.std.specs.Prelude.{ℕ, List, Bool, not, ◌&&◌, nat_le, nat_lt, Some, Option, bytes_eq, ◌≡◌, ◌≢◌, ◌<◌, ◌≤◌, ◌^◌, None, ⊤, option_map, length, map, slice_index_or, ◌||◌, is_some}
+use Rattle.std.specs.Prelude.{ℕ, List, Bool, not, ◌&&◌, nat_le, nat_lt, Some, Option, bytes_eq, ◌≡◌, ◌≢◌, ◌<◌, ◌≤◌, None, ⊤, option_map, length, map, slice_index_or, ◌||◌, is_some}
+use Rattle.jm_base.specs.declared.identifiers.TheConstants.{NUMBER_LIMIT}
 use Rattle.mail_records.specs.declared.records.Mailbox.{Mailbox}
 use Rattle.mail_counts.specs.Tidy.{same_role, same_parent, is_sibling}
 use Rattle.std.specs.List.{list_any, remove}
@@ -53,7 +54,7 @@ holds keys group text = list_any (is_key group text) keys
 -- a number that an id may have
 pub record IsNumber (n : ℕ) : Type 0 where
   pub from_one : 1 ≤ n
-  pub below : n < 2 ^ 53
+  pub below : n < NUMBER_LIMIT
 
 -- the string is the id of the mailbox of this number, or of none
 abbrev pub Means : List ℕ → Option ℕ → Type 0

@@ -1,6 +1,7 @@
 // Which properties of a create are invalid, after the creates before it (RFC 8621, section 2.5).
-ghost use Rattle.std.specs.Prelude.{IfOk, codes, false, filter, is_some, map, option_map, unwrap_or, ◌<◌, ◌^◌, ◌≡◌};
+ghost use Rattle.std.specs.Prelude.{IfOk, codes, false, filter, is_some, map, option_map, unwrap_or, ◌<◌, ◌≡◌};
 ghost use Rattle.std.specs.List.{list_any};
+ghost use Rattle.jm_base.specs.declared.identifiers.TheConstants.{NUMBER_LIMIT};
 ghost use Rattle.jm_json.specs.Json.{member_of, tree_of};
 ghost use Rattle.jm_json.specs.Order.{KeysRise};
 ghost use Rattle.jm_json.specs.Tree.{text as text_tree};
@@ -58,7 +59,7 @@ fn is_there(planner: &Planner, number: u64) -> bool
 }
 
 fn find_parent<'a>(planner: &Planner<'a>, text: &'a Text) -> Option<Option<u64>>
-    requires { planner.now.next < 2 ^ 53 }
+    requires { planner.now.next < NUMBER_LIMIT }
     ensures { (s : Progress) → Follows planner.now s → result
         ≡ parent_in s.content s.made (Some (text_tree text.now)) }
 {
@@ -73,7 +74,7 @@ fn find_parent<'a>(planner: &Planner<'a>, text: &'a Text) -> Option<Option<u64>>
 }
 
 fn parse_parent<'a>(planner: &Planner<'a>, tree: &'a Json) -> Option<Option<u64>>
-    requires { planner.now.next < 2 ^ 53 }
+    requires { planner.now.next < NUMBER_LIMIT }
     ensures { (s : Progress) → Follows planner.now s → result
         ≡ parent_in s.content s.made (Some (tree_of tree.now)) }
 {
@@ -85,7 +86,7 @@ fn parse_parent<'a>(planner: &Planner<'a>, tree: &'a Json) -> Option<Option<u64>
 }
 
 fn read_parent<'a>(planner: &Planner<'a>, members: &'a Members) -> Option<Option<u64>>
-    requires { planner.now.next < 2 ^ 53 }
+    requires { planner.now.next < NUMBER_LIMIT }
     ensures { (s : Progress) → Follows planner.now s → result
         ≡ sent_parent s.content s.made members.now }
 {
@@ -97,7 +98,7 @@ fn read_parent<'a>(planner: &Planner<'a>, members: &'a Members) -> Option<Option
 
 /// Reads the properties that a create sends.
 pub fn read_properties<'a>(planner: &Planner<'a>, members: &'a Members) -> SentProperties<'a>
-    requires { planner.now.next < 2 ^ 53 }
+    requires { planner.now.next < NUMBER_LIMIT }
     ensures { (s : Progress) → Follows planner.now s → properties_of result
         ≡ sent_properties s.content s.made members.now }
 {

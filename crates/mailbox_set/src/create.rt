@@ -1,5 +1,6 @@
 // Performs one create (RFC 8620, section 5.3).
-ghost use Rattle.std.specs.Prelude.{IfOk, List, None, OnOk, Some, option_map, ℕ, ◌+◌, ◌<◌, ◌^◌, ◌||◌, ◌≡◌, ◌≤◌};
+ghost use Rattle.std.specs.Prelude.{IfOk, List, None, OnOk, Some, option_map, ℕ, ◌+◌, ◌<◌, ◌||◌, ◌≡◌, ◌≤◌};
+ghost use Rattle.jm_base.specs.declared.identifiers.TheConstants.{NUMBER_LIMIT};
 ghost use Rattle.jm_json.specs.Order.{put};
 ghost use Rattle.mail_counts.specs.Tidy.{same_role};
 ghost use Rattle.mailbox_set.specs.Creates.{Progress, after_create, after_made, blank, made_under, mailbox_of, refusal};
@@ -82,7 +83,7 @@ fn create_mailbox<'a>(
     draft: &Draft<'a>,
     properties: &SentProperties<'a>,
 ) -> Result<(), NoMemory>
-    requires { planner.old.next + 1 < 2 ^ 53 }
+    requires { planner.old.next + 1 < NUMBER_LIMIT }
     ensures follows { OnOk result ((s : Progress) → Follows planner.old s
         → Follows planner.new
         (after_made s (create_of draft.now)
@@ -134,7 +135,7 @@ pub fn perform_create<'a>(
     planner: &mut Planner<'a>,
     draft: &Draft<'a>,
 ) -> Result<(), NoMemory>
-    requires { planner.old.next + 1 < 2 ^ 53 }
+    requires { planner.old.next + 1 < NUMBER_LIMIT }
     ensures follows { OnOk result
         ((s : Progress) → Follows planner.old s
         → Follows planner.new (after_create s (create_of draft.now))) }

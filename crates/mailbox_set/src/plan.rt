@@ -1,9 +1,11 @@
 // The plan of a Mailbox/set (RFC 8620, section 5.3; RFC 8621, section 2.5).
-ghost use Rattle.std.specs.Prelude.{IfErr, IfOk, MatchResult, codes, length, map, ◌+◌, ◌<◌, ◌^◌, ◌≡◌, ◌≤◌};
+ghost use Rattle.std.specs.Prelude.{IfErr, IfOk, MatchResult, codes, length, map, ◌+◌, ◌<◌, ◌≡◌, ◌≤◌};
 ghost use Rattle.std.specs.List.{AllByRecursion};
+ghost use Rattle.jm_base.specs.declared.identifiers.TheConstants.{NUMBER_LIMIT};
 ghost use Rattle.jm_json.specs.Json.{tree_of};
 ghost use Rattle.mail_records.specs.Contents.{AreNumbered, Content as Content'};
 ghost use Rattle.mail_records.specs.Edits.{AllFit, after_edits};
+ghost use Rattle.mail_records.specs.Histories.{max_position};
 ghost use Rattle.mail_counts.specs.CountsFlag.{AreCountsFlagsRight};
 ghost use Rattle.mail_counts.specs.Tidy.{IsTidy};
 ghost use Rattle.state_log.specs.Logs.{log_end};
@@ -34,7 +36,7 @@ fn finish_plan<'a>(
     log: &Log,
     planner: Planner<'a>,
 ) -> Result<SetPlan, NoMemory>
-    requires last { log_end log.now ≤ 2 ^ 52 + 2 ^ 26 }
+    requires last { log_end log.now ≤ max_position }
     ensures { IfOk result
         (λ p. (c : Content') (s : Progress) → Follows planner.entry s → plan_of p
         ≡ plan_after (ground_of c log.now) account.now s) }
@@ -67,7 +69,7 @@ fn perform_creates<'a>(
     made: &'a Made,
     drafts: Vec<Draft<'a>>,
 ) -> Result<Planner<'a>, NoMemory>
-    requires room { content.now.content.next_mailbox + length drafts.items < 2 ^ 53 }
+    requires room { content.now.content.next_mailbox + length drafts.items < NUMBER_LIMIT }
     ensures { IfOk result
         (λ p. Follows p
         (after_creates (beginning content.now.content made.now)
@@ -86,8 +88,8 @@ fn plan_creates<'a>(
     members: &'a Members,
     made: &'a Made,
 ) -> Result<SetPlan, SetFault>
-    requires next { content.now.content.next_mailbox ≤ 2 ^ 52 + 2 ^ 26 }
-    requires last { log_end log.now ≤ 2 ^ 52 + 2 ^ 26 }
+    requires next { content.now.content.next_mailbox ≤ max_position }
+    requires last { log_end log.now ≤ max_position }
     ensures { MatchResult result
         (λ p. outcome_of_creates (ground_of content.now.content log.now) made.now
         (account_in members.now) (if_in_state members.now) (creates_in members.now)
@@ -115,8 +117,8 @@ fn plan_members<'a>(
     members: &'a Members,
     made: &'a Made,
 ) -> Result<SetPlan, SetFault>
-    requires next { content.now.content.next_mailbox ≤ 2 ^ 52 + 2 ^ 26 }
-    requires last { log_end log.now ≤ 2 ^ 52 + 2 ^ 26 }
+    requires next { content.now.content.next_mailbox ≤ max_position }
+    requires last { log_end log.now ≤ max_position }
     ensures { MatchResult result
         (λ p. outcome_of_arguments (ground_of content.now.content log.now) made.now members.now
         (invalid_argument members.now) ≡ planned (plan_of p))
@@ -137,8 +139,8 @@ fn plan<'a>(
     args: &'a Json,
     made: &'a Made,
 ) -> Result<SetPlan, SetFault>
-    requires next { content.now.content.next_mailbox ≤ 2 ^ 52 + 2 ^ 26 }
-    requires last { log_end log.now ≤ 2 ^ 52 + 2 ^ 26 }
+    requires next { content.now.content.next_mailbox ≤ max_position }
+    requires last { log_end log.now ≤ max_position }
     ensures { MatchResult result
         (λ p. set_outcome (ground_of content.now.content log.now) (tree_of args.now) made.now
         ≡ planned (plan_of p))
@@ -172,8 +174,8 @@ pub fn plan_mailbox_set(
     args: &Json,
     made: &Made,
 ) -> Result<SetPlan, SetFault>
-    requires next { content.now.content.next_mailbox ≤ 2 ^ 52 + 2 ^ 26 }
-    requires last { log_end log.now ≤ 2 ^ 52 + 2 ^ 26 }
+    requires next { content.now.content.next_mailbox ≤ max_position }
+    requires last { log_end log.now ≤ max_position }
     ensures outcome { IfOk result
         (λ p. set_outcome (ground_of content.now.content log.now) (tree_of args.now) made.now
         ≡ planned (plan_of p)) }

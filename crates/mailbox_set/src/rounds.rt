@@ -1,6 +1,7 @@
 // The order of creates: a create may refer to the parent that another creates (RFC 8620, section
 // 5.3).
-ghost use Rattle.std.specs.Prelude.{IfSome, OnOk, length, map, option_map, ◌+◌, ◌<◌, ◌^◌, ◌≡◌, ◌≤◌};
+ghost use Rattle.std.specs.Prelude.{IfSome, OnOk, length, map, option_map, ◌+◌, ◌<◌, ◌≡◌, ◌≤◌};
+ghost use Rattle.jm_base.specs.declared.identifiers.TheConstants.{NUMBER_LIMIT};
 ghost use Rattle.mailbox_set.specs.Creates.{Progress};
 ghost use Rattle.mailbox_set.specs.Views.{create_of, IsFirst, Follows};
 ghost use Rattle.mailbox_set.specs.Rounds.{after_creates, after_each, stands, waits_for};
@@ -50,7 +51,7 @@ fn do_each<'a>(
     planner: &mut Planner<'a>,
     drafts: &[Draft<'a>],
 ) -> Result<(), NoMemory>
-    requires { planner.old.next + length drafts.now < 2 ^ 53 }
+    requires { planner.old.next + length drafts.now < NUMBER_LIMIT }
     ensures { OnOk result
         ((s : Progress) → Follows planner.old s
         → Follows planner.new (after_each s (map create_of drafts.now))) }
@@ -68,7 +69,7 @@ pub fn do_creates<'a>(
     planner: &mut Planner<'a>,
     drafts: Vec<Draft<'a>>,
 ) -> Result<(), NoMemory>
-    requires { planner.old.next + length drafts.items < 2 ^ 53 }
+    requires { planner.old.next + length drafts.items < NUMBER_LIMIT }
     ensures { OnOk result
         ((s : Progress) → Follows planner.old s
         → Follows planner.new (after_creates s (map create_of drafts.entry.items))) }

@@ -10,7 +10,7 @@ use std::alloc::Global;
 use std::io;
 use std::time::{Clock, Instant};
 
-// How many rows are put after those of the file.
+// How many rows are appended.
 const ROWS: u64 = 1000;
 
 // A row of 200 bytes.
@@ -30,14 +30,15 @@ fn append_rows<K: Keeper>(alloc: Global, keeper: &mut K) -> Result<(), EdgeFault
     Ok(())
 }
 
-// The nanoseconds of the appends, without the opening.
+// Returns the nanoseconds of the appends, without the opening.
 fn timed_appends<R: Clock, K: Keeper>(rt: &R, alloc: Global, keeper: &mut K) -> io::Result<u64> {
     let start = Instant::now(rt)?;
     append_rows(alloc, keeper).map_err(io_fault)?;
     nanos_since(rt, start)
 }
 
-fn rows_of<K: Keeper>(alloc: Global, keeper: &mut K) -> io::Result<usize> {
+// Returns how many rows a keeper has.
+fn count_rows<K: Keeper>(alloc: Global, keeper: &mut K) -> io::Result<usize> {
     Ok(keeper.load(alloc).map_err(io_fault)?.rows.len())
 }
 
@@ -47,15 +48,15 @@ fn measure_keeper<R: Clock + Print + Eprint, S: Alter + Drop + Send, O: Opens<S>
     alloc: Global,
     mut keeper: SqliteKeeper<S, O>,
 ) -> io::Result<()> {
-    rows_of(alloc, &mut keeper)?;
+    count_rows(alloc, &mut keeper)?;
     let nanos = timed_appends(rt, alloc, &mut keeper)?;
-    let rows = rows_of(alloc, &mut keeper)?;
+    let rows = count_rows(alloc, &mut keeper)?;
     println!(rt; "append: {rows} rows")?;
     eprintln!(rt; "append: {nanos} ns")
 }
 
-/// Measures appends to a file, which it makes where there is none. How many rows the file has then
-/// goes to standard output, the time of the appends to the error output.
+/// Measures appends to a file, which is created if there is none. The number of rows that the file
+/// has then goes to standard output, the time of the appends to the error output.
 pub(crate) fn measure_append(rt: &HostRuntime, file: &str) -> io::Result<()> {
     match Text::from_str(rt.alloc(), file) {
         Ok(path) => measure_keeper(rt, rt.alloc(), SqliteKeeper::at(rt, path)),

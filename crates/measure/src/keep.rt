@@ -11,7 +11,7 @@ use std::rt::Files;
 use std::time::{Clock, Instant};
 use std::{fs, io};
 
-// What one run took, in nanoseconds.
+// How long one run took, in nanoseconds.
 #[derive(Clone, Copy, Debug)]
 struct Times {
     copy: u64,
@@ -23,15 +23,15 @@ fn invalid() -> io::Error {
     io::Error::from(io::ErrorKind::InvalidData)
 }
 
-// The first row of the bytes, and the bytes after it. A row is its length, as a number of 8 bytes
-// with the big end first, and its bytes.
-fn first_row(bytes: &[u8]) -> Option<(&[u8], &[u8])> {
+// Returns the first row of the bytes, and the bytes after it. A row is its length, as a big-endian
+// number of 8 bytes, and its bytes.
+fn read_row(bytes: &[u8]) -> Option<(&[u8], &[u8])> {
     if bytes.len() < 8 {
         return None;
     }
-    let (front, rest) = bytes.split_at(8);
+    let (head, rest) = bytes.split_at(8);
     let length = u64::from_be_bytes([
-        front[0], front[1], front[2], front[3], front[4], front[5], front[6], front[7],
+        head[0], head[1], head[2], head[3], head[4], head[5], head[6], head[7],
     ]);
     if (rest.len() as u64) < length {
         return None;
@@ -39,16 +39,16 @@ fn first_row(bytes: &[u8]) -> Option<(&[u8], &[u8])> {
     Some(rest.split_at(length as usize))
 }
 
-// The rows that the bytes are.
-fn rows_of(alloc: Global, bytes: &[u8]) -> io::Result<Vec<&[u8]>> {
+// Returns the rows that the bytes are.
+fn read_rows(alloc: Global, bytes: &[u8]) -> io::Result<Vec<&[u8]>> {
     let mut rows = Vec::new(alloc);
     let mut rest = bytes;
     for _ in 0..bytes.len() {
-        let Some((row, behind)) = first_row(rest) else {
+        let Some((row, after)) = read_row(rest) else {
             break;
         };
         rows.push(row)?;
-        rest = behind;
+        rest = after;
     }
     if rest.is_empty() {
         Ok(rows)
@@ -57,7 +57,7 @@ fn rows_of(alloc: Global, bytes: &[u8]) -> io::Result<Vec<&[u8]>> {
     }
 }
 
-// The rows, each in memory of its own.
+// Returns copies of the rows, each in memory of its own.
 fn copied(alloc: Global, rows: &[&[u8]]) -> Result<Vec<Bytes>, NoMemory> {
     let mut copies = Vec::new(alloc);
     for row in rows {
@@ -75,7 +75,7 @@ fn commit_of(alloc: Global, row: &[u8]) -> io::Result<Commit>
     }
 }
 
-// The commits that the rows are.
+// Returns the commits that the rows encode.
 fn decoded(alloc: Global, rows: &[&[u8]]) -> io::Result<Vec<Commit>>
     ensures { IfOk result (λ v. All (λ c. IsFormed c) v.items) }
 {
@@ -86,7 +86,7 @@ fn decoded(alloc: Global, rows: &[&[u8]]) -> io::Result<Vec<Commit>>
     Ok(commits)
 }
 
-// The rows that the commits are.
+// Returns the rows that encode the commits.
 fn encoded(alloc: Global, commits: &[Commit]) -> Result<Vec<Bytes>, NoMemory>
     requires { All (λ c. IsFormed c) commits.now }
 {
@@ -97,8 +97,8 @@ fn encoded(alloc: Global, commits: &[Commit]) -> Result<Vec<Bytes>, NoMemory>
     Ok(rows)
 }
 
-// Whether the rows are the same.
-fn are_same(written: &[Bytes], rows: &[&[u8]]) -> bool {
+// Returns whether the rows are equal.
+fn are_equal(written: &[Bytes], rows: &[&[u8]]) -> bool {
     written.len() == rows.len()
         && written
             .iter()
@@ -114,7 +114,8 @@ fn edits_in(commits: &[Commit]) -> u64 {
     edits
 }
 
-// One run: the rows are copied, then decoded, then encoded again. It gives the times and the edits.
+// Copies the rows, then decodes them, then encodes them again. Returns the times, and the number of
+// edits.
 fn one_run<R: Clock>(rt: &R, alloc: Global, rows: &[&[u8]]) -> io::Result<(Times, u64)> {
     let start = Instant::now(rt)?;
     let copies = copied(alloc, rows).map_err(|_| no_memory())?;
@@ -125,7 +126,7 @@ fn one_run<R: Clock>(rt: &R, alloc: Global, rows: &[&[u8]]) -> io::Result<(Times
     let start = Instant::now(rt)?;
     let written = encoded(alloc, &commits).map_err(|_| no_memory())?;
     let encode = nanos_since(rt, start)?;
-    if !are_same(&written, rows) || !are_same(&copies, rows) {
+    if !are_equal(&written, rows) || !are_equal(&copies, rows) {
         return Err(invalid());
     }
     let times = Times {
@@ -136,7 +137,7 @@ fn one_run<R: Clock>(rt: &R, alloc: Global, rows: &[&[u8]]) -> io::Result<(Times
     Ok((times, edits_in(&commits)))
 }
 
-// The medians of the runs, and the edits.
+// Returns the medians of the times of all runs, and the number of edits.
 fn runs<R: Clock>(rt: &R, alloc: Global, rows: &[&[u8]]) -> io::Result<(Times, u64)> {
     let mut copy = [0; RUNS];
     let mut decode = [0; RUNS];
@@ -158,14 +159,14 @@ fn runs<R: Clock>(rt: &R, alloc: Global, rows: &[&[u8]]) -> io::Result<(Times, u
 }
 
 /// Measures the commits of a file: its rows are copied, decoded and encoded again. Each row is its
-/// length, as a number of 8 bytes with the big end first, and the bytes of a commit. The counts go
-/// to standard output, the times to the error output.
+/// length, as a big-endian number of 8 bytes, and the bytes of a commit. The counts go to standard
+/// output, the times to the error output.
 pub(crate) fn measure_keep<R: Clock + Print + Eprint + Files + AllocGlobal>(
     rt: &R,
     file: &str,
 ) -> io::Result<()> {
     let bytes = fs::read(rt, file)?;
-    let rows = rows_of(rt.alloc(), &bytes)?;
+    let rows = read_rows(rt.alloc(), &bytes)?;
     let (times, edits) = runs(rt, rt.alloc(), &rows)?;
     println!(rt;
         "keep: {} commits, {edits} edits, {} bytes",

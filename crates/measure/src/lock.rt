@@ -2,7 +2,7 @@
 ghost use Rattle.std.specs.Prelude.{◌≡◌, true, false, [], length, ◌<◌, ◌^◌, ◌+◌, IfOk, All};
 
 use crate::timing::{RUNS, median, nanos_since, no_memory};
-use account_lock::{AccountLock, MAX_NAMES, Pass, Standing};
+use account_lock::{AccountLock, AccountView, MAX_NAMES, Pass};
 use std::alloc::Global;
 use std::sync::{Mutex, Wait};
 use std::thread::Threads;
@@ -15,7 +15,7 @@ struct Tally {
     turns: u64,
 }
 
-impl Standing for Tally {
+impl AccountView for Tally {
     ghost use Rattle.std.specs.Prelude.{[]};
     ghost use Rattle.mail_records.specs.Histories.{empty_history};
 
@@ -39,7 +39,7 @@ struct Measured {
     turns: u64,
 }
 
-// What both locks took: the median of the times, and the turns of all runs.
+// Of both locks, the median of the times; and the turns of all runs.
 #[derive(Clone, Copy, Debug)]
 struct Row {
     mutex: Measured,
@@ -117,7 +117,7 @@ fn passes(
         × (p.holds ≡ false)) v.items) }
 {
     let mut passes = Vec::new(alloc);
-    for made in 0..threads {
+    for index in 0..threads {
         let Ok(pass) = lock.split(root) else {
             return Err(no_memory());
         };

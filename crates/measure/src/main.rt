@@ -1,9 +1,9 @@
 //! The program `measure`: how long calls of the library take, next to a plain way to do the same
 //! work. The benchmarks run it.
 //!
-//! Times go to the error output, and counts, which are the same whatever the schedule, to standard
-//! output. Status 2 comes where the words name nothing to measure, and 1 where the clock, the
-//! memory, a file or the output failed.
+//! Times go to the error output. Counts, which do not depend on the schedule, go to standard
+//! output. The exit status is 2 if the arguments are invalid, and 1 if the clock, the memory, a
+//! file or the output failed.
 #![tactic(auto)]
 
 mod append;
@@ -22,16 +22,16 @@ use std::process::ExitCode;
 use std::{env, io};
 
 fn main(rt: HostRuntime) -> ExitCode {
-    let words = match words_of(&rt) {
-        Ok(words) => words,
-        Err(refused) => {
-            if refused.kind() == io::ErrorKind::OutOfMemory {
+    let arguments = match read_arguments(&rt) {
+        Ok(arguments) => arguments,
+        Err(error) => {
+            if error.kind() == io::ErrorKind::OutOfMemory {
                 return ExitCode::from(1);
             }
             Vec::new(rt.alloc())
         }
     };
-    match Task::of_words(words.as_slice()) {
+    match Task::from_arguments(arguments.as_slice()) {
         Some(Task::Lock { rounds }) => status_of(measure_lock(&rt, rt.alloc(), rounds)),
         Some(Task::Append { file }) => status_of(measure_append(&rt, file)),
         Some(Task::Keep { file }) => status_of(measure_keep(&rt, file)),
@@ -50,11 +50,11 @@ fn status_of(measured: io::Result<()>) -> ExitCode {
     }
 }
 
-// The words after the program's name.
-fn words_of(rt: &(impl env::Env + AllocGlobal)) -> io::Result<Vec<String>> {
-    let mut words = Vec::new(rt.alloc());
-    for word in env::args(rt)?.skip(1) {
-        words.push(word)?;
+// Returns the arguments after the program's name.
+fn read_arguments(rt: &(impl env::Env + AllocGlobal)) -> io::Result<Vec<String>> {
+    let mut arguments = Vec::new(rt.alloc());
+    for argument in env::args(rt)?.skip(1) {
+        arguments.push(argument)?;
     }
-    Ok(words)
+    Ok(arguments)
 }

@@ -1,26 +1,26 @@
-// The words of a command line.
+// The arguments of the command line.
 
-/// What is said where the words name nothing to measure.
+/// The usage line, which is printed if the arguments are invalid.
 pub(crate) const USAGE: &str =
     "usage: measure lock N | measure append FILE | measure keep FILE | measure view FOLDER";
 
-/// What the program may be told to measure.
+/// What to measure.
 #[derive(Clone, Copy, Debug, PartialEq, Eq)]
 pub(crate) enum Task<'a> {
     /// Turns at the lock of an account, this many by each thread.
     Lock { rounds: u64 },
-    /// Appends to a keeper of this file, which it makes where there is none.
+    /// Appends to a keeper of this file, which is created if there is none.
     Append { file: &'a str },
     /// Encoding and decoding of the commits of this file.
     Keep { file: &'a str },
-    /// What a client is shown of each message of this folder.
+    /// The JSON views of the messages of this folder.
     View { folder: &'a str },
 }
 
 impl<'a> Task<'a> {
-    /// What the words name, and none where they name nothing.
-    pub(crate) fn of_words(words: &'a [String]) -> Option<Task<'a>> {
-        match words {
+    /// Returns what the arguments name, or `None` if they are invalid.
+    pub(crate) fn from_arguments(arguments: &'a [String]) -> Option<Task<'a>> {
+        match arguments {
             [name, value] => Task::named(name.as_str(), value.as_str()),
             _ => None,
         }

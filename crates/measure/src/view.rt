@@ -1,4 +1,4 @@
-// What a client is shown of each message of a folder.
+// The JSON view of each message of a folder.
 use crate::timing::{nanos_since, no_memory};
 use get_args::{Wanted, wanted_for_read};
 use jm_base::{Bytes, NoMemory};
@@ -8,15 +8,15 @@ use std::alloc::Global;
 use std::time::Instant;
 use std::{fs, io};
 
-// How many messages there were, and the bytes of all that is shown of them.
+// How many messages there were, and how many bytes the JSON of their views has.
 #[derive(Clone, Copy, Debug)]
 struct Shown {
     messages: u64,
     bytes: u64,
 }
 
-// The text of what is shown of a message.
-fn text_of(alloc: Global, message: &[u8], wanted: &Wanted) -> Result<Bytes, NoMemory> {
+// Returns the JSON of the view of a message.
+fn write_view(alloc: Global, message: &[u8], wanted: &Wanted) -> Result<Bytes, NoMemory> {
     let tree = view(alloc, message, b"b1", None, wanted)?;
     let mut text = Bytes::new(alloc);
     write_after(alloc, &mut text, &tree)?;
@@ -29,15 +29,15 @@ fn show_all(rt: &HostRuntime, folder: &str, wanted: &Wanted) -> io::Result<Shown
     for entry in fs::read_dir(rt, folder)? {
         let entry = entry?;
         let message = fs::read(rt, entry.path())?;
-        let text = text_of(rt.alloc(), &message, wanted).map_err(|_| no_memory())?;
+        let text = write_view(rt.alloc(), &message, wanted).map_err(|_| no_memory())?;
         messages = messages.saturating_add(1);
         bytes = bytes.saturating_add(text.len() as u64);
     }
     Ok(Shown { messages, bytes })
 }
 
-/// Measures what `jmap read` shows of each message of a folder. The counts go to standard output,
-/// the time to the error output.
+/// Measures the view that `jmap read` prints, for each message of a folder. The counts go to
+/// standard output, the time to the error output.
 pub(crate) fn measure_view(rt: &HostRuntime, folder: &str) -> io::Result<()> {
     let wanted = wanted_for_read(rt.alloc()).map_err(|_| no_memory())?;
     let start = Instant::now(rt)?;

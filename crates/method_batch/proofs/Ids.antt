@@ -9,7 +9,7 @@ use Rattle.std.specs.List.Sorted.{IsStrictlySortedBy, IsStableBy, ties}
 use Rattle.jm_json.specs.Tree.{Tree, text}
 use Rattle.jm_json.specs.Find.{find}
 use Rattle.jm_json.specs.Order.{KeysRise, put}
-use Rattle.jm_json.specs.Place.{AllAbove}
+use Rattle.jm_json.specs.KeyIndices.{AllAbove}
 use Rattle.jm_json.specs.declared.invocation.Created.{Created}
 use Rattle.jm_json.proofs.Puts.{KeysRise-put}
 use Rattle.method_batch.specs.Outcome.{put_ids}

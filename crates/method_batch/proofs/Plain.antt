@@ -7,7 +7,7 @@ use Rattle.jm_json.specs.Tree.{Tree, null, boolean, number, text, list, object, 
 use Rattle.jm_json.specs.Find.{find, as_object, pairs_of}
 use Rattle.jm_json.specs.Call.{Call}
 use Rattle.jm_json.specs.Order.{KeysRise, put}
-use Rattle.jm_json.specs.Place.{AllBelow}
+use Rattle.jm_json.specs.KeyIndices.{AllBelow}
 use Rattle.jm_json.proofs.Puts.{below_of}
 use Rattle.result_refs.specs.References.{is_marked, referred, arguments, clashes, by_arguments, resolved, resolution}
 

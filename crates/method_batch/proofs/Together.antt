@@ -3,12 +3,12 @@ use Rattle.std.proofs.Common.{◌≡◌, inl, inr, ℕ, List, [], ◌∷◌, ◌
 use Rattle.jm_base.specs.declared.memory.NoMemory.{NoMemory}
 use Rattle.jm_json.specs.Tree.{Tree}
 use Rattle.jm_json.specs.Call.{Call}
-use Rattle.jm_json.specs.Invoked.{call_of}
+use Rattle.jm_json.specs.Invocations.{call_of}
 use Rattle.jm_json.specs.Reading.{Reading, not_json, not_whole, whole, reading_of}
 use Rattle.jm_json.specs.declared.invocation.Created.{Created}
 use Rattle.jm_json.specs.declared.invocation.Invocation.{Invocation}
 use Rattle.jm_json.specs.declared.invocation.Replied.{Replied}
-use Rattle.method_batch.specs.declared.limits.TheConstants.{MAX_REQUEST_BYTES}
+use Rattle.jm_base.specs.declared.limits.TheConstants.{MAX_REQUEST_BYTES}
 use Rattle.method_batch.specs.Method.{core_capability, mail_capability}
 use Rattle.method_batch.specs.Request.{request_of, problem_in, uses}
 use Rattle.method_batch.specs.Prepared.{Preparation, refused, ready, preparation}

@@ -1,4 +1,4 @@
--- What is answered to the calls of a request, one after the other (RFC 8620, section 3.4).
+-- The replies to the calls of a request, one after the other (RFC 8620, section 3.4).
 use Rattle.std.specs.Prelude.{◌≡◌, ◌⊎◌, List, [], ◌∷◌, ◌++◌, Bool, cond, codes, bytes_eq}
 use Rattle.jm_json.specs.Call.{Call}
 use Rattle.jm_json.specs.declared.invocation.Created.{Created}
@@ -6,14 +6,14 @@ use Rattle.jm_json.specs.declared.invocation.Replied.{Replied}
 use Rattle.method_batch.specs.Prepared.{Preparation, refused, ready, preparation}
 use Rattle.method_batch.specs.declared.progress.Progress.{Progress}
 
--- a call that a port was asked, with what the request had made by then, and what it replied
+-- a call that a port performed, with what the request had created up to then, and the port's reply
 pub record Asked : Type 0 where
   pub call : Call
   pub made : List Created
   pub replied : Replied
 
--- A port goes from one state to another by a relation: this call, with this made, may be replied
--- so. These were the calls that took it from one state to another.
+-- A port goes from one state to another by a relation: this call, with this created up to then, may
+-- have this reply. These were the calls that took the port from one state to another.
 abbrev pub Runs : {S : Type 0} → (S → Call → List Created → Replied → S → Type 0) → S → List Asked
     → S → Type 0
 Runs answers s [] s' = s' ≡ s
@@ -23,20 +23,21 @@ Runs {S} answers s (a ∷ rest) s' =
 abbrev pub is_echo : Call → Bool
 is_echo c = bytes_eq c.name (codes "Core/echo")
 
--- the port was asked nothing, and the reply is this response alone
+-- the port performed nothing, and the reply is this response alone
 abbrev pub RepliesAlone : Call → List Asked → Replied → Type 0
 RepliesAlone response asked replied =
     (asked ≡ []) × (replied ≡ record { responses = response ∷ []; made = [] })
 
--- What a call is replied, and what the port was asked for it: a refused call is replied by its
--- refusal, an echo by itself, and any other call is asked of the port, with its arguments resolved.
+-- The reply to a call, and what the port performed for it: the reply to a rejected call is its
+-- error, that to an echo is the call itself, and any other call the port performs, with its
+-- arguments resolved.
 abbrev pub RepliesPrepared : Preparation → List Created → List Asked → Replied → Type 0
 RepliesPrepared (refused response) made asked replied = RepliesAlone response asked replied
 RepliesPrepared (ready c) made asked replied =
     cond (is_echo c) (RepliesAlone c asked replied)
     (asked ≡ record { call = c; made = made; replied = replied } ∷ [])
 
--- the same of a call of a request that has come up to here
+-- the reply to a call of a request that has come up to here, and what the port performed for it
 abbrev pub RepliesOne : Bool → Bool → Call → Progress → List Asked → Replied → Type 0
 RepliesOne core mail c before asked replied =
     RepliesPrepared (preparation core mail c before.responses) before.made asked replied
@@ -53,7 +54,7 @@ Answers core mail (c ∷ cs) before asked after =
     × RepliesOne core mail c before first replied
     × Answers core mail cs (after_reply before replied) more after
 
--- ---- of a port that goes from the state s to s' meanwhile
+-- ---- of a port that goes from the state s to s'
 
 -- one call was performed, from one progress to another
 abbrev pub HasPerformed : {S : Type 0} → (S → Call → List Created → Replied → S → Type 0)
@@ -62,14 +63,14 @@ HasPerformed answers s s' core mail c before after =
     (asked : List Asked) × (replied : Replied) × Runs answers s asked s'
     × RepliesOne core mail c before asked replied × (after ≡ after_reply before replied)
 
--- The port is left so by a call that ended out of memory. A call that is not asked of the port
+-- The port is left so by a call that ended out of memory. A call that the port does not perform
 -- leaves it as it was.
 abbrev pub StopsPrepared : {S : Type 0} → (S → Call → List Created → S → Type 0)
     → S → S → Preparation → List Created → Type 0
 StopsPrepared stops s s' (refused response) made = s' ≡ s
 StopsPrepared stops s s' (ready c) made = cond (is_echo c) (s' ≡ s) (stops s c made s')
 
--- the same of a call of a request that has come up to here
+-- the port is left so by a call of a request that has come up to here
 abbrev pub StopsOne : {S : Type 0} → (S → Call → List Created → S → Type 0)
     → S → S → Bool → Bool → Call → Progress → Type 0
 StopsOne stops s s' core mail c before =
@@ -83,8 +84,8 @@ StopsOrPerforms answers stops s s' core mail c before =
     StopsOne stops s s' core mail c before
     ⊎ ((after : Progress) × HasPerformed answers s s' core mail c before after)
 
--- The port is left so where the first of these calls ended out of memory. Where there is no call,
--- it is as it was.
+-- The port is left so if the first of these calls ended out of memory. If there is no call, it is
+-- as it was.
 abbrev pub StopsAtFirst : {S : Type 0} → (S → Call → List Created → S → Type 0)
     → S → S → Bool → Bool → List Call → Progress → Type 0
 StopsAtFirst stops s s' core mail [] before = s' ≡ s

@@ -10,7 +10,7 @@ use Rattle.jm_json.specs.declared.invocation.Replied.{Replied}
 use Rattle.method_batch.specs.Method.{core_capability, mail_capability}
 use Rattle.method_batch.specs.Request.{request_of, problem_in, uses}
 use Rattle.method_batch.specs.Answer.{Asked, Runs, Answers, HasBegunCalls}
-use Rattle.method_batch.specs.declared.limits.TheConstants.{MAX_REQUEST_BYTES}
+use Rattle.jm_base.specs.declared.limits.TheConstants.{MAX_REQUEST_BYTES}
 use Rattle.method_batch.specs.declared.progress.Progress.{Progress}
 use Rattle.method_batch.specs.declared.request.Request.{Request}
 use Rattle.method_batch.specs.declared.outcome.Outcome.{Outcome}
@@ -42,7 +42,7 @@ response_tree shows p =
     ++ (codes "methodResponses", list (trees_of (map call_tree p.responses)))
     ∷ (codes "sessionState", text (codes "0")) ∷ []))
 
--- ---- the problem details of a request that is refused as a whole (RFC 7807)
+-- ---- the problem details of a request that is rejected as a whole (RFC 7807)
 
 abbrev pub problem_type : Problem → List ℕ
 problem_type NotJson = codes "urn:ietf:params:jmap:error:notJSON"
@@ -98,7 +98,7 @@ IsResponse answers s s' r o =
     (beginning r.created) asked after
     × IsReply o 200 (response_tree (is_some r.created) after)
 
--- a request for which there is a problem is refused
+-- a request for which there is a problem is rejected
 abbrev pub IsOutcomeUnless : {S : Type 0} → (S → Call → List Created → Replied → S → Type 0) → S → S
     → Request → Option Problem → Outcome → Type 0
 IsOutcomeUnless answers s s' r None o = IsResponse answers s s' r o

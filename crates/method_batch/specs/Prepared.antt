@@ -5,13 +5,13 @@ use Rattle.std.specs.List.{list_any}
 use Rattle.jm_json.specs.Tree.{Tree}
 use Rattle.jm_json.specs.Find.{as_object}
 use Rattle.jm_json.specs.Call.{Call, error_of}
-use Rattle.jm_json.specs.Invoked.{call_of}
+use Rattle.jm_json.specs.Invocations.{call_of}
 use Rattle.result_refs.specs.References.{Resolution, bad_reference, both, resolved, resolution, is_marked}
 use Rattle.method_batch.specs.Method.{is_allowed}
 use Rattle.method_batch.specs.declared.prepare.Prepared.{Prepared}
 use Rattle.method_batch.specs.declared.prepare.Prepared.TheVariants.{Refused, Ready}
 
--- a call is refused by a response, or it is ready, with its arguments resolved
+-- a call is rejected by a response, or it is ready, with its arguments resolved
 pub data Preparation : Type 0 where
   refused : Call → Preparation
   ready : Call → Preparation

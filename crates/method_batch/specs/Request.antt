@@ -1,4 +1,4 @@
--- The form of a request, and for what a request of this form is refused (RFC 8620, sections 3.3 and
+-- The form of a request, and why a request of this form is rejected (RFC 8620, sections 3.3 and
 -- 3.6.1).
 use Rattle.std.specs.Prelude.{ℕ, List, [], ◌∷◌, length, nat_lt, Bool, cond, Option, Some, None, option_map, option_and_then, codes, bytes_eq}
 use Rattle.std.specs.List.{list_any, list_all}

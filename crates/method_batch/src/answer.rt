@@ -1,11 +1,10 @@
-// The answer to a request: its calls in order, each by the text and the responses up to here, or by the
-// port (RFC 8620, section 3.4).
+// The answer to a request: its calls in order, each by the text and the responses up to here, or by
+// the port (RFC 8620, section 3.4).
 ghost use Rattle.std.specs.Prelude.{Some, IfOk, OnErr};
 ghost use Rattle.jm_json.specs.Json.{tree_of};
 ghost use Rattle.method_batch.specs.Request.{problem_in};
 ghost use Rattle.method_batch.specs.Outcome.{IsOutcome, IsOutcomeBy, IsResponse, IsAnswer, HasBegun, HasBegunBy, HasBegunRequest, HasBegunAnswer};
 
-use crate::limits::MAX_REQUEST_BYTES;
 use crate::method::{CORE, MAIL};
 use crate::outcome::{Outcome, Problem};
 use crate::port::Port;
@@ -13,7 +12,7 @@ use crate::progress::Progress;
 use crate::request::Request;
 use crate::response::response;
 use crate::using::uses;
-use jm_base::NoMemory;
+use jm_base::{MAX_REQUEST_BYTES, NoMemory};
 use jm_json::{Json, ReadFault, Scratch, copy, read_with};
 use std::alloc::Global;
 

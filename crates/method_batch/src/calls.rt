@@ -2,7 +2,7 @@
 ghost use Rattle.std.specs.Prelude.{◌≡◌, IfOk, option_map, option_and_then, map};
 ghost use Rattle.jm_json.specs.Json.{tree_of};
 ghost use Rattle.jm_json.specs.Find.{as_text, as_list, as_object};
-ghost use Rattle.jm_json.specs.Invoked.{call_of};
+ghost use Rattle.jm_json.specs.Invocations.{call_of};
 ghost use Rattle.method_batch.specs.Request.{call_from, call_of_items, call_of_parts, calls_from};
 
 use crate::parts::{into_items, into_text};

@@ -19,6 +19,6 @@ mod tests;
 mod using;
 
 pub use answer::{answer_request, answer_request_with, answer_tree};
-pub use limits::{MAX_CALLS_PER_REQUEST, MAX_REQUEST_BYTES};
+pub use limits::MAX_CALLS_PER_REQUEST;
 pub use outcome::{Outcome, Problem};
 pub use port::Port;

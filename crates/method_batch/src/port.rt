@@ -1,7 +1,7 @@
 // What answers the methods of a request.
 ghost use Rattle.std.specs.Prelude.{◌≡◌, List, IfOk, OnErr};
 ghost use Rattle.jm_json.specs.Call.{Call};
-ghost use Rattle.jm_json.specs.Invoked.{call_of};
+ghost use Rattle.jm_json.specs.Invocations.{call_of};
 ghost use Rattle.jm_json.specs.declared.invocation.Created.{Created};
 ghost use Rattle.jm_json.specs.declared.invocation.Replied.{Replied};
 
@@ -12,8 +12,8 @@ use std::alloc::Global;
 /// What answers the methods of a request. Its meaning is two relations between states: one for a
 /// call that is answered, and one for a call that ends out of memory.
 pub trait Port: Drop {
-    /// In the first state this call, with what the request has created up to here, may be answered by
-    /// this reply, which leaves the second state.
+    /// In the first state this call, with what the request has created up to here, may be answered
+    /// by this reply, which leaves the second state.
     ghost answers: { Self → Call → List Created → Replied → Self → Type 0 };
 
     /// In the first state this call, with what the request has created up to here, may end out of

@@ -1,6 +1,6 @@
 // How far a request has come: its calls are performed one after the other.
 ghost use Rattle.std.specs.Prelude.{◌≡◌, List, IfOk, OnOk, OnErr};
-ghost use Rattle.jm_json.specs.Invoked.{call_of};
+ghost use Rattle.jm_json.specs.Invocations.{call_of};
 
 use crate::port::Port;
 use crate::reply::reply;

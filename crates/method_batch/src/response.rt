@@ -1,7 +1,7 @@
 // The Response to a request as a tree (RFC 8620, section 3.4).
 ghost use Rattle.std.specs.Prelude.{◌≡◌, IfOk, List, Bool, map};
 ghost use Rattle.jm_json.specs.Json.{tree_of};
-ghost use Rattle.jm_json.specs.Invoked.{call_of};
+ghost use Rattle.jm_json.specs.Invocations.{call_of};
 ghost use Rattle.method_batch.specs.Outcome.{call_tree, created_member, response_tree};
 
 use crate::created::id_members;

@@ -1,5 +1,5 @@
--- Base64 (RFC 2045, 6.8): characters outside the alphabet are ignored, the data end at the first
--- equals sign, and bits that fill no byte are dropped.
+-- Base64 (RFC 2045, section 6.8): characters outside the alphabet are ignored, the data end at the
+-- first equals sign, and bits that fill no byte are dropped.
 use Rattle.std.specs.Prelude.{ℕ, ◌+◌, ◌-◌, ◌*◌, ◌/◌, ◌%◌, ◌==◌, List, [], ◌∷◌, Option, None, Some, if◌then◌else◌}
 use Rattle.mime_codec.specs.Quoted.{is_between}
 

@@ -1,4 +1,4 @@
--- Quoted-printable (RFC 2045, 6.7).
+-- Quoted-printable (RFC 2045, section 6.7).
 use Rattle.std.specs.Prelude.{ℕ, ◌+◌, ◌-◌, ◌*◌, Bool, ◌&&◌, ◌||◌, ◌==◌, nat_le, List, [], ◌∷◌, ◌++◌, length, get_or, take, drop, if◌then◌else◌}
 use Rattle.std.specs.List.{flat_map, suffix_len}
 use Rattle.mime_lines.specs.Lines.{lines, text, is_blank}
@@ -18,7 +18,8 @@ hex_value b = if is_between 48 57 b then b - 48 else (if is_between 65 70 b then
 abbrev pub is_escape : ℕ → ℕ → ℕ → Bool
 is_escape b high low = b == 61 && (is_hex high && is_hex low)
 
--- the text with its escapes in place of the bytes that they name; all else, a bad escape too, stays
+-- the text with each escape replaced by the byte that it names; all else, an invalid escape too,
+-- stays
 abbrev pub unescaped : List ℕ → List ℕ
 unescaped [] = []
 unescaped (b ∷ []) = b ∷ []
@@ -27,7 +28,7 @@ unescaped (b ∷ c ∷ d ∷ bs) =
     if is_escape b c d then (16 * hex_value c + hex_value d) ∷ unescaped bs
     else b ∷ unescaped (c ∷ d ∷ bs)
 
--- without the blanks at the end
+-- without the spaces and tabs at the end
 abbrev pub without_end_blanks : List ℕ → List ℕ
 without_end_blanks xs = take (length xs - suffix_len is_blank xs) xs
 

@@ -1,4 +1,4 @@
-// The transfer codings, and the one call that undoes them.
+// The transfer encodings (RFC 2045, section 6), and the one call that decodes them.
 ghost use Rattle.std.specs.Prelude.{◌≡◌, IfOk};
 ghost use Rattle.mime_codec.specs.Decoded.{decoded};
 
@@ -7,7 +7,7 @@ use crate::quoted::decode_quoted;
 use jm_base::{Bytes, NoMemory};
 use std::alloc::Global;
 
-/// How the body of a part is written (RFC 2045, section 6.1).
+/// The transfer encoding of a body part (Content-Transfer-Encoding; RFC 2045, section 6.1).
 #[derive(Clone, Copy, Debug, PartialEq, Eq)]
 pub enum Coding {
     /// As it is: `7bit`, `8bit`, `binary`, or no name at all.
@@ -16,11 +16,12 @@ pub enum Coding {
     Quoted,
     /// `base64`.
     Base64,
-    /// By a name that isn't known: the bytes stay as they are.
+    /// A transfer encoding whose name isn't known: the bytes stay as they are.
     Unknown,
 }
 
-/// The bytes that `bytes` encode in this coding.
+/// Returns the bytes that `bytes` encode in this transfer encoding. It fails only if memory runs
+/// out.
 pub fn decode(alloc: Global, coding: Coding, bytes: &[u8]) -> Result<Bytes, NoMemory>
     ensures { IfOk result (λ out. out ≡ decoded coding bytes.now) }
 {

@@ -1,6 +1,6 @@
 //! Transfer encodings: the bytes that the body of a message part encodes (RFC 2045, section 6).
 //!
-//! [`decode`] refuses no input. What a strict decoder would call an error is read as
+//! [`decode`] rejects no input. What a strict decoder would call an error is read as
 //! `specs/Quoted.antt` and `specs/Base64.antt` say.
 #![tactic(auto)]
 

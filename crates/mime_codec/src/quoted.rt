@@ -15,7 +15,7 @@ fn is_digit(byte: u8) -> bool
     (48 <= byte && byte <= 57) || (65 <= byte && byte <= 70) || (97 <= byte && byte <= 102)
 }
 
-/// The value of a hexadecimal digit in either case.
+/// Returns the value of a hexadecimal digit, in either case.
 fn digit(byte: u8) -> u8
     requires { is_hex byte ≡ true }
     ensures value { result ≡ hex_value byte }
@@ -37,7 +37,7 @@ pub struct First<'a> {
     pub rest: &'a [u8],
 }
 
-/// The byte of the escape at the start, or the first byte itself, and the text after it.
+/// Reads the byte of the escape at the start, or else the first byte itself, and the text after it.
 pub fn split_first(text: &[u8]) -> First<'_>
     requires { 0 < length text.now }
     ensures value { unescaped text.now ≡ result.byte ∷ unescaped result.rest.now }
@@ -55,7 +55,7 @@ pub fn split_first(text: &[u8]) -> First<'_>
     }
 }
 
-/// The text before the first equals sign, and the text from it on.
+/// Splits a text before its first equals sign.
 fn split_run(text: &[u8]) -> (&[u8], &[u8])
     ensures value { unescaped text.now ≡ result.0.now ++ unescaped result.1.now }
     ensures size { length result.0.now + length result.1.now ≡ length text.now }
@@ -66,11 +66,12 @@ fn split_run(text: &[u8]) -> (&[u8], &[u8])
     }
 }
 
-/// Adds the first byte that a text encodes, if there is one, and gives the text after it.
+/// Adds the first byte that a text encodes, if there is one, and returns the text after it.
 fn push_first<'a>(out: &mut Vec<u8>, text: &'a [u8]) -> Result<&'a [u8], NoMemory>
     ensures value { IfOk result (λ rest. out.new.items ++ unescaped rest.now ≡ out.old.items
         ++ unescaped text.now) }
-    ensures shorter { IfOk result (λ rest. 0 < length text.now → length rest.now < length text.now) }
+    ensures shorter { IfOk result
+        (λ rest. 0 < length text.now → length rest.now < length text.now) }
     ensures within { IfOk result (λ rest. length rest.now ≤ length text.now) }
 {
     if text.is_empty() {
@@ -81,7 +82,7 @@ fn push_first<'a>(out: &mut Vec<u8>, text: &'a [u8]) -> Result<&'a [u8], NoMemor
     Ok(first.rest)
 }
 
-/// Adds what a text encodes, its escapes put in place of the bytes that they name.
+/// Adds what a text encodes: each escape is replaced by the byte that it names.
 fn push_unescaped(out: &mut Vec<u8>, text: &[u8]) -> Result<(), NoMemory>
     ensures { OnOk result (out.new.items ≡ out.old.items ++ unescaped text.now) }
 {
@@ -94,8 +95,9 @@ fn push_unescaped(out: &mut Vec<u8>, text: &[u8]) -> Result<(), NoMemory>
     Ok(())
 }
 
-/// The text with each escape of `=` and two hexadecimal digits put in place of the byte that it
-/// names. All else stays, bad escapes too. Lines and white space mean nothing here.
+/// Returns the text with each escape, `=` and two hexadecimal digits, replaced by the byte that it
+/// names. All else stays, invalid escapes too; lines and white space have no meaning here. It fails
+/// only if memory runs out.
 pub fn unescape(alloc: Global, text: &[u8]) -> Result<Bytes, NoMemory>
     ensures { IfOk result (λ out. out ≡ unescaped text.now) }
 {
@@ -110,7 +112,7 @@ fn is_blank_byte(byte: u8) -> bool
     byte == b' ' || byte == b'\t'
 }
 
-/// The text without the spaces and tabs at its end.
+/// Returns the text without the spaces and tabs at its end.
 pub fn trim_end(text: &[u8]) -> &[u8]
     ensures { result.now ≡ without_end_blanks text.now }
 {
@@ -121,7 +123,8 @@ pub fn trim_end(text: &[u8]) -> &[u8]
     &text[..len]
 }
 
-/// Adds what a line encodes, of which this text is left, and which ends so.
+/// Adds what a line encodes whose text, without the white space at its end, is `text`, and whose
+/// line end is `end`.
 fn push_text(out: &mut Vec<u8>, text: &[u8], end: &[u8]) -> Result<(), NoMemory>
     ensures { OnOk result (out.new.items ≡ out.old.items ++ text_with_end text.now end.now) }
 {
@@ -141,7 +144,7 @@ fn push_line(out: &mut Vec<u8>, line: &[u8]) -> Result<(), NoMemory>
     push_text(out, trim_end(text), end)
 }
 
-/// The bytes that quoted-printable encodes.
+/// Returns the bytes that quoted-printable encodes.
 pub fn decode_quoted(alloc: Global, bytes: &[u8]) -> Result<Vec<u8>, NoMemory>
     ensures { IfOk result (λ out. out.items ≡ quoted_printable bytes.now) }
 {

@@ -1,4 +1,4 @@
-// How many bytes a body encodes, found without making them.
+// How many bytes a body encodes, found without decoding it.
 ghost use Rattle.std.specs.Prelude.{◌≡◌, ◌≤◌, ◌<◌, ◌+◌, ◌^◌, List, ℕ, length};
 ghost use Rattle.mime_codec.specs.Base64.{letter, with_letter, letters, base64};
 ghost use Rattle.mime_codec.specs.Decoded.{decoded};
@@ -9,7 +9,7 @@ use crate::coding::Coding;
 use crate::quoted::{split_first, trim_end};
 use mime_lines::{split_line, text_len};
 
-/// How many letters a character is: one, or none where it isn't of the alphabet.
+/// Returns how many letters of base64 a character is: one, or none if it isn't of the alphabet.
 fn letters_of(byte: u8) -> usize
     ensures value { (later : List ℕ) → length (with_letter (letter byte) later) ≡ result
         + length later }
@@ -18,7 +18,7 @@ fn letters_of(byte: u8) -> usize
     if six_bits(byte) == NO_LETTER { 0 } else { 1 }
 }
 
-/// How many letters stand before the first equals sign.
+/// Returns how many letters of base64 are before the first equals sign.
 fn count_letters(bytes: &[u8]) -> usize
     ensures value { result ≡ length (letters bytes.now) }
     ensures within { result ≤ length bytes.now }
@@ -41,7 +41,7 @@ fn base64_size(bytes: &[u8]) -> usize
     count / 4 * 3 + (count % 4) * 3 / 4
 }
 
-/// How many bytes a text encodes, its escapes counted as one each.
+/// Returns how many bytes a text encodes: each escape is one.
 fn unescaped_size(text: &[u8]) -> usize
     ensures value { result ≡ length (unescaped text.now) }
     ensures within { result ≤ length text.now }
@@ -89,7 +89,8 @@ fn quoted_size(bytes: &[u8]) -> usize
     size
 }
 
-/// How many bytes `bytes` encode in this coding: no more than they are. It takes no memory.
+/// Returns how many bytes `bytes` encode in this transfer encoding: no more than they are. It
+/// allocates nothing.
 pub fn decoded_size(coding: Coding, bytes: &[u8]) -> u64
     ensures value { result ≡ length (decoded coding bytes.now) }
     ensures within { result ≤ length bytes.now }

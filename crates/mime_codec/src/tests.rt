@@ -1,5 +1,5 @@
-// Tables of both codings. The values of escapes and of base64 are those of Python's `quopri` and
-// `base64`.
+// Tables of both transfer encodings. The values of escapes and of base64 are those of Python's
+// `quopri` and `base64`.
 use crate::{Coding, decode, decoded_size, unescape};
 use std::alloc::Global;
 
@@ -66,7 +66,7 @@ fn base64_letters(rt: HostRuntime) {
 #[test]
 fn base64_of_stray_mail(rt: HostRuntime) {
     let alloc = rt.alloc();
-    // Characters outside the alphabet, and the want of padding.
+    // Characters outside the alphabet, and missing padding.
     assert!(rt; base64(alloc, b"Zm\r\n 9*v-Yg", b"foob"));
     // The data end at the first equals sign.
     assert!(rt; base64(alloc, b"Zg==Zm8=", b"f"));

@@ -1,4 +1,4 @@
--- The pieces that a cut gives are pieces of the message's bytes, at their places.
+-- The pieces that a cut gives are pieces of the message's bytes, at their byte offsets.
 use Rattle.std.proofs.Common.{◌≡◌, ℕ, ◌+◌, true, false, cond, List, [], ◌∷◌, ◌++◌, length, drop, refl, ap, sym, subst, ◌∙◌, append_assoc}
 use Rattle.std.proofs.lemmas.List.{take-append-drop, drop_at, drop-drop, append-nil}
 use Rattle.std.proofs.lemmas.Bool.{true≢false}
@@ -7,7 +7,7 @@ use Rattle.mime_lines.specs.Lines.{lines, text}
 use Rattle.mime_cut.specs.declared.line_kind.LineKind.TheVariants.{Other, DelimiterLine, CloseDelimiter}
 use Rattle.mime_cut.specs.DelimiterLines.{line_kind, by_line_kind}
 use Rattle.mime_cut.specs.Cut.{Piece, piece, grown, is_delimiter_next, pieces, cut}
-use Rattle.mime_cut.specs.HasBytesAt.{HasBytesAt, HasPieces}
+use Rattle.mime_cut.specs.Pieces.{HasBytesAt, HasPieces}
 use Rattle.mime_lines.proofs.ReadFacts.{text_front, concat_lines}
 
 reads_front : (m : List ℕ) (at : ℕ) (xs ys : List ℕ) → HasBytesAt m at (xs ++ ys) → HasBytesAt m at xs

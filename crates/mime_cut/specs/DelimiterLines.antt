@@ -1,30 +1,31 @@
--- What a line is to a multipart's boundary (RFC 2046, section 5.1.1).
-use Rattle.std.specs.Prelude.{ℕ, Bool, false, ◌==◌, List, [], ◌∷◌, ◌++◌, Option, None, Some, if◌then◌else◌}
+-- What a line is to a multipart's boundary: a delimiter line, a close-delimiter or another line
+-- (RFC 2046, section 5.1.1).
+use Rattle.std.specs.Prelude.{ℕ, Bool, false, ◌==◌, List, [], ◌∷◌, ◌++◌, Option, None, Some, codes, if◌then◌else◌}
 use Rattle.std.specs.List.{list_all}
 use Rattle.mime_lines.specs.Lines.{text, is_blank}
 use Rattle.mime_cut.specs.declared.line_kind.LineKind.{LineKind}
 use Rattle.mime_cut.specs.declared.line_kind.LineKind.TheVariants.{Other, DelimiterLine, CloseDelimiter}
 
--- what follows a front, if the bytes begin with it
+-- what follows a prefix, if the bytes begin with it
 abbrev pub after_prefix : List ℕ → List ℕ → Option (List ℕ)
 after_prefix [] bytes = Some bytes
 after_prefix (f ∷ fs) [] = None
 after_prefix (f ∷ fs) (b ∷ bs) = if b == f then after_prefix fs bs else None
 
+-- nothing but transport padding: spaces and tabs (RFC 2046, section 5.1.1)
 abbrev pub is_blank_only : Option (List ℕ) → Bool
 is_blank_only None = false
 is_blank_only (Some rest) = list_all is_blank rest
 
--- whether a text is this front, and white space alone after it
+-- this prefix, followed by transport padding alone (RFC 2046, section 5.1.1)
 abbrev pub is_prefix_with_padding : List ℕ → List ℕ → Bool
-is_prefix_with_padding front text = is_blank_only (after_prefix front text)
+is_prefix_with_padding prefix text = is_blank_only (after_prefix prefix text)
 
 abbrev pub dashes : List ℕ
-dashes = 45 ∷ 45 ∷ []
+dashes = codes "--"
 
--- A delimiter is two dashes and the boundary; two dashes after these make it the one that closes.
--- White space alone may follow on the line: a line where the boundary continues otherwise is no
--- delimiter.
+-- A delimiter line is two dashes and the boundary; a close-delimiter is these and two dashes more.
+-- Transport padding alone may follow: a line on which anything else follows is neither.
 abbrev pub line_kind : List ℕ → List ℕ → LineKind
 line_kind boundary line =
     if is_prefix_with_padding (dashes ++ boundary) (text line) then DelimiterLine

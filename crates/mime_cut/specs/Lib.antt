@@ -1,4 +1,4 @@
 pub mod DelimiterLines
 pub mod Cut
 pub mod UpToDelimiter
-pub mod HasBytesAt
+pub mod Pieces

@@ -1,5 +1,6 @@
--- The lines up to the first delimiter and that line itself: how many bytes stand before it, its
--- line end left out, how many with it, and what it is. Without a delimiter both are all bytes.
+-- The lines up to the first delimiter line or close-delimiter, and that line itself: how many bytes
+-- are before it, the line end before it left out; how many there are with it; and what it is.
+-- Without such a line both counts are of all bytes.
 use Rattle.std.specs.Prelude.{ℕ, ◌+◌, List, [], ◌∷◌, length}
 use Rattle.mime_lines.specs.Lines.{text}
 use Rattle.mime_cut.specs.DelimiterLines.{line_kind, by_line_kind}
@@ -19,7 +20,7 @@ up_to_delimiter boundary before size (l ∷ ls) =
     (record { before = before; size = size + length l; kind = DelimiterLine })
     (record { before = before; size = size + length l; kind = CloseDelimiter })
 
--- the lines after it
+-- the lines after that line
 abbrev pub lines_after : List ℕ → List (List ℕ) → List (List ℕ)
 lines_after boundary [] = []
 lines_after boundary (l ∷ ls) = by_line_kind (line_kind boundary l) (lines_after boundary ls) ls ls

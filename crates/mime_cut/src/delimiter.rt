@@ -1,4 +1,4 @@
-// Finds the next delimiter in one pass over the lines.
+// The next delimiter line of a multipart's body, found in one pass over its lines.
 ghost use Rattle.std.specs.Prelude.{◌≡◌, ◌≤◌, ◌<◌, ◌+◌, ◌∷◌, ℕ, drop, take, length};
 ghost use Rattle.mime_lines.specs.Lines.{lines};
 ghost use Rattle.mime_cut.specs.Cut.{pieces, cut, piece, after_line};
@@ -7,20 +7,20 @@ ghost use Rattle.mime_cut.specs.UpToDelimiter.{UpToDelimiter, up_to_delimiter, l
 use crate::line_kind::{LineKind, read_line_kind};
 use mime_lines::{split_line, text_len};
 
-/// A delimiter in some bytes, or their end where none comes.
+/// The first delimiter line or close-delimiter in some bytes, or their end if there is none.
 #[derive(Clone, Copy, Debug)]
 pub struct Delimiter<'a> {
-    /// How many bytes stand before it; the line end before its line belongs to it.
+    /// How many bytes are before it; the line end before its line belongs to it.
     pub before: usize,
     /// How many bytes there are up to the end of its line.
     pub size: usize,
-    /// What it is: plain where none comes.
+    /// What it is; `Other` if there is none.
     pub kind: LineKind,
-    /// What follows its line.
+    /// The bytes after its line.
     pub rest: &'a [u8],
 }
 
-/// Goes over the lines up to the next delimiter.
+/// Reads the lines up to the next delimiter line or close-delimiter.
 fn scan<'a>(boundary: &[u8], bytes: &'a [u8]) -> Delimiter<'a>
     ensures before { result.before ≡ (up_to_delimiter boundary.now 0 0 (lines bytes.now)).before }
     ensures size { result.size ≡ (up_to_delimiter boundary.now 0 0 (lines bytes.now)).size }
@@ -61,13 +61,13 @@ fn scan<'a>(boundary: &[u8], bytes: &'a [u8]) -> Delimiter<'a>
     }
 }
 
-/// Finds the next delimiter in one pass over the lines.
+/// Finds the next delimiter line or close-delimiter in one pass over the lines.
 pub fn next_delimiter<'a>(boundary: &[u8], bytes: &'a [u8]) -> Delimiter<'a>
-    // After a delimiter the first piece ends before the next, and the others follow that.
+    // After a delimiter line the first piece ends before the next one, and the others follow that.
     ensures pieces { (start : ℕ) → pieces boundary.now start (lines bytes.now)
         ≡ piece start (take result.before bytes.now)
         ∷ after_line boundary.now result.kind (start + result.size) (lines result.rest.now) }
-    // Before the first delimiter there is none.
+    // Before the first delimiter line there is no piece.
     ensures cut { (start : ℕ) → cut boundary.now start (lines bytes.now)
         ≡ after_line boundary.now result.kind (start + result.size) (lines result.rest.now) }
     ensures rest { result.rest.now ≡ drop result.size bytes.now }

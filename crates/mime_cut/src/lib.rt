@@ -1,7 +1,7 @@
-//! The cut of a multipart's body at its delimiters (RFC 2046, section 5.1.1).
+//! The cut of a multipart's body at its delimiter lines (RFC 2046, section 5.1.1).
 //!
-//! [`next_delimiter`] finds one delimiter at a time, so that a caller stops where it has enough
-//! parts. Nothing is copied.
+//! [`next_delimiter`] finds one delimiter line at a time, so that a caller stops when it has enough
+//! parts. No call copies bytes.
 #![tactic(auto)]
 
 mod delimiter;

@@ -1,4 +1,4 @@
-// What a line is to a multipart's boundary.
+// What a line is to a multipart's boundary (RFC 2046, section 5.1.1).
 ghost use Rattle.std.specs.Prelude.{◌≡◌, ◌++◌, None, Some, MatchOption};
 ghost use Rattle.std.specs.List.{list_all};
 ghost use Rattle.mime_lines.specs.Lines.{is_blank};
@@ -6,26 +6,28 @@ ghost use Rattle.mime_cut.specs.DelimiterLines.{after_prefix, dashes, kind_by_re
 
 use mime_lines::text_len;
 
-/// What a line is to a boundary.
+/// What a line is to a boundary (RFC 2046, section 5.1.1). A delimiter line and a close-delimiter
+/// may end with transport padding: spaces and tabs.
 #[derive(Clone, Copy, Debug, PartialEq, Eq)]
 pub enum LineKind {
-    /// No delimiter.
+    /// Neither of the two.
     Other,
-    /// A delimiter, after which a part begins.
+    /// A delimiter line: two dashes and the boundary. A body part begins after it.
     DelimiterLine,
-    /// The delimiter after which nothing counts.
+    /// A close-delimiter: two dashes, the boundary and two dashes. What follows it is the epilogue,
+    /// which is ignored.
     CloseDelimiter,
 }
 
-/// What follows a front.
-fn strip<'a>(front: &[u8], bytes: &'a [u8]) -> Option<&'a [u8]>
-    ensures { MatchOption result (after_prefix front.now bytes.now ≡ None)
-        (λ x. after_prefix front.now bytes.now ≡ Some x.now) }
+/// Returns the bytes after a prefix; none if the bytes don't begin with it.
+fn strip<'a>(prefix: &[u8], bytes: &'a [u8]) -> Option<&'a [u8]>
+    ensures { MatchOption result (after_prefix prefix.now bytes.now ≡ None)
+        (λ x. after_prefix prefix.now bytes.now ≡ Some x.now) }
 {
-    bytes.strip_prefix(front)
+    bytes.strip_prefix(prefix)
 }
 
-/// What follows two dashes and the boundary.
+/// Returns the bytes after two dashes and the boundary; none if the text doesn't begin with these.
 fn strip_boundary<'a>(boundary: &[u8], text: &'a [u8]) -> Option<&'a [u8]>
     ensures { MatchOption result (after_prefix (dashes ++ boundary.now) text.now ≡ None)
         (λ x. after_prefix (dashes ++ boundary.now) text.now ≡ Some x.now) }
@@ -36,14 +38,15 @@ fn strip_boundary<'a>(boundary: &[u8], text: &'a [u8]) -> Option<&'a [u8]>
     }
 }
 
-/// Whether there is nothing but space and tab.
+/// Returns whether there is nothing but transport padding: spaces and tabs (RFC 2046, section
+/// 5.1.1).
 fn is_blank_only(bytes: &[u8]) -> bool
     ensures { result ≡ list_all is_blank bytes.now }
 {
     bytes.iter().all(|byte| *byte == b' ' || *byte == b'\t')
 }
 
-/// What a line is, by what follows its dashes and boundary.
+/// Returns what a line is, by what follows its dashes and boundary.
 fn read_kind_by_rest(rest: &[u8]) -> LineKind
     ensures { result ≡ kind_by_rest rest.now }
 {
@@ -56,7 +59,7 @@ fn read_kind_by_rest(rest: &[u8]) -> LineKind
     }
 }
 
-/// What the line is to the boundary.
+/// Returns what the line is to the boundary.
 pub fn read_line_kind(boundary: &[u8], line: &[u8]) -> LineKind
     ensures { result ≡ line_kind boundary.now line.now }
 {

@@ -22,22 +22,22 @@ fn pieces(alloc: Global, boundary: &[u8], body: &[u8]) -> Result<Vec<u8>, AllocE
 #[test]
 fn bodies_of_multiparts(rt: HostRuntime) -> Result<(), Fail> {
     let table: [(&[u8], &[u8]); 14] = [
-        // Without a delimiter there is no piece.
+        // Without a delimiter line there is no piece.
         (b"", b""),
         (b"x\n --a\n--A\n--a x\n-a\na\n", b""),
         // White space alone may follow the boundary.
         (b"--a\n\none\n--ab\n--a \n\ntwo", b"\none\n--ab|\ntwo|"),
         (b"--a\t \nx\n--a-- \t\ny", b"x|"),
         (b"--a\nx\n--a--y\n--a- -\n", b"x\n--a--y\n--a- -\n|"),
-        // Lines before the first delimiter and after the close are left out.
+        // The preamble and the epilogue are left out.
         (b"x\r\n--a\r\ny\r\n--a--\r\nz\r\n--a\r\nz", b"y|"),
         (b"--a--\n--a\nx", b""),
-        // The line end before a delimiter belongs to it, and no more than that.
+        // The line end before a delimiter line belongs to that line, and no more than that.
         (b"--a\n\n\n--a--", b"\n|"),
         (b"--a\nx\r\r\n--a--", b"x\r|"),
         (b"--a\nx\n\r\n--a--", b"x\n|"),
         (b"--a\n--a\n--a--", b"||"),
-        // Without a close the last piece ends with the body.
+        // Without a close-delimiter the last piece ends with the body.
         (b"--a\nx\n", b"x\n|"),
         (b"--a\nx\n--a", b"x||"),
         (b"--a", b"|"),

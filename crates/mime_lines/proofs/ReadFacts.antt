@@ -1,14 +1,14 @@
--- What is at a field's places is what its lines say.
+-- What is at a field's byte offsets is what its lines say.
 use Rattle.std.proofs.Common.{◌≡◌, ℕ, zero, suc, ◌+◌, ◌-◌, ◌<◌, ◌≤◌, true, false, cond, eqb, List, [], ◌∷◌, ◌++◌, length, take, drop, map, refl, ap, sym, ◌∙◌, arith, append_assoc, length-drop}
 use Rattle.std.specs.List.{concat, onto_first}
 use Rattle.std.proofs.lemmas.List.{take-append-drop, drop_at, drop-drop, take-append-le, take_at}
 use Rattle.mime_lines.specs.Lines.{lines, text, is_line_end}
 use Rattle.mime_lines.specs.Fields.{header, joined, next_goes_on, onto_next, name_len, is_field, span_of, spans, fields_of}
-use Rattle.mime_lines.specs.Named.{name_in, value_in}
-use Rattle.mime_lines.specs.Read.{FieldText, text_of, texts_of, field_texts, read_at}
+use Rattle.mime_lines.specs.FieldOffsets.{name_in, value_in}
+use Rattle.mime_lines.specs.FieldTexts.{FieldText, field_text_of, field_texts_of, field_texts, read_at}
 use Rattle.mime_lines.proofs.SpanFacts.{text-le, colon_of_field}
 
--- the text of a line is its front
+-- the text of a line is a prefix of it
 pub text_front : (l : List ℕ) → take (length (text l)) l ≡ text l
 text_front [] = refl
 text_front (b ∷ bs) = elim (is_line_end (b ∷ bs)) as (λ v. take (length (cond v [] (b ∷ text bs))) (b ∷ bs) ≡ cond v [] (b ∷ text bs)) [
@@ -56,7 +56,7 @@ abbrev text_field : List ℕ → List ℕ → FieldText
 text_field name value = record { name = name; value = value }
 
 -- one field
-read_one : (bytes l more : List ℕ) (at : ℕ) → drop at bytes ≡ l ++ more → is_field l ≡ true → read_at bytes (span_of at l) ≡ text_of l
+read_one : (bytes l more : List ℕ) (at : ℕ) → drop at bytes ≡ l ++ more → is_field l ≡ true → read_at bytes (span_of at l) ≡ field_text_of l
 read_one bytes l more at e f =
     let n = name_len l in
     let t = text l in
@@ -78,15 +78,15 @@ read_one bytes l more at e f =
     ∙ take_at (drop (n + 1) t) rest (length t - (n + 1)) left in
     ap (λ x. text_field x (value_in bytes (span_of at l))) named ∙ ap (text_field (take n l)) valued
 
-read_all : (bytes more : List ℕ) (at : ℕ) (ls : List (List ℕ)) → drop at bytes ≡ concat ls ++ more → map (read_at bytes) (spans at ls) ≡ texts_of ls
+read_all : (bytes more : List ℕ) (at : ℕ) (ls : List (List ℕ)) → drop at bytes ≡ concat ls ++ more → map (read_at bytes) (spans at ls) ≡ field_texts_of ls
 read_all bytes more at [] e = refl
 read_all bytes more at (l ∷ ls) e =
     let first : drop at bytes ≡ l ++ (concat ls ++ more) = e ∙ append_assoc l (concat ls) more in
     let rest : drop (at + length l) bytes ≡ concat ls ++ more =
     sym (drop-drop (length l) at bytes) ∙ ap (drop (length l)) first ∙ drop_at l (concat ls ++ more) (length l) refl in
     let later = read_all bytes more (at + length l) ls rest in
-    elim (is_field l) as (λ v. is_field l ≡ v → map (read_at bytes) (cond v (span_of at l ∷ spans (at + length l) ls) (spans (at + length l) ls)) ≡ cond v (text_of l ∷ texts_of ls) (texts_of ls)) [
-      | true ↦ λ f. ap (λ x. x ∷ map (read_at bytes) (spans (at + length l) ls)) (read_one bytes l (concat ls ++ more) at first f) ∙ ap (λ x. text_of l ∷ x) later
+    elim (is_field l) as (λ v. is_field l ≡ v → map (read_at bytes) (cond v (span_of at l ∷ spans (at + length l) ls) (spans (at + length l) ls)) ≡ cond v (field_text_of l ∷ field_texts_of ls) (field_texts_of ls)) [
+      | true ↦ λ f. ap (λ x. x ∷ map (read_at bytes) (spans (at + length l) ls)) (read_one bytes l (concat ls ++ more) at first f) ∙ ap (λ x. field_text_of l ∷ x) later
       | false ↦ λ _. later
     ] refl
 

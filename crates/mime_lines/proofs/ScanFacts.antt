@@ -7,7 +7,7 @@ use Rattle.mime_lines.specs.Lines.{is_line_end}
 use Rattle.mime_lines.specs.Fields.{goes_on, onto_next, header, body_at, joined, is_field, span_of, spans}
 use Rattle.mime_lines.specs.Scan.{followers, others}
 
--- a front that takes in a line
+-- a prefix that takes in a line
 pub front_more : (rest left line more : List ℕ) (n : ℕ) → n + length left ≡ length rest → left ≡ drop n rest → left ≡ line ++ more
     → (take (n + length line) rest ≡ take n rest ++ line) × (more ≡ drop (n + length line) rest)
 front_more rest left line more n size is whole =

@@ -1,4 +1,4 @@
--- The places of each field lie in the bytes.
+-- The byte offsets of each field are within the bytes.
 use Rattle.std.proofs.Common.{◌≡◌, ℕ, zero, suc, ◌+◌, ◌<◌, ◌≤◌, Bool, true, false, cond, eqb, ◌&&◌, ltb, eqb-true, List, [], ◌∷◌, ◌++◌, length, get_or, refl, ap, sym, ◌∙◌, subst, arith, length-append}
 use Rattle.std.specs.List.{All, onto_first}
 use Rattle.std.proofs.lemmas.Bool.{true≢false}
@@ -7,7 +7,7 @@ use Rattle.std.proofs.lemmas.List.Elements.{All-nil, All-cons}
 use Rattle.mime_lines.specs.declared.field.Field.{Field}
 use Rattle.mime_lines.specs.Lines.{lines, is_line_end, text}
 use Rattle.mime_lines.specs.Fields.{body_at, body_of, header, next_goes_on, onto_next, joined, name_len, is_field, span_of, spans, fields_of}
-use Rattle.mime_lines.specs.Named.{IsWithin}
+use Rattle.mime_lines.specs.FieldOffsets.{IsWithin}
 
 -- how many bytes some lines have
 abbrev pub size : List (List ℕ) → ℕ
@@ -47,7 +47,7 @@ and_false : (p : Bool) → (p && false) ≡ false
 and_false true = refl
 and_false false = refl
 
--- a colon stands before the line end at the end
+-- a colon is before the line end at the end
 colon_in_text : (l : List ℕ) (i : ℕ) → get_or l i 0 ≡ 58 → i < length (text l)
 colon_in_text [] i h = absurd (omega arith)
 colon_in_text (b ∷ []) zero h = rw h (omega arith)
@@ -74,7 +74,7 @@ colon_of_field l f =
     let colon : get_or l (name_len l) 0 ≡ 58 = eqb-true _ _ (and_right (ltb 0 (name_len l)) (eqb (get_or l (name_len l) 0) 58) f) in
     colon_in_text l (name_len l) colon
 
--- a field's places lie in the bytes, as its lines do
+-- a field's offsets are within the bytes, as its lines are
 span_within : (bytes l : List ℕ) (at : ℕ) → at + length l ≤ length bytes → is_field l ≡ true → IsWithin bytes (span_of at l)
 span_within bytes l at h f =
     let inside : name_len l < length (text l) = colon_of_field l f in
@@ -97,14 +97,14 @@ pub fields_within : (bytes : List ℕ) → All (IsWithin bytes) (fields_of bytes
 fields_within bytes = spans_within bytes 0 (joined (header (lines bytes)))
     (omega (arith, size_joined (header (lines bytes)), size_header (lines bytes), size_lines bytes))
 
--- so do the places of the first of them
+-- so are the offsets of the first of them
 pub first_within : (bytes : List ℕ) (first more : List Field) → first ++ more ≡ fields_of bytes → All (IsWithin bytes) first
 first_within bytes first more e k d low =
     let longer : k < length (first ++ more) = omega (arith, length-append first more) in
     let all : All (IsWithin bytes) (first ++ more) = subst (All (IsWithin bytes)) (sym e) (fields_within bytes) in
     subst (IsWithin bytes) (get_or_append_left first more d k low) (all k d longer)
 
--- so does the place where the body begins
+-- so is the offset where the body begins
 body_inside : (at : ℕ) (ls : List (List ℕ)) → body_at at ls ≤ at + size ls
 body_inside at [] = omega arith
 body_inside at (l ∷ ls) = elim (is_line_end l) as (λ v. cond v (at + length l) (body_at (at + length l) ls) ≤ at + (length l + size ls)) [

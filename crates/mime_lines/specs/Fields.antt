@@ -9,7 +9,7 @@ abbrev pub header : List (List ℕ) → List (List ℕ)
 header [] = []
 header (l ∷ ls) = if is_line_end l then [] else l ∷ header ls
 
--- where the lines after the first empty one begin, if these begin at `at`
+-- the byte offset after the first empty line, if the lines begin at `at`
 abbrev pub body_at : ℕ → List (List ℕ) → ℕ
 body_at at [] = at
 body_at at (l ∷ ls) = if is_line_end l then at + length l else body_at (at + length l) ls
@@ -43,11 +43,12 @@ name_len l = prefix_len is_name_byte l
 abbrev pub is_field : List ℕ → Bool
 is_field l = nat_lt 0 (name_len l) && get_or l (name_len l) 0 == 58
 
--- the places of a field that begins at `at`: its last line end is left out
+-- the byte offsets of a field that begins at `at`: its last line end is left out
 abbrev pub span_of : ℕ → List ℕ → Field
 span_of at l = record { start = at; colon = at + name_len l; end = at + length (text l) }
 
--- the places of those joined lines that are fields, if the first begins at `at`; others are skipped
+-- the byte offsets of those joined lines that are fields, if the first line begins at `at`; other
+-- lines are skipped
 abbrev pub spans : ℕ → List (List ℕ) → List Field
 spans at [] = []
 spans at (l ∷ ls) =
@@ -57,6 +58,6 @@ spans at (l ∷ ls) =
 abbrev pub fields_of : List ℕ → List Field
 fields_of bytes = spans 0 (joined (header (lines bytes)))
 
--- where its body begins
+-- the byte offset where the body begins
 abbrev pub body_of : List ℕ → ℕ
 body_of bytes = body_at 0 (lines bytes)

@@ -1,5 +1,5 @@
 pub mod Lines
 pub mod Fields
-pub mod Named
-pub mod Read
+pub mod FieldOffsets
+pub mod FieldTexts
 pub mod Scan

@@ -1,13 +1,13 @@
-// A field of a header: its places in the bytes, and what is there.
+// A header field: its byte offsets, and what is there.
 ghost use Rattle.std.specs.Prelude.{List, ℕ, map, ◌≡◌, ◌↔◌, All, IsTrue, MatchOption, Some, None};
 ghost use Rattle.mime_lines.specs.Fields.{fields_of};
-ghost use Rattle.mime_lines.specs.Read.{read_at, field_texts};
-ghost use Rattle.mime_lines.specs.Named.{IsWithin, name_in, value_in, lowered, last_value_of};
+ghost use Rattle.mime_lines.specs.FieldTexts.{read_at, field_texts};
+ghost use Rattle.mime_lines.specs.FieldOffsets.{IsWithin, name_in, value_in, lowered, last_value_of};
 
 use jm_base::Sequence;
 
-/// A field of a header, as places in the bytes that were read: where it begins, where its colon
-/// stands, and where it ends, its last line end left out. All count bytes from 0.
+/// A header field as byte offsets in the bytes that were read, from 0: where it begins, where its
+/// colon is, and where it ends, its last line end left out.
 #[derive(Clone, Copy, Debug, PartialEq, Eq)]
 pub struct Field {
     pub start: u64,
@@ -15,11 +15,11 @@ pub struct Field {
     pub end: u64,
 }
 
-/// The fields of a header, in their order.
+/// The fields of a header, in order.
 pub type FieldSpans = Sequence<Field>;
 
 impl Field {
-    /// The name, as it is written.
+    /// Returns the name, as it is written.
     pub fn name<'a>(&self, bytes: &'a [u8]) -> &'a [u8]
         requires { IsWithin bytes.now self.now }
         ensures { result.now ≡ name_in bytes.now self.now }
@@ -27,7 +27,7 @@ impl Field {
         &bytes[self.start as usize..self.colon as usize]
     }
 
-    /// What follows the colon, with the line ends within it (RFC 8621, section 4.1.2.1).
+    /// Returns what follows the colon, with the line ends within it (RFC 8621, section 4.1.2.1).
     pub fn value<'a>(&self, bytes: &'a [u8]) -> &'a [u8]
         requires { IsWithin bytes.now self.now }
         ensures { result.now ≡ value_in bytes.now self.now }
@@ -35,16 +35,18 @@ impl Field {
         &bytes[self.colon as usize + 1..self.end as usize]
     }
 
-    /// Whether the field has this name, in either case.
+    /// Returns whether the field has this name, in either case (RFC 5322, section 1.2.2).
     pub fn is_named(&self, bytes: &[u8], name: &[u8]) -> bool
         requires { IsWithin bytes.now self.now }
-        ensures { result ≡ Rattle.mime_lines.specs.Named.is_named bytes.now name.now self.now }
+        ensures { result
+            ≡ Rattle.mime_lines.specs.FieldOffsets.is_named bytes.now name.now self.now }
     {
         self.name(bytes).eq_ignore_ascii_case(name)
     }
 }
 
-/// The value of the last field that has this name, in either case.
+/// Returns the value of the last field that has this name, in either case; none if no field has
+/// it.
 pub fn last_value<'a>(bytes: &'a [u8], fields: &FieldSpans, name: &[u8]) -> Option<&'a [u8]>
     requires { All (IsWithin bytes.now) fields.now }
     ensures { MatchOption result (last_value_of bytes.now name.now fields.now ≡ None)
@@ -61,8 +63,8 @@ pub fn last_value<'a>(bytes: &'a [u8], fields: &FieldSpans, name: &[u8]) -> Opti
     None
 }
 
-/// What is at the places of a header's fields is the name and the value that its lines give, for
-/// all bytes.
+/// For all bytes: what is at the byte offsets of a header's fields is the name and the value that
+/// the lines of the header give.
 pub fn fields_stand()
     ensures { (bytes : List ℕ) → map (read_at bytes) (fields_of bytes) ≡ field_texts bytes }
 {}

@@ -1,4 +1,4 @@
-// A folded value as one line.
+// A folded value as one line (unfolding; RFC 5322, section 2.2.3).
 ghost use Rattle.std.specs.Prelude.{◌≡◌, IfOk};
 ghost use Rattle.mime_lines.specs.Lines.{unfolded};
 
@@ -6,7 +6,7 @@ use crate::scan::{split_line, text_len};
 use jm_base::{Bytes, NoMemory};
 use std::alloc::Global;
 
-/// A value without the line ends within it (RFC 5322, section 2.2.3).
+/// Returns a value without the line ends within it (unfolding; RFC 5322, section 2.2.3).
 pub fn unfold(alloc: Global, value: &[u8]) -> Result<Bytes, NoMemory>
     ensures { IfOk result (λ line. line ≡ unfolded value.now) }
 {

@@ -1,22 +1,22 @@
 // The fields of a header, found in one pass over its lines.
 ghost use Rattle.std.specs.Prelude.{◌≡◌, ◌+◌, ◌<◌, ◌≤◌, ◌^◌, ◌++◌, ◌∷◌, [], All, length, IfOk, OnOk};
 ghost use Rattle.mime_lines.specs.Fields.{fields_of, body_of, spans};
-ghost use Rattle.mime_lines.specs.Named.{IsWithin};
+ghost use Rattle.mime_lines.specs.FieldOffsets.{IsWithin};
 
 use crate::field::{Field, FieldSpans};
 use crate::scan::{colon_of, is_line_end, split_field, split_line, text_len};
 use jm_base::{NoMemory, Sequence};
 use std::alloc::Global;
 
-/// The fields of a header, and where the body begins: after the first empty line, or at the end
-/// where there is none.
+/// The fields of a header, and the byte offset where the body begins: after the first empty line,
+/// or at the end of the bytes if there is no empty line.
 #[derive(Drop)]
 pub struct Head {
     pub fields: FieldSpans,
     pub body: u64,
 }
 
-/// Adds the field that these lines are, if they are one.
+/// Adds the field that these lines are, if they are a field; `at` is their byte offset.
 fn push_field(fields: &mut FieldSpans, at: usize, lines: &[u8]) -> Result<(), NoMemory>
     requires { at + length lines.now < 2 ^ 64 }
     ensures { OnOk result (fields.new ≡ fields.old ++ spans at (lines.now ∷ [])) }

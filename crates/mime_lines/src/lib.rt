@@ -1,8 +1,8 @@
 //! The lines of a message and the fields of its header (RFC 5322, sections 2.1 to 2.2).
 //!
-//! [`fields`] finds a header's fields as places in the bytes; [`Field::name`] and [`Field::value`]
-//! read what is there, and [`last_value`] finds the field that counts where a name is repeated. No
-//! text is copied but by [`unfold`].
+//! [`fields`] finds the byte offsets of a header's fields; [`Field::name`] and [`Field::value`]
+//! read what is there, and [`last_value`] finds the field that counts where a name is repeated.
+//! Only [`unfold`] copies text.
 #![tactic(auto)]
 
 mod field;

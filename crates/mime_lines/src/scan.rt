@@ -1,5 +1,5 @@
-// Lines and fields at the start of a slice. Each call takes and gives slices, so that places are
-// added up in one function alone.
+// Lines and fields at the start of a slice. Each call takes and returns slices, so that only one
+// function adds up byte offsets.
 ghost use Rattle.std.specs.Prelude.{◌≡◌, ◌≤◌, ◌<◌, ◌+◌, ◌∷◌, ◌++◌, length, take, drop, get_or, cond, None, Some, IfSome};
 ghost use Rattle.mime_lines.specs.Lines.{lines, text};
 ghost use Rattle.mime_lines.specs.Fields.{is_field, name_len, goes_on, is_name_byte};
@@ -7,7 +7,7 @@ ghost use Rattle.mime_lines.specs.Scan.{followers, others};
 
 use memchr::memchr;
 
-/// The first line, its LF included, and what stands after it.
+/// Returns the first line, its LF included, and what follows it.
 pub fn split_line(rest: &[u8]) -> (&[u8], &[u8])
     requires { 0 < length rest.now }
     ensures some { 0 < length result.0.now }
@@ -20,7 +20,7 @@ pub fn split_line(rest: &[u8]) -> (&[u8], &[u8])
     }
 }
 
-/// Whether this is an LF alone, or a CR and an LF.
+/// Returns whether this is an LF alone, or a CR and an LF.
 pub fn is_line_end(line: &[u8]) -> bool
     ensures { result ≡ Rattle.mime_lines.specs.Lines.is_line_end line.now }
 {
@@ -31,7 +31,7 @@ pub fn is_line_end(line: &[u8]) -> bool
     }
 }
 
-/// The length of a line, or of several, without the line end at the end.
+/// Returns how many bytes one or more lines have without the line end at their end.
 pub fn text_len(line: &[u8]) -> usize
     ensures within { result ≤ length line.now }
     ensures value { text line.now ≡ take result line.now }
@@ -46,7 +46,8 @@ pub fn text_len(line: &[u8]) -> usize
     len - 2
 }
 
-/// Whether a line begins with space or tab.
+/// Returns whether a line begins with space or tab: it continues the line before it (RFC 5322,
+/// section 2.2.3).
 fn is_folded(line: &[u8]) -> bool
     ensures { result ≡ goes_on line.now }
 {
@@ -56,7 +57,7 @@ fn is_folded(line: &[u8]) -> bool
     }
 }
 
-/// The length of the lines at the start that continue the one before them.
+/// Returns how many bytes the lines at the start have that continue the line before them.
 fn folded_len(rest: &[u8]) -> usize
     ensures within { result ≤ length rest.now }
     ensures front { followers (lines rest.now) ≡ take result rest.now }
@@ -75,7 +76,7 @@ fn folded_len(rest: &[u8]) -> usize
     len
 }
 
-/// The first line with the lines that continue it, and what stands after them.
+/// Returns the first line with the lines that continue it, and what follows these.
 pub fn split_field<'a>(rest: &'a [u8], line: &[u8], after: &[u8]) -> (&'a [u8], &'a [u8])
     requires { rest.now ≡ line.now ++ after.now }
     ensures whole { rest.now ≡ result.0.now ++ result.1.now }
@@ -85,14 +86,14 @@ pub fn split_field<'a>(rest: &'a [u8], line: &[u8], after: &[u8]) -> (&'a [u8], 
     rest.split_at(line.len() + folded_len(after))
 }
 
-/// Whether a byte may be in the name of a field.
+/// Returns whether a byte may be in the name of a field (ftext; RFC 5322, section 3.6.8).
 fn is_in_name(byte: u8) -> bool
     ensures { result ≡ is_name_byte byte }
 {
     33 <= byte && byte <= 126 && byte != b':'
 }
 
-/// How many bytes of a field's name are at the start.
+/// Returns how many bytes of a field's name are at the start.
 fn name_length(line: &[u8]) -> usize
     ensures within { result ≤ length line.now }
     ensures value { result ≡ name_len line.now }
@@ -105,7 +106,7 @@ fn name_length(line: &[u8]) -> usize
     line.len()
 }
 
-/// Where the colon of a field stands.
+/// Returns the byte offset of a field's colon; none if these lines are no field.
 pub fn colon_of(line: &[u8]) -> Option<usize>
     ensures within { IfSome result (λ colon. colon ≤ length line.now) }
     ensures value { result ≡ cond (is_field line.now) (Some (name_len line.now)) None }

@@ -1,20 +1,20 @@
-// Shapes of headers and folded values, with places counted by hand.
+// Shapes of headers and folded values, with byte offsets counted by hand.
 use crate::{fields, last_value, unfold};
 use jm_base::NoMemory;
 use std::alloc::Global;
 use std::test::Fail;
 
-/// The places of each field in turn, and of the body.
-fn places(alloc: Global, bytes: &[u8]) -> Result<Vec<u64>, NoMemory> {
+/// The byte offsets of each field in turn, and of the body.
+fn offsets(alloc: Global, bytes: &[u8]) -> Result<Vec<u64>, NoMemory> {
     let head = fields(alloc, bytes)?;
-    let mut places = Vec::new(alloc);
+    let mut offsets = Vec::new(alloc);
     for field in head.fields.as_slice() {
-        places.push(field.start)?;
-        places.push(field.colon)?;
-        places.push(field.end)?;
+        offsets.push(field.start)?;
+        offsets.push(field.colon)?;
+        offsets.push(field.end)?;
     }
-    places.push(head.body)?;
-    Ok(places)
+    offsets.push(head.body)?;
+    Ok(offsets)
 }
 
 #[test]
@@ -39,7 +39,7 @@ fn shapes_of_headers(rt: HostRuntime) -> Result<(), Fail> {
         (b"A::\0\xff\r\n", &[0, 1, 5, 7]),
     ];
     for (bytes, want) in table {
-        let found = places(rt.alloc(), bytes)?;
+        let found = offsets(rt.alloc(), bytes)?;
         assert_eq!(rt; found.as_slice(), want, "header {bytes:?}");
     }
     Ok(())
@@ -86,7 +86,7 @@ fn header_of_many_fields(rt: HostRuntime) -> Result<(), Fail> {
 fn line_of_a_million_bytes(rt: HostRuntime) -> Result<(), Fail> {
     let mut bytes = copies(rt.alloc(), b"A:\0\xff", 250000)?;
     bytes.extend_from_slice(b"\nB:\n\n")?;
-    let found = places(rt.alloc(), bytes.as_slice())?;
+    let found = offsets(rt.alloc(), bytes.as_slice())?;
     let want: &[u64] = &[0, 1, 1000000, 1000001, 1000002, 1000003, 1000005];
     assert_eq!(rt; found.as_slice(), want);
     Ok(())

@@ -1,18 +1,17 @@
--- The head of a part: its places, and its boundary.
+-- The head of a part: its byte offsets, and its boundary.
 use Rattle.std.proofs.Common.{◌≡◌, ℕ, zero, suc, ◌+◌, ◌-◌, ◌<◌, ◌≤◌, Bool, true, false, cond, List, [], ◌∷◌, ◌++◌, length, drop, refl, ap, sym, ◌∙◌, arith, Some, None, Option}
 use Rattle.std.specs.Prelude.{is_some, codes, slice_range}
 use Rattle.std.proofs.lemmas.Bool.{true≢false}
 use Rattle.mime_lines.specs.Fields.{body_of}
 use Rattle.mime_cut.specs.Cut.{Piece, piece}
-use Rattle.mime_type.specs.Node.{Node}
 use Rattle.mime_type.specs.declared.part.Part.{Part}
-use Rattle.mime_type.specs.PartTrees.{none}
-use Rattle.mime_type.specs.Joined.{tree_of, joined}
+use Rattle.mime_type.specs.PartTrees.{Node, none}
+use Rattle.mime_type.specs.PartViews.{tree_of, joined}
 use Rattle.mime_type.specs.Head.{head_at}
 use Rattle.mime_tree.specs.Tree.{closed, node_at}
 use Rattle.mime_tree.specs.Places.{IsPlaced, AllPlaced}
-use Rattle.mime_tree.specs.Kept.{next_number}
-use Rattle.mime_tree.specs.Counted.{with_number}
+use Rattle.mime_tree.specs.PartLimit.{next_number}
+use Rattle.mime_tree.specs.Budget.{with_number}
 use Rattle.mime_lines.proofs.SpanFacts.{body_of-le}
 use Rattle.mime_tree.proofs.SliceFacts.{length-slice, drop-slice}
 
@@ -85,7 +84,7 @@ same_next x m h = elim x.boundary as (λ o. is_some o ≡ true → cond (is_some
   | Some b ↦ λ k. refl
 ] h
 
--- the body of a part between two places
+-- the body of a part between two byte offsets
 pub body_slice : (message : List ℕ) (start end levels : ℕ) (digest : Bool) (x : Node) → start ≤ end → end ≤ length message
     → x ≡ node_at levels digest (piece start (slice_range message start end))
     → (drop (body_of (slice_range message start end)) (slice_range message start end) ≡ slice_range message x.body x.end) × (x.body ≤ x.end) × (x.end ≤ length message)
@@ -101,7 +100,7 @@ body_slice message start end levels digest x h k e =
       omega arith,
     )
 
--- so its places lie in the message
+-- so its byte offsets are within the message
 pub part_placed : (message : List ℕ) (start end levels : ℕ) (digest : Bool) (x : Node) → start ≤ end → end ≤ length message
     → x ≡ node_at levels digest (piece start (slice_range message start end)) → IsPlaced (length message) x
 part_placed message start end levels digest x h k e =
@@ -111,11 +110,11 @@ part_placed message start end levels digest x h k e =
     let first : x.start ≡ start = ap (λ (y : Node). y.start) e ∙ start_at levels digest (piece start bytes) in
     record { begins = omega arith; ends = body.1; inside = body.2 }
 
--- a number is no place
+-- a number is no byte offset
 pub numbered_placed : (size : ℕ) (x : Node) (v : Option ℕ) → IsPlaced size x → IsPlaced size (record x { number = v })
 numbered_placed size x v h = record { begins = h.begins; ends = h.ends; inside = h.inside }
 
--- one more part at its places
+-- one more part at its byte offsets
 pub placed_push : (size : ℕ) (ps : List Part) (p : Part) → AllPlaced size (joined ps none) → AllPlaced size (tree_of p none) → AllPlaced size (joined (ps ++ p ∷ []) none)
 placed_push size [] p h k = k
 placed_push size (q ∷ qs) p h k = (h.0, h.1, placed_push size qs p h.2 k)

@@ -1,4 +1,4 @@
--- The bytes between two places of a list.
+-- The bytes between two offsets of a list.
 use Rattle.std.proofs.Common.{◌≡◌, ℕ, zero, suc, ◌+◌, ◌-◌, ◌≤◌, List, [], ◌∷◌, length, take, drop, refl, ap, ◌∙◌, arith, length-drop}
 use Rattle.std.specs.Prelude.{slice_range}
 use Rattle.std.proofs.lemmas.List.{drop-take, drop-drop, length-take-le, take_all}
@@ -12,13 +12,13 @@ take_within (suc n) (suc k) (x ∷ xs) h = ap (λ t. x ∷ t) (take_within n k x
 pub length-slice : (xs : List ℕ) (a e : ℕ) → a ≤ e → e ≤ length xs → length (slice_range xs a e) ≡ e - a
 length-slice xs a e h k = length-take-le (e - a) (drop a xs) (omega (arith, length-drop a xs))
 
--- its front
+-- its prefix
 pub take-slice : (xs : List ℕ) (a e n : ℕ) → a + n ≤ e → take n (slice_range xs a e) ≡ slice_range xs a (a + n)
 take-slice xs a e n h =
     let count : n ≡ a + n - a = omega arith in
     take_within n (e - a) (drop a xs) (omega arith) ∙ ap (λ k. take k (drop a xs)) count
 
--- what follows its front
+-- what follows its prefix
 pub drop-slice : (xs : List ℕ) (a e n : ℕ) → a + n ≤ e → drop n (slice_range xs a e) ≡ slice_range xs (a + n) e
 drop-slice xs a e n h =
     let count : e - a ≡ n + (e - (a + n)) = omega arith in

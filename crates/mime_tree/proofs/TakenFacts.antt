@@ -4,13 +4,13 @@ use Rattle.mime_lines.specs.Fields.{body_of}
 use Rattle.mime_cut.specs.declared.line_kind.LineKind.{LineKind}
 use Rattle.mime_cut.specs.declared.line_kind.LineKind.TheVariants.{Other, DelimiterLine, CloseDelimiter}
 use Rattle.mime_cut.specs.Cut.{Piece, piece, after_line}
-use Rattle.mime_type.specs.Node.{Node}
-use Rattle.mime_type.specs.PartTrees.{PartTrees, none, part}
-use Rattle.mime_type.specs.Joined.{node_of, tree_of, joined}
+use Rattle.mime_type.specs.PartTrees.{Node, PartTrees, none, part}
+use Rattle.mime_type.specs.PartViews.{node_of, tree_of, joined}
 use Rattle.mime_type.specs.declared.part.Part.{Part}
 use Rattle.mime_tree.specs.Tree.{is_digest, node_at, within, part_tree}
-use Rattle.mime_tree.specs.Kept.{kept, numbered, number_of, next_number, parts_of}
-use Rattle.mime_tree.specs.Counted.{Taken, taken, with_number}
+use Rattle.mime_tree.specs.PartLimit.{kept, numbered, number_of, next_number, parts_of}
+use Rattle.mime_tree.specs.declared.walk.TheConstants.{MAX_MULTIPART_LEVELS, MAX_PARTS}
+use Rattle.mime_tree.specs.Budget.{Taken, taken, with_number}
 
 abbrev pub took : PartTrees → ℕ → ℕ → Taken
 took parts left number = record { parts = parts; left = left; number = number }
@@ -124,7 +124,7 @@ after_none b DelimiterLine at ls h = absurd (h refl)
 after_none b CloseDelimiter at ls h = refl
 
 -- the whole tree
-pub parts_is : (bytes all : List ℕ) (tree : PartTrees) (left number : ℕ) → all ≡ bytes → taken (part_tree 32 false (piece 0 all) none) 1000 1 ≡ took tree left number → tree ≡ parts_of bytes
+pub parts_is : (bytes all : List ℕ) (tree : PartTrees) (left number : ℕ) → all ≡ bytes → taken (part_tree MAX_MULTIPART_LEVELS false (piece 0 all) none) MAX_PARTS 1 ≡ took tree left number → tree ≡ parts_of bytes
 parts_is bytes all tree left number e h =
-    let f = part_tree 32 false (piece 0 all) none in
-    ap (λ (q : Taken). q.parts) (sym h ∙ taken_is f 1000 1) ∙ ap (λ bs. (numbered (kept (part_tree 32 false (piece 0 bs) none) 1000).parts 1).parts) e
+    let f = part_tree MAX_MULTIPART_LEVELS false (piece 0 all) none in
+    ap (λ (q : Taken). q.parts) (sym h ∙ taken_is f MAX_PARTS 1) ∙ ap (λ bs. (numbered (kept (part_tree MAX_MULTIPART_LEVELS false (piece 0 bs) none) MAX_PARTS).parts 1).parts) e

@@ -2,9 +2,8 @@
 use Rattle.std.proofs.Common.{◌≡◌, ℕ, zero, suc, ◌+◌, ◌-◌, Bool, true, false, not, cond, List, [], ◌∷◌, ◌++◌, length, take, None, Some, refl, ap, sym, ◌∙◌, arith, length-append}
 use Rattle.std.specs.Prelude.{is_some, filter, if◌then◌else◌}
 use Rattle.std.specs.List.{filter_map, cons_option}
-use Rattle.mime_type.specs.Node.{Node}
-use Rattle.mime_type.specs.PartTrees.{PartTrees, none, part}
-use Rattle.mime_tree.specs.Kept.{walked, kept, numbered, number_of, next_number}
+use Rattle.mime_type.specs.PartTrees.{Node, PartTrees, none, part}
+use Rattle.mime_tree.specs.PartLimit.{walked, kept, numbered, number_of, next_number}
 use Rattle.mime_tree.specs.Numbers.{is_leaf, leaf_count, numbers_in, counted_from}
 
 take_none : (n : ℕ) → let none' : List Node = [] in take n none' ≡ none'

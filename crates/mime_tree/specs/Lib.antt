@@ -1,5 +1,5 @@
 pub mod Tree
-pub mod Kept
-pub mod Counted
+pub mod PartLimit
+pub mod Budget
 pub mod Places
 pub mod Numbers

@@ -1,9 +1,8 @@
 -- The numbers of leaves as a list.
 use Rattle.std.specs.Prelude.{ℕ, zero, suc, ◌+◌, Bool, not, List, [], ◌∷◌, length, filter, is_some}
 use Rattle.std.specs.List.{filter_map}
-use Rattle.mime_type.specs.Node.{Node}
-use Rattle.mime_type.specs.PartTrees.{PartTrees}
-use Rattle.mime_tree.specs.Kept.{walked}
+use Rattle.mime_type.specs.PartTrees.{Node, PartTrees}
+use Rattle.mime_tree.specs.PartLimit.{walked}
 
 -- a leaf is a part that isn't a multipart
 abbrev pub is_leaf : Node → Bool
@@ -17,7 +16,7 @@ leaf_count f = length (filter is_leaf (walked f))
 abbrev pub numbers_in : PartTrees → List ℕ
 numbers_in f = filter_map (λ (x : Node). x.number) (walked f)
 
--- k numbers from n on
+-- k numbers that rise by one, from n on
 abbrev pub counted_from : ℕ → ℕ → List ℕ
 counted_from n zero = []
 counted_from n (suc k) = n ∷ counted_from (n + 1) k

@@ -1,25 +1,24 @@
 -- The parts of a message as a tree, by cutting (RFC 2046, section 5.1). The body of a multipart is
 -- cut at its own boundary first, and each piece is then read and cut in the same way. So a
--- delimiter of a multipart ends all parts within it, and one of an inner multipart ends none but
--- its own.
+-- delimiter line of a multipart ends all parts within it, and one of an inner multipart ends none
+-- but its own.
 use Rattle.std.specs.Prelude.{ℕ, zero, suc, Bool, List, [], ◌∷◌, drop, Option, None, Some, is_some, bytes_eq, codes, if◌then◌else◌}
 use Rattle.mime_lines.specs.Lines.{lines}
 use Rattle.mime_lines.specs.Fields.{body_of}
 use Rattle.mime_cut.specs.Cut.{Piece, cut}
-use Rattle.mime_type.specs.Node.{Node}
-use Rattle.mime_type.specs.PartTrees.{PartTrees, none, part}
+use Rattle.mime_type.specs.PartTrees.{Node, PartTrees, none, part}
 use Rattle.mime_type.specs.Head.{head_at}
 
--- a multipart's parts are messages where they don't say what they are (RFC 2046, section 5.1.5)
+-- in a digest a part without a Content-Type is a message (RFC 2046, section 5.1.5)
 abbrev pub is_digest : Node → Bool
 is_digest node = bytes_eq node.media (codes "multipart/digest")
 
--- a part that isn't entered: a multipart is then a leaf of bytes of any kind
+-- a part that isn't entered: a multipart is then a leaf of type application/octet-stream
 abbrev pub closed : Node → Node
 closed node = if is_some node.boundary then record node
     { media = codes "application/octet-stream"; boundary = None } else node
 
--- a part by its head, where so many more levels of multiparts may be entered
+-- a part by its head, where this many more levels of multiparts may be entered
 abbrev pub node_at : ℕ → Bool → Piece → Node
 node_at zero digest p = closed (head_at p.at p.bytes digest)
 node_at (suc levels) digest p = head_at p.at p.bytes digest

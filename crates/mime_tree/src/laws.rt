@@ -1,7 +1,7 @@
-// What the definitions of the limit and of the numbers come to, for every tree.
+// Laws of the limit on parts and of the numbers of leaves, for every tree.
 ghost use Rattle.std.specs.Prelude.{◌≡◌, ℕ, take};
 ghost use Rattle.mime_type.specs.PartTrees.{PartTrees};
-ghost use Rattle.mime_tree.specs.Kept.{walked, kept, numbered};
+ghost use Rattle.mime_tree.specs.PartLimit.{walked, kept, numbered};
 ghost use Rattle.mime_tree.specs.Numbers.{leaf_count, numbers_in, counted_from};
 
 /// The parts that are kept are the first in walk order, a part before those within it.

@@ -1,15 +1,15 @@
-// One part by its head, where so many more levels of multiparts may be entered.
+// One part by its head, where this many more levels of multiparts may be entered.
 ghost use Rattle.std.specs.Prelude.{◌≡◌, ◌≤◌, length, slice_range, IfOk};
 ghost use Rattle.mime_cut.specs.Cut.{piece};
 ghost use Rattle.mime_type.specs.PartTrees.{none};
-ghost use Rattle.mime_type.specs.Joined.{node_of};
+ghost use Rattle.mime_type.specs.PartViews.{node_of};
 ghost use Rattle.mime_tree.specs.Tree.{closed, node_at};
 
 use jm_base::{NoMemory, Text};
 use mime_type::{Part, part_head};
 use std::alloc::Global;
 
-/// The part as a leaf: a multipart becomes bytes of any kind.
+/// Makes a part a leaf: a multipart becomes application/octet-stream.
 fn close(alloc: Global, part: Part) -> Result<Part, NoMemory>
     ensures node { IfOk result (λ p. node_of p ≡ closed (node_of part)) }
     ensures parts { IfOk result (λ p. p.parts ≡ part.parts) }
@@ -23,8 +23,8 @@ fn close(alloc: Global, part: Part) -> Result<Part, NoMemory>
     Ok(part)
 }
 
-/// HasBytesAt the head of the part between these places. Where no more levels may be entered, it is
-/// a leaf.
+/// Reads the head of the part between these byte offsets. If no more levels may be entered, the
+/// part is a leaf.
 pub fn read_part(
     alloc: Global,
     message: &[u8],
@@ -46,7 +46,7 @@ pub fn read_part(
     Ok(part)
 }
 
-/// Whether the parts within it are messages where they don't say what they are.
+/// Returns whether parts within it without a Content-Type are messages (RFC 2046, section 5.1.5).
 pub fn is_digest(part: &Part) -> bool
     ensures { result ≡ Rattle.mime_tree.specs.Tree.is_digest (node_of part.now) }
 {

@@ -52,7 +52,7 @@ fn outlines_of_messages(rt: HostRuntime) -> Result<(), Fail> {
             b"Content-Type: multipart/mixed; boundary=a\n\n--a\n\none\n--ab\n--a \n\ntwo",
             b"- multipart/mixed\n1 text/plain one\n--ab\n2 text/plain two\n",
         ),
-        // A multipart without a delimiter has no parts, and one without a boundary is a leaf.
+        // A multipart without a delimiter line has no parts, and one without a boundary is a leaf.
         (
             b"Content-Type: multipart/mixed; boundary=a\n\n-a\n",
             b"- multipart/mixed\n",
@@ -61,18 +61,17 @@ fn outlines_of_messages(rt: HostRuntime) -> Result<(), Fail> {
             b"Content-Type: multipart/mixed\n\n--a",
             b"1 application/octet-stream --a\n",
         ),
-        // A delimiter of the outer multipart ends the inner one, whose own close is missing.
+        // A delimiter line of the outer multipart ends the inner one, which has no close-delimiter.
         (
             b"Content-Type: multipart/a; boundary=x\n\n--x\nContent-Type: multipart/b; boundary=y\n\n--y\n\n1\n--x\n\n2\n--y\n--x--\n",
             b"- multipart/a\n- multipart/b\n1 text/plain 1\n2 text/plain 2\n--y\n",
         ),
-        // A delimiter of the inner multipart ends no part of the outer one.
+        // A delimiter line of the inner multipart ends no part of the outer one.
         (
             b"Content-Type: multipart/a; boundary=x\n\n--x\nContent-Type: multipart/b; boundary=y\n\n--y\n\n1\n--y--\n\n--x\n\n2\n--x--\n",
             b"- multipart/a\n- multipart/b\n1 text/plain 1\n2 text/plain 2\n",
         ),
-        // In a digest a part is a message where it doesn't say what it is, and a message isn't
-        // entered.
+        // In a digest a part without a Content-Type is a message, and a message isn't entered.
         (
             b"Content-Type: multipart/digest; boundary=a\n\n--a\n\nA: b\n--a\nContent-Type: text/plain\n\nc\n--a--",
             b"- multipart/digest\n1 message/rfc822 A: b\n2 text/plain c\n",
@@ -91,8 +90,7 @@ fn outlines_of_messages(rt: HostRuntime) -> Result<(), Fail> {
             b"Content-Type: multipart/mixed; boundary=\"\0\xc3\xa9\"\n\n--\0\xc3\xa9\n\n\0\xff\n--\0\xc3\n--\0\xc3\xa9--",
             b"- multipart/mixed\n1 text/plain \0\xff\n--\0\xc3\n",
         ),
-        // A byte of a boundary that is no UTF-8 is read as U+FFFD, and so finds no delimiter of its
-        // own.
+        // A byte of a boundary that is no UTF-8 is read as U+FFFD, and so no delimiter line has it.
         (
             b"Content-Type: multipart/mixed; boundary=\"\xff\"\n\n--\xff\n\na\n--\xef\xbf\xbd\n\nb",
             b"- multipart/mixed\n1 text/plain b\n",

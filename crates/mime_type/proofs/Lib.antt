@@ -2,6 +2,6 @@ pub mod Turns
 pub mod Quotes
 pub mod Utf8
 pub mod Tags
-pub mod Places
+pub mod PieceLengths
 pub mod Same
 pub mod ReadBack

@@ -3,12 +3,12 @@ use Rattle.std.proofs.Common.{◌≡◌, ℕ, suc, ◌<◌, Bool, true, false, c
 use Rattle.std.specs.List.{prefix_len, list_all}
 use Rattle.std.proofs.lemmas.Bool.{cases_eq, ne_eqb, true≢false}
 use Rattle.std.proofs.lemmas.List.{take_at, drop_at}
-use Rattle.mime_lines.specs.Named.{lowered}
+use Rattle.mime_lines.specs.FieldOffsets.{lowered}
 use Rattle.mime_type.specs.Characters.{is_token, is_bare}
 use Rattle.mime_type.specs.Grammar.{◌>>=◌, after_blanks, after_mark, run_at, quoted_from, quoted_text, value_at, Pair, param_at, gives, turn_of, slot_at, turn_at, Params, onto_params, by_turn, params_in, params_of, if_whole, type_at}
-use Rattle.mime_type.specs.Written.{IsToken, written, meant}
+use Rattle.mime_type.specs.TypeText.{IsToken, written, meant}
 use Rattle.mime_type.proofs.Quotes.{quoted_back}
-use Rattle.mime_type.proofs.Utf8.{with_value, behind_equals, behind_name, with_sub, behind_slash, behind_main, at_main}
+use Rattle.mime_type.proofs.Utf8.{with_value, after_equals, after_name, with_sub, after_slash, after_main, at_main}
 
 both_true : (p q : Bool) → IsTrue (p && q) → (p ≡ true) × IsTrue q
 both_true true q h = (refl, h)
@@ -77,8 +77,8 @@ param name value = record { name = lowered name; value = value }
 param_back : (name value : List ℕ) → IsToken name → param_at (name ++ 61 ∷ quoted_end value) ≡ Some (param name value, [])
 unfolding param_at
 param_back name value h =
-    ap (λ o. o >>= behind_name) (run_token name 61 (quoted_end value) h refl)
-    ∙ ap (λ o. o >>= behind_equals name) (mark_equals (quoted_text value ++ 34 ∷ []))
+    ap (λ o. o >>= after_name) (run_token name 61 (quoted_end value) h refl)
+    ∙ ap (λ o. o >>= after_equals name) (mark_equals (quoted_text value ++ 34 ∷ []))
     ∙ ap (λ o. o >>= with_value name) (quoted_back value [])
 
 abbrev tail : List ℕ → List ℕ → List ℕ
@@ -111,7 +111,7 @@ unfolding type_at
 type_back main sub name value m s n =
     let kind = lowered (main ++ 47 ∷ sub) in
     ap (λ o. o >>= at_main) (gap_token main (47 ∷ (sub ++ tail name value)) m)
-    ∙ ap (λ o. o >>= behind_main) (run_token main 47 (sub ++ tail name value) m refl)
-    ∙ ap (λ o. o >>= behind_slash main) (mark_slash sub (tail name value) s)
+    ∙ ap (λ o. o >>= after_main) (run_token main 47 (sub ++ tail name value) m refl)
+    ∙ ap (λ o. o >>= after_slash main) (mark_slash sub (tail name value) s)
     ∙ ap (λ o. o >>= with_sub main) (run_token sub 59 (32 ∷ (name ++ 61 ∷ quoted_end value)) s refl)
     ∙ ap (if_whole kind) (params_back name value n)

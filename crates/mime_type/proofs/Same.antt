@@ -1,7 +1,7 @@
 -- Two heads with the same fields are the same.
 use Rattle.std.proofs.Common.{◌≡◌, ℕ, List, Option, None}
 use Rattle.mime_codec.specs.declared.coding.Coding.{Coding}
-use Rattle.mime_type.specs.Node.{Node}
+use Rattle.mime_type.specs.PartTrees.{Node}
 
 pub same_node : (start : ℕ)
     (body body' : ℕ) → body ≡ body' →

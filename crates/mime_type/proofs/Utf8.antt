@@ -11,7 +11,7 @@ use Rattle.std.proofs.lemmas.Str.Ascii.{lowercase_ascii}
 use Rattle.mail_text.specs.declared.comment.State.{State}
 use Rattle.mail_text.specs.declared.comment.State.TheVariants.{Outside, Inside, Escaped}
 use Rattle.mail_text.specs.Comments.{is_blank, next, gap_from}
-use Rattle.mime_lines.specs.Named.{lowered}
+use Rattle.mime_lines.specs.FieldOffsets.{lowered}
 use Rattle.mime_codec.specs.Quoted.{is_between}
 use Rattle.mime_type.specs.Characters.{is_token, is_special, is_bare, is_delimiter}
 use Rattle.mime_type.specs.Grammar.{◌>>=◌, after_blanks, after_byte, after_mark, run_at, onto_value, quoted_from, value_at, Pair, param_at, Turn, ends, breaks, skips, gives, turn_of, slot_at, turn_from, turn_at, Params, by_turn, params_in, params_of, Kind, if_whole, type_at, disposition_at, first_named}
@@ -158,13 +158,13 @@ byte-utf8 sign (b ∷ bs) rest low u e = elim (cases_eq b sign) [
   | inr other ↦ let e1 : None ≡ Some rest = rw (ne_eqb b sign other) at e in absurd (none-some rest e1)
 ]
 
-abbrev behind_byte : ℕ → List ℕ → Option (List ℕ)
-behind_byte sign at = after_byte sign at >>= after_blanks
+abbrev after_this_byte : ℕ → List ℕ → Option (List ℕ)
+after_this_byte sign at = after_byte sign at >>= after_blanks
 
 mark-utf8 : (sign : ℕ) (text rest : List ℕ) → sign < 128 → IsUtf8 text → after_mark sign text ≡ Some rest → IsUtf8 rest
 unfolding after_mark
 mark-utf8 sign text rest low u e =
-    let a = bind_is (after_blanks text) (behind_byte sign) rest e in
+    let a = bind_is (after_blanks text) (after_this_byte sign) rest e in
     let b = bind_is (after_byte sign a.0) after_blanks rest a.2 in
     gap-utf8 b.0 rest (byte-utf8 sign a.0 b.0 low (gap-utf8 text a.0 u a.1) b.1) b.2
 
@@ -252,18 +252,18 @@ value-utf8 (b ∷ bs) r u e =
 abbrev pub with_value : List ℕ → (List ℕ × List ℕ) → Option (Pair × List ℕ)
 with_value name value = Some (record { name = lowered name; value = value.0 }, value.1)
 
-abbrev pub behind_equals : List ℕ → List ℕ → Option (Pair × List ℕ)
-behind_equals name rest = value_at rest >>= with_value name
+abbrev pub after_equals : List ℕ → List ℕ → Option (Pair × List ℕ)
+after_equals name rest = value_at rest >>= with_value name
 
-abbrev pub behind_name : (List ℕ × List ℕ) → Option (Pair × List ℕ)
-behind_name name = after_mark 61 name.1 >>= behind_equals name.0
+abbrev pub after_name : (List ℕ × List ℕ) → Option (Pair × List ℕ)
+after_name name = after_mark 61 name.1 >>= after_equals name.0
 
 param-utf8 : (text : List ℕ) (r : Pair × List ℕ) → IsUtf8 text → param_at text ≡ Some r → IsUtf8 r.0.value × IsUtf8 r.1
 unfolding param_at
 param-utf8 text r u e =
-    let n = bind_is (run_at is_token text) behind_name r e in
+    let n = bind_is (run_at is_token text) after_name r e in
     let un = run-utf8 is_token token_small text n.0 u n.1 in
-    let m = bind_is (after_mark 61 n.0.1) (behind_equals n.0.0) r n.2 in
+    let m = bind_is (after_mark 61 n.0.1) (after_equals n.0.0) r n.2 in
     let v = bind_is (value_at m.0) (with_value n.0.0) r m.2 in
     let uv = value-utf8 m.0 v.0 (mark-utf8 61 n.0.1 m.0 (lit< tt) un.1 m.1) v.1 in
     let all : Pair × List ℕ = (record { name = lowered n.0.0; value = v.0.0 }, v.0.1) in
@@ -317,22 +317,22 @@ first_named-utf8 name (p ∷ ps) v h e = elim (bytes_eq p.name name) as (λ t. c
 abbrev pub with_sub : List ℕ → (List ℕ × List ℕ) → Option Kind
 with_sub main sub = if_whole (lowered (main ++ 47 ∷ sub.0)) (params_of sub.1)
 
-abbrev pub behind_slash : List ℕ → List ℕ → Option Kind
-behind_slash main rest = run_at is_token rest >>= with_sub main
+abbrev pub after_slash : List ℕ → List ℕ → Option Kind
+after_slash main rest = run_at is_token rest >>= with_sub main
 
-abbrev pub behind_main : (List ℕ × List ℕ) → Option Kind
-behind_main main = after_mark 47 main.1 >>= behind_slash main.0
+abbrev pub after_main : (List ℕ × List ℕ) → Option Kind
+after_main main = after_mark 47 main.1 >>= after_slash main.0
 
 abbrev pub at_main : List ℕ → Option Kind
-at_main at = run_at is_token at >>= behind_main
+at_main at = run_at is_token at >>= after_main
 
 pub type_at-text : (text : List ℕ) (k : Kind) → IsUtf8 text → type_at text ≡ Some k → IsText k
 unfolding type_at
 type_at-text text k u e =
     let a = bind_is (after_blanks text) at_main k e in
-    let m = bind_is (run_at is_token a.0) behind_main k a.2 in
+    let m = bind_is (run_at is_token a.0) after_main k a.2 in
     let um = run-utf8 is_token token_small a.0 m.0 (gap-utf8 text a.0 u a.1) m.1 in
-    let s = bind_is (after_mark 47 m.0.1) (behind_slash m.0.0) k m.2 in
+    let s = bind_is (after_mark 47 m.0.1) (after_slash m.0.0) k m.2 in
     let t = bind_is (run_at is_token s.0) (with_sub m.0.0) k s.2 in
     let ut = run-utf8 is_token token_small s.0 t.0 (mark-utf8 47 m.0.1 s.0 (lit< tt) um.1 s.1) t.1 in
     let all : Kind = record { kind = lowered (m.0.0 ++ 47 ∷ t.0.0); params = (params_of t.0.1).found } in

@@ -3,7 +3,7 @@
 use Rattle.std.specs.Prelude.{ℕ, Bool, ◌&&◌, not, List, [], ◌==◌, length, Option, Some, None, option_map, unwrap_or, codes, is_some, nat_eq, if◌then◌else◌}
 use Rattle.std.specs.Option.{option_or, option_and_then}
 use Rattle.std.specs.List.{starts_with}
-use Rattle.mime_lines.specs.Named.{lowered}
+use Rattle.mime_lines.specs.FieldOffsets.{lowered}
 use Rattle.mime_codec.specs.declared.coding.Coding.{Coding}
 use Rattle.mime_codec.specs.declared.coding.Coding.TheVariants.{Plain}
 use Rattle.mime_type.specs.Grammar.{Kind, type_at, disposition_at, first_named}
@@ -13,7 +13,7 @@ abbrev pub plain_type : List ℕ → Kind
 plain_type kind = record { kind = kind; params = [] }
 
 -- the type of a part by its Content-Type: without the field text/plain, or in a digest
--- message/rfc822; text/plain too where the field isn't of the form
+-- message/rfc822; text/plain too if the field is invalid
 abbrev pub type_of : Bool → Option (List ℕ) → Kind
 type_of digest None = plain_type (if digest then codes "message/rfc822" else codes "text/plain")
 type_of digest (Some text) = unwrap_or (type_at text) (plain_type (codes "text/plain"))
@@ -35,7 +35,7 @@ charset_of k =
 abbrev pub is_multipart : List ℕ → Bool
 is_multipart kind = starts_with nat_eq kind (codes "multipart/")
 
--- a boundary has something in it
+-- a boundary isn't empty
 abbrev pub if_any : Option (List ℕ) → Option (List ℕ)
 if_any None = None
 if_any (Some b) = if length b == 0 then None else Some b
@@ -45,8 +45,8 @@ abbrev pub boundary_of : Kind → Option (List ℕ)
 boundary_of k =
     if is_multipart k.kind then if_any (first_named (codes "boundary") k.params) else None
 
--- the type that a part is taken for: a multipart that names no boundary can't be cut, and is bytes
--- of any kind
+-- the type that a part is read as: a multipart that names no boundary can't be cut, and is
+-- application/octet-stream
 abbrev pub media_of : Kind → List ℕ
 media_of k = if is_multipart k.kind && not (is_some (boundary_of k))
     then codes "application/octet-stream" else k.kind
@@ -59,7 +59,7 @@ filename_of (Some d) = first_named (codes "filename") d.params
 abbrev pub name_of : Option Kind → Kind → Option (List ℕ)
 name_of shown k = option_or (filename_of shown) (first_named (codes "name") k.params)
 
--- how the body is written: without the field, as it is
+-- the transfer encoding of the body: without the field, the body is as it is
 abbrev pub coding_of : Option (List ℕ) → Coding
 coding_of None = Plain
 coding_of (Some text) = coding_in text

@@ -1,10 +1,10 @@
 -- Content-Type and Content-Disposition: a name, and parameters (RFC 2045, section 5.1; RFC 2183,
--- section 2), with comments and quoted strings by RFC 822, section 3.3. Each `.. at` takes what it
--- names from the start of some text, and gives it with the text after it.
+-- section 2), with comments and quoted strings by RFC 822, section 3.3. Each `.. at` reads what it
+-- names at the start of some text, and returns it with the text after it.
 use Rattle.std.specs.Prelude.{ℕ, zero, suc, Bool, true, false, ◌||◌, ◌==◌, List, [], ◌∷◌, ◌++◌, length, take, drop, Option, Some, None, bytes_eq, if◌then◌else◌}
 use Rattle.std.specs.List.{prefix_len}
 use Rattle.mail_text.specs.Comments.{is_blank, after_gap}
-use Rattle.mime_lines.specs.Named.{lowered}
+use Rattle.mime_lines.specs.FieldOffsets.{lowered}
 use Rattle.mime_type.specs.Characters.{is_token, is_bare}
 
 -- continue what was found, if anything was
@@ -13,16 +13,16 @@ abbrev pub ◌>>=◌ : {A B : Type 0} → Option A → (A → Option B) → Opti
 None >>= f = None
 (Some x) >>= f = f x
 
--- what stands after blanks and whole comments; nothing where a comment doesn't close
+-- what is after blanks and complete comments; nothing if a comment isn't closed
 abbrev pub after_blanks : List ℕ → Option (List ℕ)
 after_blanks text = after_gap is_blank text
 
--- what stands after this byte
+-- what is after this byte
 abbrev pub after_byte : ℕ → List ℕ → Option (List ℕ)
 after_byte sign [] = None
 after_byte sign (b ∷ bs) = if b == sign then Some bs else None
 
--- what stands after this byte with the gaps round it
+-- what is after this byte with the gaps around it
 unfoldable pub after_mark : ℕ → List ℕ → Option (List ℕ)
 after_mark sign text = do
   at ← after_blanks text
@@ -38,13 +38,13 @@ abbrev pub onto_value : ℕ → Option (List ℕ × List ℕ) → Option (List �
 onto_value b None = None
 onto_value b (Some x) = Some (b ∷ x.0, x.1)
 
--- what was read before stands before what is read
-abbrev pub with_front : List ℕ → Option (List ℕ × List ℕ) → Option (List ℕ × List ℕ)
-with_front front None = None
-with_front front (Some x) = Some (front ++ x.0, x.1)
+-- what was read before is a prefix of what is read
+abbrev pub with_prefix : List ℕ → Option (List ℕ × List ℕ) → Option (List ℕ × List ℕ)
+with_prefix prefix None = None
+with_prefix prefix (Some x) = Some (prefix ++ x.0, x.1)
 
--- the rest of a quoted string, after its first quote mark: a backslash goes, and the byte after it
--- stays
+-- the rest of a quoted-string, after its first quote mark: a backslash is removed, and the byte
+-- after it stays
 abbrev pub quoted_from : Bool → List ℕ → Option (List ℕ × List ℕ)
 quoted_from quoted [] = None
 quoted_from true (b ∷ bs) = onto_value b (quoted_from false bs)
@@ -56,7 +56,7 @@ abbrev pub quoted_text : List ℕ → List ℕ
 quoted_text [] = []
 quoted_text (b ∷ bs) = if b == 34 || b == 92 then 92 ∷ b ∷ quoted_text bs else b ∷ quoted_text bs
 
--- a quoted string, or a run of other characters
+-- a quoted-string, or a run of other characters
 abbrev pub value_at : List ℕ → Option (List ℕ × List ℕ)
 value_at [] = None
 value_at (b ∷ bs) = if b == 34 then quoted_from false bs else run_at is_bare (b ∷ bs)
@@ -73,8 +73,8 @@ param_at text = do
   value ← value_at rest
   Some (record { name = lowered name.0; value = value.0 }, value.1)
 
--- what is at a place where a semicolon or the end may be: the end, what isn't of the form, nothing
--- before the next semicolon, or a parameter
+-- what is where a semicolon or the end may be: the end, a syntax error, nothing before the next
+-- semicolon, or a parameter
 pub data Turn : Type 0 where
   ends : Turn
   breaks : Turn
@@ -99,7 +99,7 @@ turn_from (Some (b ∷ bs)) = if b == 59 then slot_at (after_blanks bs) else bre
 abbrev pub turn_at : List ℕ → Turn
 turn_at text = turn_from (after_blanks text)
 
--- the parameters before the first place that isn't of the form, and whether there is no such place
+-- the parameters before the first syntax error, and whether there is no syntax error
 pub record Params : Type 0 where
   pub found : List Pair
   pub whole : Bool
@@ -117,12 +117,12 @@ by_turn breaks later = record { found = []; whole = false }
 by_turn (skips rest) later = later rest
 by_turn (gives p rest) later = onto_params p (later rest)
 
--- in as many turns as are allowed
+-- in at most this many turns
 unfoldable pub params_in : ℕ → List ℕ → Params
 params_in zero text = record { found = []; whole = false }
 params_in (suc n) text = by_turn (turn_at text) (params_in n)
 
--- each turn takes a byte, so these are enough
+-- each turn reads at least a byte, so these are enough
 abbrev pub params_of : List ℕ → Params
 params_of text = params_in (suc (length text)) text
 
@@ -134,7 +134,7 @@ pub record Kind : Type 0 where
 abbrev pub if_whole : List ℕ → Params → Option Kind
 if_whole kind ps = if ps.whole then Some (record { kind = kind; params = ps.found }) else None
 
--- Content-Type: a type, a slash, a subtype, and nothing that isn't of the form after them
+-- Content-Type: a type, a slash, a subtype, and after these parameters without a syntax error
 unfoldable pub type_at : List ℕ → Option Kind
 type_at text = do
   at ← after_blanks text
@@ -143,8 +143,8 @@ type_at text = do
   sub ← run_at is_token rest
   if_whole (lowered (main.0 ++ 47 ∷ sub.0)) (params_of sub.1)
 
--- Content-Disposition: the token at its beginning, with the parameters before the first place that
--- isn't of the form
+-- Content-Disposition: the token at its beginning, with the parameters before the first syntax
+-- error
 unfoldable pub disposition_at : List ℕ → Option Kind
 disposition_at text = do
   at ← after_blanks text

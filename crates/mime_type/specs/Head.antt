@@ -4,8 +4,8 @@ use Rattle.std.specs.Prelude.{ℕ, ◌+◌, Bool, List, length, Option, None, op
 use Rattle.std.specs.Str.Lossy.{utf8_lossy}
 use Rattle.mime_lines.specs.Lines.{unfolded}
 use Rattle.mime_lines.specs.Fields.{fields_of, body_of}
-use Rattle.mime_lines.specs.Named.{last_value_of}
-use Rattle.mime_type.specs.Node.{Node}
+use Rattle.mime_lines.specs.FieldOffsets.{last_value_of}
+use Rattle.mime_type.specs.PartTrees.{Node}
 use Rattle.mime_type.specs.Grammar.{Kind}
 use Rattle.mime_type.specs.Content.{type_of, disposition_of, charset_of, boundary_of, media_of, name_of, coding_of}
 use Rattle.mime_type.specs.Labels.{id_in, languages_in}

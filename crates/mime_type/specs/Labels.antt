@@ -4,15 +4,16 @@
 use Rattle.std.specs.Prelude.{ℕ, ◌-◌, Bool, true, false, filter, map, ◌==◌, List, [], ◌∷◌, length, get_or, take, codes, bytes_eq, if◌then◌else◌}
 use Rattle.std.specs.List.{slice_split}
 use Rattle.mail_text.specs.Texts.{trimmed}
-use Rattle.mime_lines.specs.Named.{lowered}
+use Rattle.mime_lines.specs.FieldOffsets.{lowered}
 use Rattle.mime_codec.specs.declared.coding.Coding.{Coding}
 use Rattle.mime_codec.specs.declared.coding.Coding.TheVariants.{Plain, Quoted, Base64, Unknown}
 
--- without one angle bracket at each end
+-- without the angle bracket at the beginning
 abbrev pub without_open : List ℕ → List ℕ
 without_open [] = []
 without_open (b ∷ bs) = if b == 60 then bs else b ∷ bs
 
+-- without the angle bracket at the end
 abbrev pub without_close : List ℕ → List ℕ
 without_close text =
     if get_or text (length text - 1) 0 == 62 then take (length text - 1) text else text
@@ -26,7 +27,7 @@ abbrev pub is_some_text : List ℕ → Bool
 is_some_text [] = false
 is_some_text (b ∷ bs) = true
 
--- the texts that have something in them, without the white space round each
+-- the texts that have something in them, without the white space around each
 abbrev pub items : List (List ℕ) → List (List ℕ)
 items texts = filter is_some_text (map trimmed texts)
 
@@ -34,7 +35,7 @@ items texts = filter is_some_text (map trimmed texts)
 abbrev pub languages_in : List ℕ → List (List ℕ)
 languages_in text = items (slice_split (λ b. b == 44) text)
 
--- the coding of a name, in either case
+-- the transfer encoding of a name in lower case (RFC 2045, section 6.1)
 abbrev pub coding_named : List ℕ → Coding
 coding_named name =
     if bytes_eq name (codes "quoted-printable") then Quoted

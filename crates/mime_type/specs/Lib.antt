@@ -2,12 +2,11 @@ pub mod Characters
 pub mod Grammar
 pub mod Labels
 pub mod Content
-pub mod Node
 pub mod PartTrees
-pub mod Code
-pub mod Joined
-pub mod Falls
+pub mod PartTreeCode
+pub mod PartViews
+pub mod Laws
 pub mod Head
 pub mod Texts
 pub mod Views
-pub mod Written
+pub mod TypeText

@@ -3,7 +3,7 @@ use Rattle.std.specs.Prelude.{List, [], ◌∷◌}
 use Rattle.std.specs.Str.{IsUtf8}
 use Rattle.mime_type.specs.Grammar.{Pair, Kind}
 
--- each value is
+-- each value is UTF-8
 abbrev pub AreTexts : List Pair → Type 0
 AreTexts [] = Unit {0}
 AreTexts (p ∷ ps) = IsUtf8 p.value × AreTexts ps

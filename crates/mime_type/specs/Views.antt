@@ -1,6 +1,6 @@
 -- What contracts see of the code's own types.
 use Rattle.std.specs.Prelude.{ℕ, suc, List, [], length, Option, None, Some}
-use Rattle.mime_lines.specs.Named.{lowered}
+use Rattle.mime_lines.specs.FieldOffsets.{lowered}
 use Rattle.mime_type.specs.Grammar.{Pair, Kind, Turn, ends, breaks, skips, gives, value_at, params_of}
 use Rattle.mime_type.specs.declared.values.Run.{Run}
 use Rattle.mime_type.specs.declared.values.Value.{Value}
@@ -16,7 +16,7 @@ run_of r = (r.text.now, r.rest.now)
 abbrev pub value_of : Value → List ℕ × List ℕ
 value_of v = (v.text.items, v.rest.now)
 
--- the text that was found, or what stands after it
+-- the text that was found, or what is after it
 abbrev pub text_found : Option (List ℕ × List ℕ) → List ℕ
 text_found None = []
 text_found (Some x) = x.0

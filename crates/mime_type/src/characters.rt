@@ -1,6 +1,6 @@
 // Classes of characters, and lower case.
 ghost use Rattle.std.specs.Prelude.{◌≡◌, ◌++◌, ◌∷◌, IfOk, OnOk};
-ghost use Rattle.mime_lines.specs.Named.{lowered};
+ghost use Rattle.mime_lines.specs.FieldOffsets.{lowered};
 ghost use Rattle.mime_type.specs.Characters;
 
 use jm_base::NoMemory;
@@ -17,7 +17,7 @@ fn is_special(byte: u8) -> bool
         || (91 <= byte && byte <= 93)
 }
 
-/// Whether a byte may be in a token (RFC 2045, section 5.1).
+/// Returns whether a byte may be in a token (RFC 2045, section 5.1).
 pub fn is_token(byte: u8) -> bool
     ensures { result ≡ Rattle.mime_type.specs.Characters.is_token byte }
 {
@@ -30,8 +30,8 @@ fn is_delimiter(byte: u8) -> bool
     byte == 34 || (40 <= byte && byte <= 41) || byte == 59 || byte == 92
 }
 
-/// Whether a byte may be in a value without quote marks: a character from `!` to `~` that is no
-/// delimiter, or a byte of a character above U+007F.
+/// Returns whether a byte may be in a value without quote marks: a character from `!` to `~` that
+/// is no delimiter, or a byte of a character above U+007F.
 pub fn is_bare(byte: u8) -> bool
     ensures { result ≡ Rattle.mime_type.specs.Characters.is_bare byte }
 {
@@ -48,7 +48,7 @@ pub fn push_lowered(out: &mut Vec<u8>, text: &[u8]) -> Result<(), NoMemory>
     Ok(())
 }
 
-/// A text in lower case.
+/// Returns a text in lower case.
 pub fn lower_copy(alloc: Global, text: &[u8]) -> Result<Vec<u8>, NoMemory>
     ensures { IfOk result (λ out. out.items ≡ lowered text.now) }
 {

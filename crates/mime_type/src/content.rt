@@ -2,7 +2,7 @@
 // 2183).
 ghost use Rattle.std.specs.Prelude.{◌≡◌, Bool, option_map, IfOk};
 ghost use Rattle.std.specs.Option.{ForSome};
-ghost use Rattle.mime_lines.specs.Named.{lowered};
+ghost use Rattle.mime_lines.specs.FieldOffsets.{lowered};
 ghost use Rattle.mime_type.specs.Content;
 ghost use Rattle.mime_type.specs.Texts.{IsText};
 ghost use Rattle.mime_type.specs.Views.{kind_of};
@@ -12,7 +12,7 @@ use crate::params::{first_text, into_text};
 use jm_base::{NoMemory, Text};
 use std::alloc::Global;
 
-/// A text in lower case, in its own memory.
+/// Puts a text in lower case, in its own memory.
 fn lower_text(text: Text) -> Text
     ensures { result ≡ lowered text }
 {
@@ -21,7 +21,7 @@ fn lower_text(text: Text) -> Text
     Text::from_string(string)
 }
 
-/// The charset of a type without the parameter.
+/// Returns the charset of a type that has no such parameter.
 fn default_charset(alloc: Global, kind: &[u8]) -> Result<Option<Text>, NoMemory>
     ensures { IfOk result (λ c. c ≡ Rattle.mime_type.specs.Content.default_charset kind.now) }
 {
@@ -31,7 +31,7 @@ fn default_charset(alloc: Global, kind: &[u8]) -> Result<Option<Text>, NoMemory>
     Ok(None)
 }
 
-/// The charset of a type, in lower case.
+/// Reads the charset of a type, in lower case.
 pub fn read_charset(alloc: Global, kind: &Kind<'_>) -> Result<Option<Text>, NoMemory>
     requires { IsText (kind_of kind.now) }
     ensures { IfOk result (λ c. c ≡ Rattle.mime_type.specs.Content.charset_of (kind_of kind.now)) }
@@ -48,7 +48,7 @@ fn is_multipart(kind: &[u8]) -> bool
     kind.starts_with(b"multipart/")
 }
 
-/// A boundary that isn't empty.
+/// Returns a boundary, if it isn't empty.
 fn if_any(boundary: Option<Text>) -> Option<Text>
     ensures { result ≡ Rattle.mime_type.specs.Content.if_any boundary }
 {
@@ -64,7 +64,7 @@ fn if_any(boundary: Option<Text>) -> Option<Text>
     }
 }
 
-/// The boundary of a multipart.
+/// Reads the boundary of a multipart.
 pub fn read_boundary(alloc: Global, kind: &Kind<'_>) -> Result<Option<Text>, NoMemory>
     requires { IsText (kind_of kind.now) }
     ensures { IfOk result (λ b. b ≡ Rattle.mime_type.specs.Content.boundary_of (kind_of kind.now)) }
@@ -75,7 +75,8 @@ pub fn read_boundary(alloc: Global, kind: &Kind<'_>) -> Result<Option<Text>, NoM
     Ok(if_any(first_text(alloc, kind.params, b"boundary")?))
 }
 
-/// The type that a part is taken for, where its boundary is known.
+/// Returns the type that a part is read as. A multipart without a boundary is
+/// application/octet-stream.
 pub fn read_media(alloc: Global, kind: Kind<'_>, boundary: &Option<Text>) -> Result<Text, NoMemory>
     requires text { IsText (kind_of kind) }
     requires boundary { boundary.now ≡ Rattle.mime_type.specs.Content.boundary_of (kind_of kind) }
@@ -87,7 +88,7 @@ pub fn read_media(alloc: Global, kind: Kind<'_>, boundary: &Option<Text>) -> Res
     Ok(into_text(kind.kind))
 }
 
-/// The filename of a disposition.
+/// Reads the filename of a disposition.
 fn read_filename(alloc: Global, shown: &Option<Kind<'_>>) -> Result<Option<Text>, NoMemory>
     requires { ForSome shown.now (λ k. IsText (kind_of k)) }
     ensures { IfOk result (λ n. n ≡ Rattle.mime_type.specs.Content.filename_of
@@ -99,7 +100,7 @@ fn read_filename(alloc: Global, shown: &Option<Kind<'_>>) -> Result<Option<Text>
     }
 }
 
-/// The name of a part, before its encoded words are decoded.
+/// Reads the name of a part, before its encoded-words are decoded.
 pub fn read_name(
     alloc: Global,
     shown: &Option<Kind<'_>>,
@@ -116,7 +117,7 @@ pub fn read_name(
     }
 }
 
-/// The disposition's name.
+/// Returns the disposition's name.
 pub fn read_shown(shown: Option<Kind<'_>>) -> Option<Text>
     requires { ForSome shown (λ k. IsText (kind_of k)) }
     ensures { result ≡ option_map (λ k. k.kind) (option_map kind_of shown.entry) }

@@ -4,7 +4,7 @@ ghost use Rattle.mime_type.specs.Grammar.{after_blanks, after_byte, after_mark};
 
 use mail_text::WhiteSpace;
 
-/// What stands after blanks and whole comments.
+/// Returns what is after blanks and complete comments; none if a comment isn't closed.
 pub fn skip_gap(text: &[u8]) -> Option<&[u8]>
     ensures value { option_map (λ r. r.now) result ≡ after_blanks text.now }
     ensures within { IfSome result (λ r. length r.now ≤ length text.now) }
@@ -12,7 +12,7 @@ pub fn skip_gap(text: &[u8]) -> Option<&[u8]>
     mail_text::skip_gap(text, WhiteSpace::SpaceAndTab)
 }
 
-/// What stands after this byte.
+/// Returns what is after this byte; none if the text doesn't begin with it.
 pub fn skip_byte(sign: u8, text: &[u8]) -> Option<&[u8]>
     ensures value { option_map (λ r. r.now) result ≡ after_byte sign text.now }
     ensures less { IfSome result (λ r. length r.now < length text.now) }
@@ -23,7 +23,7 @@ pub fn skip_byte(sign: u8, text: &[u8]) -> Option<&[u8]>
     }
 }
 
-/// What stands after this byte with the gaps around it.
+/// Returns what is after this byte with the gaps around it.
 #[tactic(auto, unfolding(crate::specs::Grammar::after_mark))]
 pub fn skip_mark(sign: u8, text: &[u8]) -> Option<&[u8]>
     ensures value { option_map (λ r. r.now) result ≡ after_mark sign text.now }

@@ -1,12 +1,12 @@
 // The head of a part, read from its header.
 ghost use Rattle.std.specs.Prelude.{◌≡◌, ◌≤◌, All, IfOk, length, option_map, slice_range, codes};
 ghost use Rattle.mime_lines.specs.Fields.{fields_of};
-ghost use Rattle.mime_lines.specs.Named.{IsWithin};
+ghost use Rattle.mime_lines.specs.FieldOffsets.{IsWithin};
 ghost use Rattle.mime_type.specs.Content.{charset_of, boundary_of, media_of, name_of, coding_of};
 ghost use Rattle.mime_type.specs.PartTrees.{none};
 ghost use Rattle.mime_type.specs.Head;
 ghost use Rattle.mime_type.specs.Head.{head_at, kind_in, shown_in};
-ghost use Rattle.mime_type.specs.Joined.{node_of};
+ghost use Rattle.mime_type.specs.PartViews.{node_of};
 ghost use Rattle.mime_type.specs.Labels.{id_in, languages_in};
 ghost use Rattle.mail_text.specs.Texts.{trimmed};
 
@@ -19,7 +19,7 @@ use mime_codec::Coding;
 use mime_lines::{FieldSpans, fields, last_value, unfold};
 use std::alloc::Global;
 
-/// What the last field of a name says, on one line, where there is one.
+/// Reads the value of the last field of a name, on one line, if there is one.
 #[tactic(auto, unfolding(crate::specs::Head::field_text))]
 fn field_text(
     alloc: Global,
@@ -38,7 +38,7 @@ fn field_text(
     Ok(Some(Text::from_string(String::from_utf8_lossy(alloc, line.as_slice())?)))
 }
 
-/// What a part is taken for.
+/// What Content-Type and Content-Disposition say of a part.
 #[derive(Drop)]
 struct Content {
     media: Text,
@@ -48,7 +48,7 @@ struct Content {
     name: Option<Text>,
 }
 
-/// What Content-Type and Content-Disposition say.
+/// Reads Content-Type and Content-Disposition.
 fn read_content(
     alloc: Global,
     bytes: &[u8],
@@ -79,7 +79,7 @@ fn read_content(
     })
 }
 
-/// What the other fields say.
+/// What the other fields say of a part.
 #[derive(Drop)]
 struct Labels {
     cid: Option<Text>,
@@ -88,7 +88,7 @@ struct Labels {
     coding: Coding,
 }
 
-/// What Content-Id, Content-Language, Content-Location and Content-Transfer-Encoding say.
+/// Reads Content-Id, Content-Language, Content-Location and Content-Transfer-Encoding.
 fn read_labels(alloc: Global, bytes: &[u8], fields: &FieldSpans) -> Result<Labels, NoMemory>
     requires within { All (IsWithin bytes.now) fields.now }
     requires whole { fields.now ≡ fields_of bytes.now }
@@ -109,9 +109,10 @@ fn read_labels(alloc: Global, bytes: &[u8], fields: &FieldSpans) -> Result<Label
     })
 }
 
-/// The head of the part that these places of a message hold: what its header says of it, with no
-/// parts within it and no number yet. `digest` says that it is in a multipart/digest, where a part
-/// without a Content-Type is a message (RFC 2046, section 5.1.5). Total for all bytes.
+/// Reads the head of the part between these byte offsets of a message: what its header says of it,
+/// with no parts within it and no number yet. `digest` says that it is in a multipart/digest, where
+/// a part without a Content-Type is a message (RFC 2046, section 5.1.5). It fails only if memory
+/// runs out.
 pub fn part_head(
     alloc: Global,
     bytes: &[u8],

@@ -1,10 +1,10 @@
 // Content-Type and Content-Disposition as a name with parameters (RFC 2045, section 5.1; RFC 2183,
 // section 2).
 ghost use Rattle.std.specs.Prelude.{◌≡◌, ◌++◌, ◌∷◌, option_map, IfOk, IfSome, List, ℕ, Some};
-ghost use Rattle.mime_lines.specs.Named.{lowered};
+ghost use Rattle.mime_lines.specs.FieldOffsets.{lowered};
 ghost use Rattle.mime_type.specs.Grammar;
 ghost use Rattle.mime_type.specs.Grammar.{type_at};
-ghost use Rattle.mime_type.specs.Written.{IsToken, written, meant};
+ghost use Rattle.mime_type.specs.TypeText.{IsToken, written, meant};
 ghost use Rattle.mime_type.specs.Content;
 ghost use Rattle.mime_type.specs.Texts.{IsText};
 ghost use Rattle.mime_type.specs.Views.{kind_of};
@@ -23,7 +23,7 @@ pub struct Kind<'a> {
     pub params: &'a [u8],
 }
 
-/// A type and a subtype, as one text in lower case.
+/// Joins a type and a subtype to one text in lower case.
 fn join_type(alloc: Global, main: &[u8], sub: &[u8]) -> Result<Vec<u8>, NoMemory>
     ensures { IfOk result (λ out. out.items ≡ lowered (main.now ++ 47 ∷ sub.now)) }
 {
@@ -76,7 +76,7 @@ fn take_disposition(alloc: Global, text: &[u8]) -> Result<Option<Kind<'_>>, NoMe
     }))
 }
 
-/// A type without parameters.
+/// Returns a type without parameters.
 #[tactic(auto, unfolding(crate::specs::Grammar::params_in))]
 fn plain_type(alloc: Global, kind: &str) -> Result<Kind<'static>, NoMemory>
     ensures value { IfOk result (λ k. kind_of k
@@ -93,7 +93,7 @@ const PLAIN: &str = "text/plain";
 
 const MESSAGE: &str = "message/rfc822";
 
-/// The type of a part by its Content-Type field, if it has one.
+/// Reads the type of a part from its Content-Type field, if it has one.
 pub fn read_type(alloc: Global, field: &Option<Text>, digest: bool) -> Result<Kind<'_>, NoMemory>
     ensures value { IfOk result (λ k. kind_of k
         ≡ Rattle.mime_type.specs.Content.type_of digest field.now) }
@@ -108,7 +108,7 @@ pub fn read_type(alloc: Global, field: &Option<Text>, digest: bool) -> Result<Ki
     }
 }
 
-/// The disposition of a part by its Content-Disposition field, if it has one.
+/// Reads the disposition of a part from its Content-Disposition field, if it has one.
 pub fn read_disposition(alloc: Global, field: &Option<Text>) -> Result<Option<Kind<'_>>, NoMemory>
     ensures value { IfOk result (λ r. option_map kind_of r
         ≡ Rattle.mime_type.specs.Content.disposition_of field.now) }

@@ -3,7 +3,7 @@ ghost use Rattle.std.specs.Prelude.{◌≡◌, ◌++◌, ◌∷◌, [], List, �
 ghost use Rattle.mime_type.specs.Content;
 ghost use Rattle.mime_type.specs.Labels.{without_open, without_close, id_in, items, languages_in, coding_in, coding_named};
 ghost use Rattle.mail_text.specs.Texts.{trimmed};
-ghost use Rattle.mime_lines.specs.Named.{lowered};
+ghost use Rattle.mime_lines.specs.FieldOffsets.{lowered};
 ghost use Rattle.std.specs.Str.{IsUtf8};
 
 use crate::characters::lower_copy;
@@ -12,7 +12,7 @@ use mail_text::trim;
 use mime_codec::Coding;
 use std::alloc::Global;
 
-/// A text without one angle bracket at each end.
+/// Returns a text without one angle bracket at each end.
 fn without_brackets(text: &[u8]) -> &[u8]
     ensures { result.now ≡ without_close (without_open text.now) }
 {
@@ -21,12 +21,12 @@ fn without_brackets(text: &[u8]) -> &[u8]
         _ => text,
     };
     match inner {
-        [front @ .., b'>'] => front,
+        [id @ .., b'>'] => id,
         _ => inner,
     }
 }
 
-/// Bytes that are a text, in memory of their own.
+/// Copies bytes that are UTF-8.
 fn copy_text(alloc: Global, bytes: &[u8]) -> Result<Text, NoMemory>
     requires { IsUtf8 bytes.now }
     ensures { IfOk result (λ t. t ≡ bytes.now) }
@@ -34,7 +34,7 @@ fn copy_text(alloc: Global, bytes: &[u8]) -> Result<Text, NoMemory>
     Ok(Text::from_string(String::from_utf8_lossy(alloc, bytes)?))
 }
 
-/// The identifier of a Content-Id field, if there is one.
+/// Reads the identifier of a Content-Id field, if there is one.
 pub fn read_id(alloc: Global, field: &Option<Text>) -> Result<Option<Text>, NoMemory>
     ensures { IfOk result (λ r. r ≡ option_map id_in field.now) }
 {
@@ -44,7 +44,7 @@ pub fn read_id(alloc: Global, field: &Option<Text>) -> Result<Option<Text>, NoMe
     }
 }
 
-/// The URI of a Content-Location field, if there is one.
+/// Reads the URI of a Content-Location field, if there is one.
 pub fn read_location(alloc: Global, field: &Option<Text>) -> Result<Option<Text>, NoMemory>
     ensures { IfOk result (λ r. r ≡ option_map trimmed field.now) }
 {
@@ -54,7 +54,7 @@ pub fn read_location(alloc: Global, field: &Option<Text>) -> Result<Option<Text>
     }
 }
 
-/// Adds the tag that stands between two commas, if there is one.
+/// Adds the tag that is between two commas, if there is one.
 fn push_tag(alloc: Global, tags: &mut Texts, text: &str) -> Result<(), NoMemory>
     ensures { OnOk result (tags.new ≡ tags.old ++ items (text.now ∷ [])) }
 {
@@ -65,7 +65,7 @@ fn push_tag(alloc: Global, tags: &mut Texts, text: &str) -> Result<(), NoMemory>
     Ok(())
 }
 
-/// The tags between commas.
+/// Reads the tags between commas.
 fn read_tags(alloc: Global, text: &str) -> Result<Texts, NoMemory>
     ensures { IfOk result (λ tags. tags ≡ languages_in text.now) }
 {
@@ -79,7 +79,7 @@ fn read_tags(alloc: Global, text: &str) -> Result<Texts, NoMemory>
     Ok(tags)
 }
 
-/// The tags of a Content-Language field, if there is one.
+/// Reads the tags of a Content-Language field, if there is one.
 pub fn read_language(alloc: Global, field: &Option<Text>) -> Result<Option<Texts>, NoMemory>
     ensures { IfOk result (λ r. r ≡ option_map languages_in field.now) }
 {
@@ -89,7 +89,7 @@ pub fn read_language(alloc: Global, field: &Option<Text>) -> Result<Option<Texts
     }
 }
 
-/// The coding of a name in lower case.
+/// Returns the transfer encoding of a name in lower case (RFC 2045, section 6.1).
 fn named_coding(name: &[u8]) -> Coding
     ensures { result ≡ coding_named name.now }
 {
@@ -107,7 +107,7 @@ fn named_coding(name: &[u8]) -> Coding
     }
 }
 
-/// The coding of a part by its Content-Transfer-Encoding field, if it has one.
+/// Reads the transfer encoding of a part from its Content-Transfer-Encoding field, if it has one.
 pub fn read_coding(alloc: Global, field: &Option<Text>) -> Result<Coding, NoMemory>
     ensures { IfOk result (λ c. c ≡ Rattle.mime_type.specs.Content.coding_of field.now) }
 {

@@ -4,9 +4,9 @@ ghost use Rattle.std.specs.Prelude.{◌≡◌, ◌<◌, ◌∷◌, ◌++◌, Lis
 ghost use Rattle.std.specs.List.{list_all};
 ghost use Rattle.mime_type.specs.Characters.{is_bare};
 ghost use Rattle.mime_type.specs.Grammar.{type_at, value_at, quoted_text};
-ghost use Rattle.mime_type.specs.Written.{IsToken, written, meant};
+ghost use Rattle.mime_type.specs.TypeText.{IsToken, written, meant};
 
-/// Each value that is written between quote marks is read back, whatever follows it.
+/// Each value that is written between quote marks is read back, for every text that follows it.
 pub fn quotes_read_back()
     ensures { (text rest : List ℕ) → value_at (34 ∷ quoted_text text ++ 34 ∷ rest)
         ≡ Some (text, rest) }

@@ -1,5 +1,5 @@
-//! The head of a message part: its type, its disposition, its coding and its names (RFC 2045, RFC
-//! 2183).
+//! The head of a message part: its type, its disposition, its transfer encoding and its names (RFC
+//! 2045, RFC 2183).
 //!
 //! [`part_head`] reads a part's header into a [`Part`], which has no parts within it yet.
 #![tactic(auto)]

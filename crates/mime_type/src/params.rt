@@ -1,7 +1,7 @@
-// The parameters of a field (RFC 2045, section 5.1). They are found in the text of the field where
-// they are asked for, so that no list of them takes memory.
+// The parameters of a field (RFC 2045, section 5.1). They are read from the text of the field each
+// time, so that no list of them is allocated.
 ghost use Rattle.std.specs.Prelude.{◌≡◌, ◌≤◌, length, option_map, IfSome, IfOk, ℕ, suc, bytes_eq};
-ghost use Rattle.mime_lines.specs.Named.{lowered};
+ghost use Rattle.mime_lines.specs.FieldOffsets.{lowered};
 ghost use Rattle.mime_type.specs.Grammar.{param_at, turn_of, slot_at, turn_at, params_of, first_named};
 ghost use Rattle.std.specs.Str.{IsUtf8};
 ghost use Rattle.mime_type.specs.Texts.{AreTexts};
@@ -26,8 +26,8 @@ struct Taken<'a> {
     rest: &'a [u8],
 }
 
-/// What stands where a semicolon or the end may be: the end, what isn't of the form, nothing before
-/// the next semicolon, or a parameter.
+/// What is where a semicolon or the end may be: the end, a syntax error, nothing before the next
+/// semicolon, or a parameter.
 #[derive(Clone, Copy)]
 enum Turn<'a> {
     Ends,
@@ -36,7 +36,7 @@ enum Turn<'a> {
     Gives(Param<'a>, &'a [u8]),
 }
 
-/// The parameter at the start: a name, an equals sign and a value.
+/// Reads the parameter at the start: a name, an equals sign and a value.
 #[tactic(auto, unfolding(crate::specs::Grammar::param_at))]
 fn take_param(text: &[u8]) -> Option<Taken<'_>>
     ensures value { option_map taken result ≡ param_at text.now }
@@ -65,7 +65,7 @@ fn turn_with(found: Option<Taken<'_>>) -> Turn<'_>
     }
 }
 
-/// What follows a semicolon and the gap after it.
+/// Reads what follows a semicolon and the gap after it.
 fn take_slot(text: Option<&[u8]>) -> Turn<'_>
     ensures value { turn result ≡ slot_at (option_map (λ r. r.now) text.entry) }
     ensures within { (n : ℕ) → IfSome text.entry (λ r. length r.now ≤ n) → turn_size result
@@ -95,7 +95,7 @@ fn take_turn(text: &[u8]) -> Turn<'_>
     }
 }
 
-/// Whether there is no place among the parameters that isn't of the form.
+/// Returns whether the parameters have no syntax error.
 pub fn is_whole(text: &[u8]) -> bool
     ensures { result ≡ (params_of text.now).whole }
 {
@@ -111,7 +111,7 @@ pub fn is_whole(text: &[u8]) -> bool
 }
 
 impl Param<'_> {
-    /// Whether the parameter has this name, in either case.
+    /// Returns whether the parameter has this name, in either case.
     fn is_named(&self, name: &[u8]) -> bool
         ensures { result ≡ bytes_eq (pair self.now).name (lowered name.now) }
     {
@@ -119,8 +119,8 @@ impl Param<'_> {
     }
 }
 
-/// The text that begins with the value of the first parameter of a name, before the first place
-/// that isn't of the form.
+/// Returns the text that begins with the value of the first parameter of a name, before the first
+/// syntax error.
 fn find_value<'a>(text: &'a [u8], name: &[u8]) -> Option<&'a [u8]>
     ensures { option_map (λ v. leading_value v.now) result
         ≡ first_named (lowered name.now) (params_of text.now).found }
@@ -141,7 +141,7 @@ fn find_value<'a>(text: &'a [u8], name: &[u8]) -> Option<&'a [u8]>
     }
 }
 
-/// Bytes that are a text, as one. It takes no memory.
+/// Makes a text of bytes that are UTF-8. It allocates nothing.
 pub fn into_text(bytes: Vec<u8>) -> Text
     requires { IsUtf8 bytes.items }
     ensures { result ≡ bytes.items }
@@ -152,7 +152,7 @@ pub fn into_text(bytes: Vec<u8>) -> Text
     }
 }
 
-/// The value of the first parameter of a name, before the first place that isn't of the form.
+/// Returns the value of the first parameter of a name, before the first syntax error.
 pub fn first_text(alloc: Global, params: &[u8], name: &[u8]) -> Result<Option<Text>, NoMemory>
     requires { AreTexts (params_of params.now).found }
     ensures { IfOk result (λ t. t ≡ first_named (lowered name.now) (params_of params.now).found) }

@@ -5,15 +5,15 @@ use jm_base::{Text, Texts};
 use mime_codec::Coding;
 use std::marker::Model;
 
-/// A part of a message. Places count the message's bytes from 0.
+/// A part of a message. Byte offsets are those in the message, from 0.
 #[derive(Drop)]
 #[cycle(part)]
 pub struct Part {
-    /// Where the part begins.
+    /// The byte offset where the part begins.
     pub start: u64,
-    /// Where its body begins, after the empty line that ends its header.
+    /// The byte offset where its body begins, after the empty line that ends its header.
     pub body: u64,
-    /// Where it ends.
+    /// The byte offset after its last byte.
     pub end: u64,
     /// The number of a leaf in the message, from 1, once it is known.
     pub number: Option<u64>,
@@ -25,7 +25,7 @@ pub struct Part {
     pub boundary: Option<Text>,
     /// The disposition in lower case.
     pub disposition: Option<Text>,
-    /// The name of a file, before its encoded words are decoded.
+    /// The name of a file, before its encoded-words are decoded.
     pub name: Option<Text>,
     /// The identifier of Content-Id, without angle brackets.
     pub cid: Option<Text>,
@@ -33,7 +33,7 @@ pub struct Part {
     pub language: Option<Texts>,
     /// The URI of Content-Location.
     pub location: Option<Text>,
-    /// How the body is written.
+    /// The transfer encoding of the body.
     pub coding: Coding,
     /// The parts within a multipart.
     pub parts: Parts,
@@ -48,14 +48,14 @@ pub struct Parts {
 
 impl Model for Parts {
     ghost use Rattle.mime_type.specs.PartTrees.{PartTrees};
-    ghost use Rattle.mime_type.specs.Code.{forest_code};
+    ghost use Rattle.mime_type.specs.PartTreeCode.{forest_code};
 
     ghost Value = { PartTrees };
 
     ghost coded = { forest_code };
 
     ghost use Rattle.mime_type.specs.PartTrees.{none};
-    ghost use Rattle.mime_type.specs.Joined.{joined};
+    ghost use Rattle.mime_type.specs.PartViews.{joined};
 
     ghost view = { λ a. joined a.items.items none };
 
@@ -63,23 +63,23 @@ impl Model for Parts {
 
     ghost size = { part_count };
 
-    ghost use Rattle.mime_type.specs.Falls.{parts_deep};
+    ghost use Rattle.mime_type.specs.Laws.{parts_deep};
 
     ghost size_decreases = { λ a h. parts_deep a.items.items };
 }
 
 impl Parts {
     ghost use Rattle.mime_type.specs.PartTrees.{none};
-    ghost use Rattle.mime_type.specs.Joined.{joined};
+    ghost use Rattle.mime_type.specs.PartViews.{joined};
 
-    /// The parts of a vector. It takes no memory.
+    /// Makes parts of a vector. It allocates nothing.
     pub fn from_vec(items: Vec<Part>) -> Parts
         ensures { result ≡ joined items.items none }
     {
         Parts { items }
     }
 
-    /// Lends the parts in their order.
+    /// Returns the parts in their order.
     pub fn as_slice(&self) -> &[Part]
         ensures { joined result.now none ≡ self.now }
     {

@@ -13,7 +13,7 @@ fn read(alloc: Global, header: &[u8]) -> Option<Part> {
     }
 }
 
-/// Whether there is the text that is meant, or none where none is.
+/// Returns whether a text is the one that is meant, or none if none is.
 fn is_text(text: &Option<Text>, meant: Option<&[u8]>) -> bool {
     match text {
         Some(text) => match meant {

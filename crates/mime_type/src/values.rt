@@ -2,7 +2,7 @@
 ghost use Rattle.std.specs.Prelude.{◌≡◌, ◌≢◌, ◌≤◌, ◌<◌, ◌∷◌, ◌++◌, length, option_map, Some, None, IfSome, IfOk, ℕ, List, Bool, false};
 ghost use Rattle.std.specs.List.{prefix_len};
 ghost use Rattle.mime_type.specs.Characters;
-ghost use Rattle.mime_type.specs.Grammar.{run_at, quoted_from, value_at, with_front};
+ghost use Rattle.mime_type.specs.Grammar.{run_at, quoted_from, value_at, with_prefix};
 ghost use Rattle.mime_type.specs.Views.{run_of, value_of, rest_found, leading_value};
 
 use crate::characters::{is_bare, is_token};
@@ -47,7 +47,7 @@ fn bare_len(text: &[u8]) -> usize
     text.len()
 }
 
-/// The prefix of this length, if it isn't empty.
+/// Returns the prefix of this length, if it isn't empty.
 fn cut(text: &[u8], len: usize) -> Option<Run<'_>>
     requires { len ≤ length text.now }
     ensures value { (class : ℕ → Bool) → len ≡ prefix_len class text.now → option_map run_of result
@@ -61,7 +61,7 @@ fn cut(text: &[u8], len: usize) -> Option<Run<'_>>
     Some(Run { text, rest })
 }
 
-/// The token at the start.
+/// Reads the token at the start.
 pub fn token(text: &[u8]) -> Option<Run<'_>>
     ensures value { option_map run_of result ≡ run_at Rattle.mime_type.specs.Characters.is_token
         text.now }
@@ -70,7 +70,7 @@ pub fn token(text: &[u8]) -> Option<Run<'_>>
     cut(text, token_len(text))
 }
 
-/// The value without quote marks at the start.
+/// Reads the value without quote marks at the start.
 fn bare(text: &[u8]) -> Option<Run<'_>>
     ensures value { option_map run_of result ≡ run_at Rattle.mime_type.specs.Characters.is_bare
         text.now }
@@ -79,11 +79,11 @@ fn bare(text: &[u8]) -> Option<Run<'_>>
     cut(text, bare_len(text))
 }
 
-/// Takes in a byte of a quoted string that isn't its end, and says whether it quotes the next.
+/// Reads a byte of a quoted-string that isn't its end, and returns whether it quotes the next.
 fn push_quoted(out: &mut Vec<u8>, quoted: bool, byte: u8) -> Result<bool, NoMemory>
     requires { quoted ≡ false → byte ≢ 34 }
-    ensures { IfOk result (λ now. (rest : List ℕ) → with_front out.new.items (quoted_from now rest)
-        ≡ with_front out.old.items (quoted_from quoted (byte ∷ rest))) }
+    ensures { IfOk result (λ now. (rest : List ℕ) → with_prefix out.new.items (quoted_from now rest)
+        ≡ with_prefix out.old.items (quoted_from quoted (byte ∷ rest))) }
 {
     if !quoted && byte == b'\\' {
         return Ok(true);
@@ -92,7 +92,7 @@ fn push_quoted(out: &mut Vec<u8>, quoted: bool, byte: u8) -> Result<bool, NoMemo
     Ok(false)
 }
 
-/// The rest of a quoted string, after its first quote mark.
+/// Reads the rest of a quoted-string, after its first quote mark.
 fn quoted_rest(alloc: Global, text: &[u8]) -> Result<Option<Value<'_>>, NoMemory>
     ensures value { IfOk result (λ r. option_map value_of r ≡ quoted_from false text.now) }
     ensures within { IfOk result (λ o. IfSome o (λ r. length r.rest.now ≤ length text.now)) }
@@ -113,7 +113,7 @@ fn quoted_rest(alloc: Global, text: &[u8]) -> Result<Option<Value<'_>>, NoMemory
     Ok(None)
 }
 
-/// A run as a value of its own.
+/// Copies a run as a value.
 fn copied(alloc: Global, run: Option<Run<'_>>) -> Result<Option<Value<'_>>, NoMemory>
     ensures value { IfOk result (λ r. option_map value_of r ≡ option_map run_of run.entry) }
     ensures within { (n : ℕ) → IfSome run.entry (λ r. length r.rest.now ≤ n)
@@ -128,7 +128,7 @@ fn copied(alloc: Global, run: Option<Run<'_>>) -> Result<Option<Value<'_>>, NoMe
     }
 }
 
-/// The value at the start: a quoted string, or a run of other characters.
+/// Reads the value at the start: a quoted-string, or a run of other characters.
 pub fn take_value(alloc: Global, text: &[u8]) -> Result<Option<Value<'_>>, NoMemory>
     ensures value { IfOk result (λ r. option_map value_of r ≡ value_at text.now) }
     ensures within { IfOk result (λ o. IfSome o (λ r. length r.rest.now ≤ length text.now)) }
@@ -140,7 +140,7 @@ pub fn take_value(alloc: Global, text: &[u8]) -> Result<Option<Value<'_>>, NoMem
     }
 }
 
-/// The value that a text begins with, in memory of its own; nothing where it begins with none.
+/// Copies the value that a text begins with; empty if it begins with none.
 pub fn copy_value(alloc: Global, text: &[u8]) -> Result<Vec<u8>, NoMemory>
     ensures { IfOk result (λ v. v.items ≡ leading_value text.now) }
 {
@@ -150,7 +150,7 @@ pub fn copy_value(alloc: Global, text: &[u8]) -> Result<Vec<u8>, NoMemory>
     }
 }
 
-/// Whether a byte of a quoted string that isn't its end quotes the next.
+/// Returns whether a byte of a quoted-string that isn't its end quotes the next.
 fn quotes_next(quoted: bool, byte: u8) -> bool
     requires { quoted ≡ false → byte ≢ 34 }
     ensures { (rest : List ℕ) → rest_found (quoted_from result rest)
@@ -159,7 +159,7 @@ fn quotes_next(quoted: bool, byte: u8) -> bool
     !quoted && byte == b'\\'
 }
 
-/// What stands after the rest of a quoted string, after its first quote mark.
+/// Returns what is after the rest of a quoted-string, after its first quote mark.
 fn skip_quoted(text: &[u8]) -> Option<&[u8]>
     ensures value { option_map (λ r. r.now) result ≡ rest_found (quoted_from false text.now) }
     ensures within { IfSome result (λ r. length r.now ≤ length text.now) }
@@ -176,7 +176,7 @@ fn skip_quoted(text: &[u8]) -> Option<&[u8]>
     None
 }
 
-/// What stands after a run.
+/// Returns what is after a run.
 fn after_run(run: Option<Run<'_>>) -> Option<&[u8]>
     ensures value { option_map (λ r. r.now) result ≡ rest_found (option_map run_of run.entry) }
     ensures within { (n : ℕ) → IfSome run.entry (λ r. length r.rest.now ≤ n)
@@ -188,7 +188,7 @@ fn after_run(run: Option<Run<'_>>) -> Option<&[u8]>
     }
 }
 
-/// What stands after the value that a text begins with; none where it begins with none.
+/// Returns what is after the value that a text begins with; none if it begins with none.
 pub fn skip_value(text: &[u8]) -> Option<&[u8]>
     ensures value { option_map (λ r. r.now) result ≡ rest_found (value_at text.now) }
     ensures within { IfSome result (λ r. length r.now ≤ length text.now) }

@@ -77,7 +77,7 @@ said_sign behind front (word text w later) =
     ∙ ap (λ t. t ++ (meaning w ++ said true later)) (gap_sign behind front text)
     ∙ append_assoc front (61 ∷ text) (meaning w ++ said true later)
 
--- words are joined whatever stands before the first
+-- encoded-words are joined for every text before the first
 join_onto : (b : ℕ) (text : List ℕ) (w : Word) (c : Cut) → join_first (b ∷ text) w c ≡ onto b (join_first text w c)
 join_onto b text w (plain t) = refl
 join_onto b text w (word between n later) =
@@ -102,7 +102,7 @@ said_first behind before w (word between n later) =
     elim (are_one w between n) as (λ v. said behind (cond v (word before (both w n) later) (word before w (word between n later)))
     ≡ gap behind before ++ said false (cond v (word [] (both w n) later) (word [] w (word between n later)))) [ true ↦ refl | false ↦ refl ]
 
--- a word after a text that no word stands before
+-- an encoded-word after a text that is not after an encoded-word
 pub after_text : (front : List ℕ) (w : Word) (c : Cut) → said false (joined (word front w c)) ≡ front ++ said false (joined (word [] w c))
 after_text front w c = said_first false front w (joined c)
 
@@ -152,7 +152,7 @@ pub two_said : (first : Word) (between : List ℕ) (next : Word) (c : Cut) → a
     → said false (joined (word [] first (word between next c))) ≡ meaning first ++ (gap true between ++ said false (joined (word [] next c)))
 two_said first between next c e = ap (said false) (join_two first between next (joined c) e) ∙ ap (λ t. meaning first ++ t) (said_first true between next (joined c))
 
--- a text before an equals sign that begins no word, where no word stands before it or one does
+-- a text before an equals sign that begins no encoded-word, after an encoded-word or not
 pub sign_said : (front inner : List ℕ) → HasNoSign front → word_at (61 ∷ inner) ≡ None
     → said false (joined (cut (front ++ 61 ∷ inner))) ≡ front ++ 61 ∷ said false (joined (cut inner))
 sign_said front inner none is =

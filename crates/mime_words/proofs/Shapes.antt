@@ -41,16 +41,16 @@ question_ends text x e =
     )
 
 abbrev made : List ℕ → List ℕ → List ℕ → List ℕ → Option Shape
-made charset coding encoded rest = Some (record { charset = charset; coding = coding; encoded = encoded; rest = rest })
+made charset encoding encoded rest = Some (record { charset = charset; encoding = encoding; encoded = encoded; rest = rest })
 
 abbrev from_encoded : List ℕ → List ℕ → List ℕ × List ℕ → Option Shape
-from_encoded charset coding encoded = after_sign 61 encoded.1 >>= (λ rest. made charset coding encoded.0 rest)
+from_encoded charset encoding encoded = after_sign 61 encoded.1 >>= (λ rest. made charset encoding encoded.0 rest)
 
-abbrev from_coding : List ℕ → List ℕ × List ℕ → Option Shape
-from_coding charset coding = at_question coding.1 >>= from_encoded charset coding.0
+abbrev from_encoding : List ℕ → List ℕ × List ℕ → Option Shape
+from_encoding charset encoding = at_question encoding.1 >>= from_encoded charset encoding.0
 
 abbrev from_charset : List ℕ × List ℕ → Option Shape
-from_charset charset = at_question charset.1 >>= from_coding charset.0
+from_charset charset = at_question charset.1 >>= from_encoding charset.0
 
 abbrev from_inner : List ℕ → Option Shape
 from_inner inner = at_question inner >>= from_charset
@@ -60,10 +60,10 @@ unfolding shape_at
 shape_ends text s e =
     let a = bind_is (after_sign 63 text) from_inner s e in
     let b = bind_is (at_question a.0) from_charset s a.2 in
-    let c = bind_is (at_question b.0.1) (from_coding b.0.0) s b.2 in
+    let c = bind_is (at_question b.0.1) (from_encoding b.0.0) s b.2 in
     let d = bind_is (at_question c.0.1) (from_encoded b.0.0 c.0.0) s c.2 in
     let f = bind_is (after_sign 61 d.0.1) (λ rest. made b.0.0 c.0.0 d.0.0 rest) s d.2 in
-    let is : f.0 ≡ s.rest = ap (λ (z : Shape). z.rest) (some_is (record { charset = b.0.0; coding = c.0.0; encoded = d.0.0; rest = f.0 }) s f.2) in
+    let is : f.0 ≡ s.rest = ap (λ (z : Shape). z.rest) (some_is (record { charset = b.0.0; encoding = c.0.0; encoded = d.0.0; rest = f.0 }) s f.2) in
     let to_rest : EndsWith d.0.1 s.rest = subst (λ r. EndsWith d.0.1 r) is (sign_ends 61 d.0.1 f.0 f.1) in
     ends_on text a.0 s.rest (sign_ends 63 text a.0 a.1)
     (ends_on a.0 b.0.1 s.rest (question_ends a.0 b.0 b.1)

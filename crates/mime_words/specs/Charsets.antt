@@ -1,5 +1,5 @@
--- The charsets that bytes may be read in, and the text that they make (RFC 3629; RFC 2046, section
--- 4.1.2; ISO 8859-1).
+-- The charsets that are known, and the text of bytes in them (RFC 3629; RFC 2046, section 4.1.2;
+-- ISO 8859-1).
 use Rattle.std.specs.Prelude.{ℕ, Bool, true, false, not, nat_lt, List, map, Option, Some, None, codes, if◌then◌else◌}
 use Rattle.std.specs.List.{list_all}
 use Rattle.std.specs.Str.{is_utf8, encode_utf8_all}
@@ -15,7 +15,7 @@ charset_named name =
     else (if is_same_name name (codes "us-ascii") then Some Ascii
     else (if is_same_name name (codes "iso-8859-1") then Some Latin1 else None))
 
--- whether two charsets are one
+-- whether two charsets are the same
 abbrev pub same_charset : Charset → Charset → Bool
 same_charset Utf8 Utf8 = true
 same_charset Utf8 Ascii = false
@@ -34,19 +34,19 @@ is_ascii b = nat_lt b 128
 abbrev pub ascii_character : ℕ → ℕ
 ascii_character b = if is_ascii b then b else 0xFFFD
 
--- the text that bytes make in a charset, as UTF-8. Each sequence that is no UTF-8 makes one U+FFFD;
--- in iso-8859-1 each byte is the code of its character.
+-- the text of bytes in a charset, as UTF-8. Each sequence that is no UTF-8 becomes one U+FFFD; in
+-- iso-8859-1 each byte is the code of its character.
 abbrev pub text_in : Charset → List ℕ → List ℕ
 text_in Utf8 bytes = utf8_lossy bytes
 text_in Ascii bytes = encode_utf8_all (map ascii_character bytes)
 text_in Latin1 bytes = encode_utf8_all bytes
 
--- of bytes in an unknown charset what is ASCII is read
-abbrev pub text_of : Option Charset → List ℕ → List ℕ
-text_of None bytes = text_in Ascii bytes
-text_of (Some charset) bytes = text_in charset bytes
+-- bytes in an unknown charset are read as us-ascii
+abbrev pub decoded_text : Option Charset → List ℕ → List ℕ
+decoded_text None bytes = text_in Ascii bytes
+decoded_text (Some charset) bytes = text_in charset bytes
 
--- whether some byte isn't what the charset allows
+-- whether the charset doesn't allow some byte
 abbrev pub is_broken : Charset → List ℕ → Bool
 is_broken Utf8 bytes = not (is_utf8 bytes)
 is_broken Ascii bytes = not (list_all is_ascii bytes)

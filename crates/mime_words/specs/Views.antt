@@ -12,7 +12,7 @@ halves x = (x.0.now, x.1.now)
 abbrev pub shape_of : Shape' → Shape
 shape_of s = record {
   charset = s.charset.now;
-  coding = s.coding.now;
+  encoding = s.encoding.now;
   encoded = s.encoded.now;
   rest = s.rest.now;
 }
@@ -23,11 +23,12 @@ word_of w = record { charset = w.charset; bytes = w.bytes }
 abbrev pub found_of : Found → Word × List ℕ
 found_of f = (word_of f.word, f.rest.now)
 
--- what is said from a word on that isn't written yet, where this cut text follows it
+-- the decoding of an encoded-word that isn't written yet and of the cut text that follows it
 abbrev pub said_after : Word' → Cut → List ℕ
 said_after w later = said false (joined (word [] (word_of w) later))
 
--- the same, where there may be no such word
+-- the decoding of a cut text, with the encoded-word before it that isn't written yet, if there is
+-- one
 abbrev pub said_with : Option Word' → Cut → List ℕ
 said_with None later = said false (joined later)
 said_with (Some w) later = said_after w later

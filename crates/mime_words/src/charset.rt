@@ -1,7 +1,7 @@
-// Bytes in a charset as text.
+// The text of bytes in a charset.
 ghost use Rattle.std.specs.Prelude.{◌≡◌, IfOk, string_bytes};
 ghost use Rattle.mime_words.specs.Charsets;
-ghost use Rattle.mime_words.specs.Charsets.{same_charset, text_in, text_of, has_problem};
+ghost use Rattle.mime_words.specs.Charsets.{same_charset, text_in, decoded_text, has_problem};
 
 use jm_base::{NoMemory, Text};
 use mail_text::is_same_name;
@@ -18,17 +18,17 @@ pub enum Charset {
     Latin1,
 }
 
-/// A text, and whether its bytes were more than their charset allows.
+/// A text, and whether its bytes have an encoding problem (RFC 8621, section 4.1.4).
 #[derive(Debug, Drop)]
 pub struct Decoded {
-    /// The text, with U+FFFD where the bytes make none.
+    /// The text, with U+FFFD for bytes that the charset doesn't allow.
     pub text: Text,
     /// Whether a byte isn't what the charset allows, or the charset isn't known (RFC 8621, section
     /// 4.1.4).
     pub problem: bool,
 }
 
-/// The charset of a name, in either case.
+/// Returns the charset of a name, in either case; none if it isn't one of the three.
 pub fn charset_named(name: &[u8]) -> Option<Charset>
     ensures { result ≡ Rattle.mime_words.specs.Charsets.charset_named name.now }
 {
@@ -43,7 +43,7 @@ pub fn charset_named(name: &[u8]) -> Option<Charset>
     }
 }
 
-/// Whether two charsets are one.
+/// Returns whether two charsets are the same.
 pub fn is_same_charset(a: Charset, b: Charset) -> bool
     ensures { result ≡ same_charset a b }
 {
@@ -54,14 +54,14 @@ pub fn is_same_charset(a: Charset, b: Charset) -> bool
     }
 }
 
-/// The character of a byte in us-ascii; of one above 127 it is U+FFFD.
+/// Returns the character of a byte in us-ascii; a byte above 127 is U+FFFD.
 fn ascii_character(byte: u8) -> char
     ensures { result ≡ Rattle.mime_words.specs.Charsets.ascii_character byte }
 {
     if byte < 128 { byte as char } else { '\u{FFFD}' }
 }
 
-/// The text of bytes in us-ascii.
+/// Returns the text of bytes in us-ascii.
 fn ascii_text(alloc: Global, bytes: &[u8]) -> Result<String, NoMemory>
     ensures { IfOk result (λ text. string_bytes text ≡ text_in Charset.Ascii bytes.now) }
 {
@@ -72,7 +72,7 @@ fn ascii_text(alloc: Global, bytes: &[u8]) -> Result<String, NoMemory>
     Ok(text)
 }
 
-/// The text of bytes in iso-8859-1.
+/// Returns the text of bytes in iso-8859-1.
 fn latin_text(alloc: Global, bytes: &[u8]) -> Result<String, NoMemory>
     ensures { IfOk result (λ text. string_bytes text ≡ text_in Charset.Latin1 bytes.now) }
 {
@@ -83,7 +83,7 @@ fn latin_text(alloc: Global, bytes: &[u8]) -> Result<String, NoMemory>
     Ok(text)
 }
 
-/// The text of bytes in a charset.
+/// Returns the text of bytes in a charset.
 pub fn charset_text(alloc: Global, charset: Charset, bytes: &[u8]) -> Result<String, NoMemory>
     ensures { IfOk result (λ text. string_bytes text ≡ text_in charset bytes.now) }
 {
@@ -94,7 +94,7 @@ pub fn charset_text(alloc: Global, charset: Charset, bytes: &[u8]) -> Result<Str
     }
 }
 
-/// Whether some byte isn't what the charset allows.
+/// Returns whether the charset doesn't allow some byte.
 fn is_broken(charset: Charset, bytes: &[u8]) -> bool
     ensures { result ≡ Rattle.mime_words.specs.Charsets.is_broken charset bytes.now }
 {
@@ -105,12 +105,12 @@ fn is_broken(charset: Charset, bytes: &[u8]) -> bool
     }
 }
 
-/// The text that bytes make in the charset of this name, in either case: `utf-8`, `us-ascii` or
+/// Returns the text of bytes in the charset of this name, in either case: `utf-8`, `us-ascii` or
 /// `iso-8859-1`. Sequences that are no UTF-8, and in us-ascii each byte above 127, become U+FFFD
-/// and are a problem (RFC 8621, section 4.1.4). Any other charset is read as us-ascii and is a
-/// problem by itself. It fails where there is no memory, and else never.
+/// and are an encoding problem (RFC 8621, section 4.1.4). Any other charset is read as us-ascii and
+/// is a problem by itself. It fails only if memory runs out.
 pub fn decode_charset(alloc: Global, charset: &[u8], bytes: &[u8]) -> Result<Decoded, NoMemory>
-    ensures text { IfOk result (λ d. d.text ≡ text_of
+    ensures text { IfOk result (λ d. d.text ≡ decoded_text
         (Rattle.mime_words.specs.Charsets.charset_named charset.now) bytes.now) }
     ensures problem { IfOk result (λ d. d.problem
         ≡ has_problem (Rattle.mime_words.specs.Charsets.charset_named charset.now) bytes.now) }

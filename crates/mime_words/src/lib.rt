@@ -1,4 +1,4 @@
-//! Encoded-words (RFC 2047), and texts in the charsets that mail has.
+//! Encoded-words (RFC 2047), and the text of bytes in the charsets that are common in mail.
 //!
 //! Both calls read all bytes, and fail only if memory runs out.
 #![tactic(auto)]

@@ -7,14 +7,14 @@ ghost use Rattle.mime_words.specs.Views.{halves, shape_of};
 #[derive(Clone, Copy)]
 pub struct Shape<'a> {
     pub charset: &'a str,
-    /// The encoding.
-    pub coding: &'a str,
+    /// The encoding: its letter.
+    pub encoding: &'a str,
     /// The encoded-text.
     pub encoded: &'a str,
     pub rest: &'a str,
 }
 
-/// The text after this ASCII character, where the text begins with it.
+/// Returns the text after this ASCII character; none if the text doesn't begin with it.
 fn strip_sign(text: &str, sign: char) -> Option<&str>
     requires { sign < 128 }
     ensures value { option_map (λ r. r.now) result ≡ after_sign sign text.now }
@@ -23,7 +23,7 @@ fn strip_sign(text: &str, sign: char) -> Option<&str>
     text.strip_prefix(sign)
 }
 
-/// The text before the first question mark, and the text after it.
+/// Splits a text at its first question mark; none if it has none.
 fn split_question(text: &str) -> Option<(&str, &str)>
     ensures value { option_map halves result ≡ at_question text.now }
     ensures within { IfSome result (λ x. length x.1.now < length text.now) }
@@ -31,7 +31,7 @@ fn split_question(text: &str) -> Option<(&str, &str)>
     text.split_once('?')
 }
 
-/// The pieces of the word that begins with an equals sign and this text.
+/// Reads the pieces of the encoded-word that begins with an equals sign and this text.
 #[tactic(auto, unfolding(crate::specs::Words::shape_at))]
 pub fn split_shape(text: &str) -> Option<Shape<'_>>
     ensures value { option_map shape_of result ≡ shape_at (61 ∷ text.now) }
@@ -39,12 +39,12 @@ pub fn split_shape(text: &str) -> Option<Shape<'_>>
 {
     let inner = strip_sign(text, '?')?;
     let (charset, later) = split_question(inner)?;
-    let (coding, later) = split_question(later)?;
+    let (encoding, later) = split_question(later)?;
     let (encoded, later) = split_question(later)?;
     let rest = strip_sign(later, '=')?;
     Some(Shape {
         charset,
-        coding,
+        encoding,
         encoded,
         rest,
     })

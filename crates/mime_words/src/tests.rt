@@ -1,11 +1,11 @@
-// Tables. What texts mean is by RFC 2047, sections 2, 4, 6.2 and 8, and by
+// Tables. The decodings are by RFC 2047, sections 2, 4, 6.2 and 8, and by
 // docs/rules/messages-words.md.
 use crate::{decode_charset, decode_words};
 use jm_base::NoMemory;
 use std::alloc::Global;
 use std::test::Fail;
 
-/// Whether each text of a table means what is next to it.
+/// Returns whether each text of a table has the decoding next to it.
 fn all_say(alloc: Global, table: &[(&[u8], &str)]) -> Result<bool, NoMemory> {
     for (bytes, meant) in table {
         if decode_words(alloc, bytes)?.as_str() != *meant {
@@ -15,8 +15,8 @@ fn all_say(alloc: Global, table: &[(&[u8], &str)]) -> Result<bool, NoMemory> {
     Ok(true)
 }
 
-/// RFC 2047, section 8: the table at its end, and the words of its headers. Those of iso-8859-2 and
-/// iso-8859-8 stay as they are written, since these charsets aren't read.
+/// RFC 2047, section 8: the table at its end, and the encoded-words of its headers. Those of iso-8859-2
+/// and iso-8859-8 stay as they are written, since these charsets aren't read.
 #[test]
 fn examples_of_the_standard(rt: HostRuntime) -> Result<(), Fail> {
     let table: [(&[u8], &str); 14] = [
@@ -63,13 +63,13 @@ fn white_space_round_words(rt: HostRuntime) -> Result<(), Fail> {
         (b" =?utf-8?Q?a_b?= =?utf-8?B?Yw==?= ", " a bc "),
         (b"=?utf-8?q?a?= , =?utf-8?q?b?=", "a , b"),
         (b"=?utf-8?q?a?==?utf-8?q?b?=", "ab"),
-        // A word that stays keeps the white space round it.
+        // An encoded-word that stays keeps the white space around it.
         (b"=?utf-8?q?a?= =?utf-8?q?b c?= d", "a =?utf-8?q?b c?= d"),
         (
             b"=?utf-8?Q?a?= =?ISO-8859-2?Q?_b?=",
             "a =?ISO-8859-2?Q?_b?=",
         ),
-        // Words in other text, in quotes too.
+        // Encoded-words in other text, in quotes too.
         (b"x=?utf-8?q?a?=y", "xay"),
         (b"\"=?utf-8?q?a?=\"", "\"a\""),
         (b"==?utf-8?q?a?=", "=a"),
@@ -90,7 +90,7 @@ fn words_that_stay(rt: HostRuntime) -> Result<(), Fail> {
         (b"=?utf-8*en?Q?a?=", "=?utf-8*en?Q?a?="),
         (b"=??Q?a?=", "=??Q?a?="),
         (b"=?=?=?=?", "=?=?=?=?"),
-        // The last sign of a word that stays may begin the next word.
+        // The last `=` of an encoded-word that stays may begin the next one.
         (b"=?iso-8859-2?Q?a?=?utf-8?Q?b?=", "=?iso-8859-2?Q?a?b"),
         (b"", ""),
     ];
@@ -98,7 +98,7 @@ fn words_that_stay(rt: HostRuntime) -> Result<(), Fail> {
     Ok(())
 }
 
-/// A word of 75 bytes, one of 76, and one of 47 characters in 82 bytes.
+/// Encoded-words of 75 bytes, of 76, and of 47 characters in 82 bytes.
 #[test]
 fn longest_word(rt: HostRuntime) -> Result<(), Fail> {
     let table: [(&[u8], &str); 3] = [
@@ -122,15 +122,15 @@ fn longest_word(rt: HostRuntime) -> Result<(), Fail> {
 #[test]
 fn texts_of_words(rt: HostRuntime) -> Result<(), Fail> {
     let table: [(&[u8], &str); 8] = [
-        // A bad escape stays, base64 ends at its equals sign, and no text says nothing.
+        // An invalid escape stays, base64 ends at its equals sign, and an empty one is empty.
         (b"=?utf-8?Q?=ZZ=5F=4?=", "=ZZ_=4"),
         (b"=?utf-8?B?Yw==Yw==?=", "c"),
         (b"a=?utf-8?Q??=b=?utf-8?B?=?=c", "abc"),
         (b"=?utf-8?b?w6k=?=", "\u{E9}"),
-        // Control characters of ASCII are dropped.
+        // ASCII control characters are dropped.
         (b"=?utf-8?Q?a=0D=0A=00=7F=C2=80b?=", "a\u{80}b"),
-        // Bytes that their charset doesn't have; characters above ~ in a word are their UTF-8
-        // bytes.
+        // Bytes that their charset doesn't allow; characters above ~ in an encoded-word are their
+        // UTF-8 bytes.
         (b"\xFF=?utf-8?Q?=FF?=\xE2\x82", "\u{FFFD}\u{FFFD}\u{FFFD}"),
         (b"=?us-ascii?Q?=E9?=", "\u{FFFD}"),
         (
@@ -142,10 +142,10 @@ fn texts_of_words(rt: HostRuntime) -> Result<(), Fail> {
     Ok(())
 }
 
-/// Words of one charset with nothing but white space between them are read as one, so that a
-/// character that was split over them is whole; Python's `email.header.make_header` gives the first
-/// four texts too. Words with other text between them, and words of two charsets, are read one by
-/// one.
+/// Encoded-words of one charset with only white space between them are read as one, so that a
+/// character that was split over them is complete; Python's `email.header.make_header` gives the
+/// first four texts too. Encoded-words with other text between them, and those of two charsets, are
+/// read one by one.
 #[test]
 fn characters_split_over_words(rt: HostRuntime) -> Result<(), Fail> {
     let table: [(&[u8], &str); 8] = [
@@ -161,7 +161,7 @@ fn characters_split_over_words(rt: HostRuntime) -> Result<(), Fail> {
         ),
         (b"=?utf-8?Q?=C3?=x=?utf-8?Q?=BC?=", "\u{FFFD}x\u{FFFD}"),
         (b"=?utf-8?Q?=C3?= =?iso-8859-1?Q?=BC?=", "\u{FFFD}\u{BC}"),
-        // A word that stays stands between two others.
+        // An encoded-word that stays is between two others.
         (
             b"=?utf-8?Q?=C3?= =?x?Q?a?= =?utf-8?Q?=BC?=",
             "\u{FFFD} =?x?Q?a?= \u{FFFD}",
@@ -173,7 +173,7 @@ fn characters_split_over_words(rt: HostRuntime) -> Result<(), Fail> {
     Ok(())
 }
 
-/// Whether the bytes of each row make its text in its charset, with a problem or without.
+/// Returns whether the bytes of each row have its text in its charset, with a problem or without.
 fn all_read(alloc: Global, table: &[(&[u8], &[u8], &str, bool)]) -> Result<bool, NoMemory> {
     for (charset, bytes, meant, problem) in table {
         let decoded = decode_charset(alloc, charset, bytes)?;

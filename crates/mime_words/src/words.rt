@@ -1,4 +1,4 @@
-// Encoded words in a text.
+// Encoded-words in a text (RFC 2047).
 ghost use Rattle.std.specs.Prelude.{◌≡◌, ◌<◌, ◌≤◌, ◌∷◌, ◌++◌, ◌≢◌, ℕ, true, length, slice_index, map, option_map, IfOk, OnOk, IfSome, Some, None, string_bytes};
 ghost use Rattle.std.specs.Char.{is_ascii_whitespace};
 ghost use Rattle.std.specs.List.{list_all, list_any};
@@ -25,21 +25,21 @@ pub struct Word {
     pub bytes: Bytes,
 }
 
-/// A word, and the text after it.
+/// An encoded-word, and the text after it.
 #[derive(Drop)]
 pub struct Found<'a> {
     pub word: Word,
     pub rest: &'a str,
 }
 
-/// A space for an underscore; another byte is itself.
+/// Returns a space for an underscore; another byte is itself (RFC 2047, section 4.2).
 fn spaced(byte: u8) -> u8
     ensures { result ≡ Words.spaced byte }
 {
     if byte == b'_' { b' ' } else { byte }
 }
 
-/// The bytes that an encoded-text in the Q coding encodes (RFC 2047, section 4.2).
+/// Returns the bytes that an encoded-text in the Q encoding encodes (RFC 2047, section 4.2).
 fn decode_q(alloc: Global, encoded: &[u8]) -> Result<Bytes, NoMemory>
     ensures { IfOk result (λ b. b ≡ unescaped (map Words.spaced encoded.now)) }
 {
@@ -50,7 +50,8 @@ fn decode_q(alloc: Global, encoded: &[u8]) -> Result<Bytes, NoMemory>
     unescape(alloc, text.as_slice())
 }
 
-/// The bytes that an encoded-text encodes in the coding of this letter.
+/// Returns the bytes that an encoded-text encodes in the encoding of this letter; none if the
+/// letter is neither `B` nor `Q`, in either case.
 fn decode_by(alloc: Global, letter: u8, encoded: &[u8]) -> Result<Option<Bytes>, NoMemory>
     ensures { IfOk result (λ b. b ≡ bytes_by letter encoded.now) }
 {
@@ -61,24 +62,24 @@ fn decode_by(alloc: Global, letter: u8, encoded: &[u8]) -> Result<Option<Bytes>,
     }
 }
 
-/// The bytes that an encoded-text encodes in a coding, which is one letter.
-fn decode_coded(alloc: Global, coding: &[u8], encoded: &[u8]) -> Result<Option<Bytes>, NoMemory>
-    ensures { IfOk result (λ b. b ≡ coded_bytes coding.now encoded.now) }
+/// Returns the bytes that an encoded-text encodes in an encoding, which is one letter.
+fn decode_coded(alloc: Global, encoding: &[u8], encoded: &[u8]) -> Result<Option<Bytes>, NoMemory>
+    ensures { IfOk result (λ b. b ≡ coded_bytes encoding.now encoded.now) }
 {
-    match coding {
+    match encoding {
         [letter] => decode_by(alloc, *letter, encoded),
         _ => Ok(None),
     }
 }
 
-/// Takes the control characters of ASCII out of a text.
+/// Removes the ASCII control characters from a text.
 fn drop_controls(text: &mut String)
     ensures { string_bytes text.new ≡ without_controls (string_bytes text.old) }
 {
     text.retain(|c| !c.is_ascii_control());
 }
 
-/// What a word of these pieces holds.
+/// Reads what an encoded-word of these pieces holds; none if its charset or encoding isn't known.
 #[tactic(auto, unfolding(crate::specs::Words::content))]
 fn read_content(alloc: Global, shape: Shape<'_>) -> Result<Option<Word>, NoMemory>
     ensures { IfOk result (λ w. option_map word_of w ≡ content (shape_of shape.entry)) }
@@ -86,20 +87,20 @@ fn read_content(alloc: Global, shape: Shape<'_>) -> Result<Option<Word>, NoMemor
     let Some(charset) = charset_named(shape.charset.as_bytes()) else {
         return Ok(None);
     };
-    match decode_coded(alloc, shape.coding.as_bytes(), shape.encoded.as_bytes())? {
+    match decode_coded(alloc, shape.encoding.as_bytes(), shape.encoded.as_bytes())? {
         Some(bytes) => Ok(Some(Word { charset, bytes })),
         None => Ok(None),
     }
 }
 
-/// Whether there is white space in a text.
+/// Returns whether there is white space in a text.
 fn has_white_space(text: &str) -> bool
     ensures { result ≡ list_any is_ascii_whitespace text.now }
 {
     text.as_bytes().iter().any(|b| b.is_ascii_whitespace())
 }
 
-/// The word that begins with an equals sign and this text.
+/// Reads the encoded-word that begins with an equals sign and this text.
 #[tactic(auto, unfolding(crate::specs::Words::word_at))]
 fn read_word(alloc: Global, text: &str) -> Result<Option<Found<'_>>, NoMemory>
     ensures value { IfOk result (λ f. option_map found_of f ≡ word_at (61 ∷ text.now)) }
@@ -120,14 +121,14 @@ fn read_word(alloc: Global, text: &str) -> Result<Option<Found<'_>>, NoMemory>
     }
 }
 
-/// Whether a text is white space alone.
+/// Returns whether a text is white space alone.
 fn is_white(text: &str) -> bool
     ensures { result ≡ Words.is_white text.now }
 {
     text.as_bytes().iter().all(|b| b.is_ascii_whitespace())
 }
 
-/// Adds the text between two words, but for white space alone.
+/// Adds the text between two encoded-words, unless it is white space alone.
 fn push_between(out: &mut String, text: &str) -> Result<(), NoMemory>
     ensures { OnOk result (string_bytes out.new ≡ string_bytes out.old ++ gap true text.now) }
 {
@@ -137,7 +138,7 @@ fn push_between(out: &mut String, text: &str) -> Result<(), NoMemory>
     Ok(())
 }
 
-/// Adds the text that a word encodes.
+/// Adds the text that an encoded-word encodes.
 fn push_meaning(alloc: Global, out: &mut String, word: &Word) -> Result<(), NoMemory>
     ensures { OnOk result (string_bytes out.new ≡ string_bytes out.old
         ++ meaning (word_of word.now)) }
@@ -148,15 +149,15 @@ fn push_meaning(alloc: Global, out: &mut String, word: &Word) -> Result<(), NoMe
     Ok(())
 }
 
-/// Whether two words, between which a text stands, are read as one.
+/// Returns whether two encoded-words with this text between them are read as one.
 fn are_one(first: &Word, between: &str, next: &Word) -> bool
     ensures { result ≡ Words.are_one (word_of first.now) between.now (word_of next.now) }
 {
     is_white(between) && is_same_charset(first.charset, next.charset)
 }
 
-/// Takes a word that follows another one and the text between them: joins both where they are read
-/// as one, else adds the first and the text. Returns the word that isn't added yet.
+/// Reads an encoded-word that follows another one and the text between them: joins both if they are
+/// read as one, else adds the first and the text. Returns the encoded-word that isn't added yet.
 fn push_next(
     alloc: Global,
     out: &mut String,
@@ -177,8 +178,8 @@ fn push_next(
     Ok(next)
 }
 
-/// Takes a word and the text before it; `last` is the word before that text, if there is one that
-/// isn't added yet. Returns the word that isn't added yet.
+/// Reads an encoded-word and the text before it; `last` is the encoded-word before that text, if
+/// there is one that isn't added yet. Returns the encoded-word that isn't added yet.
 fn push_word(
     alloc: Global,
     out: &mut String,
@@ -198,8 +199,8 @@ fn push_word(
     }
 }
 
-/// Adds the word that isn't added yet, if there is one, and the text after it, which no word
-/// follows.
+/// Adds the encoded-word that isn't added yet, if there is one, and the text after it, which no
+/// encoded-word follows.
 fn push_text(
     alloc: Global,
     out: &mut String,
@@ -216,14 +217,14 @@ fn push_text(
     Ok(())
 }
 
-/// What is left of a text, and the last word before it, which isn't added yet.
+/// What is left of a text, and the last encoded-word before it, which isn't added yet.
 #[derive(Drop)]
 struct Left<'a> {
     text: &'a str,
     last: Option<Word>,
 }
 
-/// Takes a text up to an equals sign, and the word that begins with that sign, if there is one.
+/// Reads a text up to an equals sign, and the encoded-word that begins there, if there is one.
 fn push_piece<'a>(
     alloc: Global,
     out: &mut String,
@@ -256,7 +257,7 @@ fn push_piece<'a>(
     }
 }
 
-/// A text with its encoded-words decoded.
+/// Decodes the encoded-words of a text.
 fn text_words(alloc: Global, text: &str) -> Result<Text, NoMemory>
     ensures { IfOk result (λ t. t ≡ decoded_words text.now) }
 {
@@ -272,16 +273,16 @@ fn text_words(alloc: Global, text: &str) -> Result<Text, NoMemory>
     Ok(Text::from_string(out))
 }
 
-/// The text of some bytes with their encoded-words decoded (RFC 2047), wherever they stand. Bytes
-/// that are no UTF-8 become U+FFFD first.
+/// Decodes the encoded-words of a text (RFC 2047), anywhere in it. Bytes that are no UTF-8 become
+/// U+FFFD first.
 ///
-/// A word stays as it is written where its charset isn't `utf-8`, `us-ascii` or `iso-8859-1`, its
-/// encoding isn't `B` or `Q`, it is longer than 75 bytes, or white space is in its encoded-text.
-/// Words of one charset between which only white space stands are read as one: their bytes are
-/// joined before the charset is read, so a character that was split over two words is whole. In
-/// what a decoded word says, U+FFFD replaces bytes that its charset doesn't have, and the control
-/// characters of ASCII are left out. White space that alone stands between two decoded words is
-/// dropped (section 6.2). It fails if memory runs out, and else never.
+/// An encoded-word stays as it is written if its charset isn't `utf-8`, `us-ascii` or `iso-8859-1`,
+/// its encoding isn't `B` or `Q`, it has more than `MAX_ENCODED_WORD_BYTES` bytes, or white space
+/// is in its encoded-text. Encoded-words of one charset with only white space between them are read
+/// as one: their bytes are joined before the charset is read, so that a character that was split
+/// over two is complete. In the text of an encoded-word U+FFFD replaces bytes that its charset
+/// doesn't allow, and ASCII control characters are left out. White space alone between two decoded
+/// encoded-words is dropped (section 6.2). It fails only if memory runs out.
 pub fn decode_words(alloc: Global, bytes: &[u8]) -> Result<Text, NoMemory>
     ensures { IfOk result (λ t. t ≡ decoded_words (utf8_lossy bytes.now)) }
 {

@@ -10,6 +10,7 @@ use Rattle.mail_records.specs.declared.records.Thread.{Thread}
 use Rattle.mail_records.specs.declared.edits.Edit.{Edit}
 use Rattle.mail_records.specs.declared.edits.Edit.TheVariants.{PutMailbox, DropMailbox, PutEmail, DropEmail, PutThread, DropThread}
 use Rattle.mail_records.specs.declared.edits.Commit.{Commit}
+use Rattle.record_codec.specs.declared.write_fields.TheConstants.{SECONDS_BEFORE_1970}
 
 -- a number: eight bytes, the big end first
 unfoldable pub number : ℕ → List ℕ
@@ -35,8 +36,8 @@ optional value (Some x) = 1 ∷ value x
 
 -- the seconds of a date since 0001-01-01T00:00:00Z, from those since 1970
 abbrev pub since_year_one : ℤ → ℕ
-since_year_one (pos n) = n + 62135596800
-since_year_one (negsuc n) = 62135596799 - n
+since_year_one (pos n) = n + SECONDS_BEFORE_1970
+since_year_one (negsuc n) = SECONDS_BEFORE_1970 - 1 - n
 
 -- a date: its seconds since the beginning of the year 1
 abbrev pub date : UtcDate → List ℕ

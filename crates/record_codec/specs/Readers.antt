@@ -12,6 +12,7 @@ use Rattle.mail_records.specs.declared.records.Thread.{Thread}
 use Rattle.mail_records.specs.declared.edits.Edit.{Edit}
 use Rattle.mail_records.specs.declared.edits.Edit.TheVariants.{PutMailbox, DropMailbox, PutEmail, DropEmail, PutThread, DropThread}
 use Rattle.mail_records.specs.declared.edits.Commit.{Commit}
+use Rattle.record_codec.specs.declared.write_fields.TheConstants.{LAST_SECOND, SECONDS_BEFORE_1970}
 use Rattle.record_codec.specs.NextBytes.{left_in_word, start, least_length, left_in_text, at_first}
 use Rattle.record_codec.specs.Reading.{Read, ◌>>=◌, both, made, items_at}
 
@@ -52,10 +53,10 @@ tag_at last (b ∷ rest) = if b == 0 || nat_lt last b then Err (suc (length rest
 
 -- a date, from its seconds since the beginning of the year 1
 abbrev pub date_from : ℕ → UtcDate
-date_from n = record { seconds = pos n -ℤ pos 62135596800 }
+date_from n = record { seconds = pos n -ℤ pos SECONDS_BEFORE_1970 }
 
 abbrev pub date_at : List ℕ → Read UtcDate
-date_at = made date_from (number_between 0 315537897599)
+date_at = made date_from (number_between 0 LAST_SECOND)
 
 -- a blob
 abbrev pub bytes_at : ℕ → List ℕ → Read (List ℕ)

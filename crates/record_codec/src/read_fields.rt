@@ -84,7 +84,7 @@ pub fn read_date(bytes: &[u8]) -> Result<(UtcDate, &[u8]), Misread>
     ensures { Gives (λ x. (x.0, x.1.now)) result (date_at bytes.now) }
 {
     let (number, rest) = read_number_between(0, LAST_SECOND, bytes)?;
-    let seconds = number as i64 - SECONDS_BEFORE_1970;
+    let seconds = number as i64 - SECONDS_BEFORE_1970 as i64;
     Ok((UtcDate { seconds }, rest))
 }
 

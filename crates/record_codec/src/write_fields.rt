@@ -4,13 +4,13 @@ ghost use Rattle.std.specs.Option.{ForSome};
 ghost use Rattle.jm_base.specs.UtcDates.{IsUtcDate};
 ghost use Rattle.record_codec.specs.Encoding.{number, blob, listed, truth, optional, date};
 
-use jm_base::{Bytes, NoMemory, Text, UtcDate};
+use jm_base::{Bytes, FIRST_TIMESTAMP, LAST_TIMESTAMP, NoMemory, Text, UtcDate};
 
 /// The seconds from the beginning of the year 1 to that of 1970.
-pub const SECONDS_BEFORE_1970: i64 = 62135596800;
+pub const SECONDS_BEFORE_1970: u64 = (-FIRST_TIMESTAMP) as u64;
 
 /// The last second of the year 9999, counted from the beginning of the year 1.
-pub const LAST_SECOND: u64 = 315537897599;
+pub const LAST_SECOND: u64 = LAST_TIMESTAMP + SECONDS_BEFORE_1970;
 
 #[tactic(auto, unfolding(crate::specs::Encoding::number))]
 /// Writes a number at the end of the bytes: 8 of them, the big end first.
@@ -48,7 +48,7 @@ pub fn write_date(out: &mut Vec<u8>, value: &UtcDate) -> Result<(), NoMemory>
     requires { IsUtcDate value.now }
     ensures { OnOk result (out.new.items ≡ out.old.items ++ date value.now) }
 {
-    let seconds = value.seconds + SECONDS_BEFORE_1970;
+    let seconds = value.seconds + SECONDS_BEFORE_1970 as i64;
     write_number(out, seconds as u64)
 }
 
@@ -94,9 +94,9 @@ pub fn write_optional_date(out: &mut Vec<u8>, value: &Option<UtcDate>) -> Result
             out.push(0)?;
             Ok(())
         }
-        Some(moment) => {
+        Some(date) => {
             out.push(1)?;
-            write_date(out, moment)
+            write_date(out, date)
         }
     }
 }

@@ -9,7 +9,7 @@ use Rattle.jm_json.specs.Tree.{Tree}
 use Rattle.mail_records.specs.Contents.{Content, email_at, mailbox_at}
 use Rattle.mail_records.specs.declared.records.Email.{Email}
 use Rattle.filter_terms.specs.Laws.{SameSeen}
-use Rattle.filter_terms.specs.Seen.{Seen, of_thread, seen_at, seen_in}
+use Rattle.filter_terms.specs.Targets.{Seen, of_thread, seen_at, seen_in}
 use Rattle.filter_terms.proofs.Alone.{with_thread}
 use Rattle.sort_terms.specs.Comparators.{directed, email_property_cmp, emails_cmp, mailboxes_cmp}
 use Rattle.sort_terms.specs.Forms.{comparators_of}

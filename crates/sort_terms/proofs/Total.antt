@@ -18,7 +18,7 @@ use Rattle.mail_records.proofs.KeyTables.{nat_equal}
 use Rattle.mail_records.specs.Contents.{Content, mailbox_at}
 use Rattle.mail_records.specs.declared.records.Email.{Email}
 use Rattle.mail_records.specs.declared.records.Mailbox.{Mailbox}
-use Rattle.filter_terms.specs.Seen.{Seen, seen_at}
+use Rattle.filter_terms.specs.Targets.{Seen, seen_at}
 use Rattle.sort_terms.specs.Comparators.{directed, email_property_cmp, emails_cmp, equal_cmp, mailbox_property_cmp, mailboxes_cmp, sent_seconds, text_cmp}
 use Rattle.sort_terms.specs.Forms.{comparators_of}
 use Rattle.sort_terms.specs.Laws.{BeforeGoesOn, NeverBeforeItself, OneIsBefore}

@@ -9,7 +9,7 @@ use Rattle.std.specs.declared.cmp.Ordering.{Ordering}
 use Rattle.mail_counts.specs.Counts.{has_keyword}
 use Rattle.mail_records.specs.declared.records.Email.{Email}
 use Rattle.mail_records.specs.declared.records.Mailbox.{Mailbox}
-use Rattle.filter_terms.specs.Seen.{Seen}
+use Rattle.filter_terms.specs.Targets.{Seen}
 use Rattle.sort_terms.specs.declared.comparators.Comparator.{Comparator}
 use Rattle.sort_terms.specs.declared.properties.Property.{Property}
 use Rattle.sort_terms.specs.declared.properties.Property.TheVariants.{ReceivedAt, Size, From, To, Subject, SentAt, HasKeyword, AllInThread, SomeInThread, SortOrder, Name}
@@ -26,8 +26,8 @@ equal_cmp {X} = on (λ (x : X). 0) nat_cmp
 abbrev pub sent_seconds : Seen → Option ℤ
 sent_seconds s = option_map (λ date. date.seconds) s.email.summary.sent
 
--- Rising, by a property of an email or of its thread: an absent date is before every date, false is
--- before true, and the subject is without the prefixes of replies and forwards.
+-- Ascending, by a property of an email or of its thread: an absent date is before every date, false
+-- is before true, and the subject is without the prefixes of replies and forwards.
 abbrev pub email_property_cmp : Property → List ℕ → Seen → Seen → Ordering
 email_property_cmp ReceivedAt k = on (λ s. s.email.received.seconds) int_cmp
 email_property_cmp Size k = on (λ s. s.email.size) nat_cmp
@@ -41,13 +41,13 @@ email_property_cmp SomeInThread k = on (λ s. list_any (λ e. has_keyword k e) s
 email_property_cmp SortOrder k = equal_cmp
 email_property_cmp Name k = equal_cmp
 
--- rising, by a property of a mailbox
+-- ascending, by a property of a mailbox
 abbrev pub mailbox_property_cmp : Property → Mailbox → Mailbox → Ordering
 mailbox_property_cmp SortOrder = on (λ m. m.sort_order) nat_cmp
 mailbox_property_cmp Name = on (λ m. m.name) text_cmp
 mailbox_property_cmp _ = equal_cmp
 
--- falling is rising turned round, absent dates too
+-- descending order is ascending order reversed, absent dates too
 abbrev pub directed : {X : Type 0} → Bool → (X → X → Ordering) → X → X → Ordering
 directed true R = R
 directed false R = flip_args R

@@ -97,13 +97,13 @@ unsupported kind (object fs) = None
 abbrev pub IsOrder : Kind → Tree → Type 0
 IsOrder kind t = (invalid kind t ≡ None) × (unsupported kind t ≡ None)
 
--- the tree is refused with this fault
+-- reading the tree fails with this fault
 abbrev pub Refuses : Kind → Tree → TermFault → Type 0
 Refuses kind t (Invalid name) = invalid kind t ≡ Some name
 Refuses kind t (Unsupported name) = (invalid kind t ≡ None) × (unsupported kind t ≡ Some name)
 Refuses kind t NoMemory = ⊤
 
--- rising, where it is not said
+-- ascending, unless `isAscending` is false
 abbrev pub is_ascending : List (List ℕ × Tree) → Bool
 is_ascending ms = unwrap_or (option_and_then as_flag (find (codes "isAscending") ms)) true
 
@@ -122,7 +122,7 @@ comparator_in kind ms = option_map (comparator_with ms) (property_in kind ms)
 abbrev pub comparator_of : Kind → Tree → Option Comparator
 comparator_of kind t = option_and_then (comparator_in kind) (as_object t)
 
--- with this comparator in front, if there is one
+-- with this comparator first, if there is one
 abbrev pub if_any : Option Comparator → List Comparator → List Comparator
 if_any None cs = cs
 if_any (Some c) cs = c ∷ cs

@@ -1,4 +1,4 @@
--- Which of two records is before the other: by the comparators, then by number, rising
+-- Which of two records is before the other: by the comparators, then by number, ascending
 -- (RFC 8620, 5.5, which asks that the order is the same each time).
 use Rattle.std.specs.Prelude.{ℕ, Bool, List}
 use Rattle.std.specs.List.{list_any}
@@ -9,7 +9,7 @@ use Rattle.jm_base.specs.declared.identifiers.Kind.{Kind}
 use Rattle.jm_base.specs.declared.identifiers.Kind.TheVariants.{Mailbox, Email, Thread}
 use Rattle.jm_json.specs.Tree.{Tree}
 use Rattle.mail_records.specs.Contents.{Content, mailbox_at}
-use Rattle.filter_terms.specs.Seen.{seen_at}
+use Rattle.filter_terms.specs.Targets.{seen_at}
 use Rattle.sort_terms.specs.Comparators.{emails_cmp, equal_cmp, mailboxes_cmp}
 use Rattle.sort_terms.specs.Forms.{comparators_of}
 use Rattle.sort_terms.specs.Properties.{is_wide_property}

@@ -3,7 +3,7 @@
 use Rattle.std.specs.Prelude.{refl}
 use Rattle.std.specs.Coded.{Coded, code_by, coded×}
 use Rattle.jm_base.specs.declared.identifiers.Kind.{Kind}
-use Rattle.jm_json.specs.Code.{tree_code}
+use Rattle.jm_json.specs.TreeCodes.{tree_code}
 use Rattle.jm_json.specs.Tree.{Tree}
 use Rattle.filter_terms.specs.Views.{kind_code}
 

@@ -2,7 +2,7 @@
 ghost use Rattle.std.specs.Prelude.{◌≡◌, ℕ, List, ◌∷◌, MatchResult, option_map};
 ghost use Rattle.std.specs.Option.{option_cmp};
 ghost use Rattle.std.specs.Ordering.{int_cmp};
-ghost use Rattle.filter_terms.specs.Seen.{seen_in};
+ghost use Rattle.filter_terms.specs.Targets.{seen_in};
 ghost use Rattle.sort_terms.specs.Comparators.{directed, email_property_cmp, emails_cmp, mailbox_property_cmp, mailboxes_cmp, sent_seconds, text_cmp};
 
 use crate::comparators::Comparator;

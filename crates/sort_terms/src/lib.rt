@@ -2,7 +2,7 @@
 //! two records is before the other (RFC 8620, section 5.5; RFC 8621, sections 2.3 and 4.4.2).
 //!
 //! [`read_order`] reads an [`Order`] once. [`before`] compares two records of a content by it; ties
-//! go by number, rising, so no two records are equal.
+//! are broken by number, ascending, so no two records are equal.
 #![tactic(auto)]
 
 mod comparators;

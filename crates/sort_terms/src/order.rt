@@ -6,7 +6,7 @@ ghost use Rattle.std.specs.List.{list_any};
 ghost use Rattle.jm_base.specs.declared.identifiers.Kind.TheVariants.{Email as OfEmails, Mailbox as OfMailboxes};
 ghost use Rattle.jm_json.specs.Json.{tree_of};
 ghost use Rattle.mail_records.specs.Contents.{mailbox_at};
-ghost use Rattle.filter_terms.specs.Seen.{seen_at, seen_in};
+ghost use Rattle.filter_terms.specs.Targets.{seen_at, seen_in};
 ghost use Rattle.sort_terms.specs.Comparators.{emails_cmp, mailboxes_cmp};
 ghost use Rattle.sort_terms.specs.Forms.{IsOrder, Refuses, comparators_of};
 ghost use Rattle.sort_terms.specs.Orders;
@@ -18,7 +18,7 @@ use crate::compare;
 use crate::forms::{invalid, unsupported};
 use crate::properties::is_wide_property;
 use filter_terms::TermFault;
-use jm_base::{Kind, NoMemory, Text};
+use jm_base::{Kind, Text};
 use jm_json::{Json, copy};
 use mail_records::{Content, Email, Mailbox};
 use std::alloc::Global;
@@ -76,10 +76,10 @@ pub fn read_order(alloc: Global, kind: Kind, tree: &Json) -> Result<Order, TermF
     ensures err { IfErr result (λ e. Refuses kind (tree_of tree.now) e) }
 {
     if let Some(name) = invalid(kind, tree) {
-        return Err(TermFault::Invalid(text_of(alloc, name)?));
+        return Err(TermFault::Invalid(Text::from_str(alloc, name)?));
     }
     if let Some(name) = unsupported(kind, tree) {
-        return Err(TermFault::Unsupported(text_of(alloc, name)?));
+        return Err(TermFault::Unsupported(Text::from_str(alloc, name)?));
     }
     let comparators = comparators_of(alloc, kind, tree)?;
     let over_thread = are_wide(&comparators);
@@ -91,12 +91,6 @@ pub fn read_order(alloc: Global, kind: Kind, tree: &Json) -> Result<Order, TermF
     })
 }
 
-fn text_of(alloc: Global, name: &str) -> Result<Text, NoMemory>
-    ensures { IfOk result (λ t. t ≡ name.now) }
-{
-    Text::from_str(alloc, name)
-}
-
 /// Returns whether an order looks at the other emails of an email's thread.
 pub fn is_wide(order: &Order) -> bool
     ensures { result ≡ Orders.is_wide order.now.kind order.now.tree }
@@ -104,7 +98,7 @@ pub fn is_wide(order: &Order) -> bool
     order.over_thread
 }
 
-/// Compares two emails of a content by an order of emails; ties go by number, rising.
+/// Compares two emails of a content by an order of emails; ties are broken by number, ascending.
 pub fn compare_emails(order: &Order, content: &Content, left: &Email, right: &Email) -> Ordering
     ensures { result ≡ ordering_then (emails_cmp (comparators_of order.now.kind order.now.tree)
         (seen_in content.now.content.emails left.now)
@@ -116,7 +110,7 @@ pub fn compare_emails(order: &Order, content: &Content, left: &Email, right: &Em
     }
 }
 
-/// Compares two mailboxes by an order of mailboxes; ties go by number, rising.
+/// Compares two mailboxes by an order of mailboxes; ties are broken by number, ascending.
 pub fn compare_mailboxes(order: &Order, left: &Mailbox, right: &Mailbox) -> Ordering
     ensures { result ≡ ordering_then (mailboxes_cmp (comparators_of order.now.kind order.now.tree)
         left.now right.now) (nat_cmp left.now.number right.now.number) }
@@ -181,8 +175,8 @@ fn compare_records(order: &Order, content: &Content, left: u64, right: u64) -> O
     }
 }
 
-/// Compares the records of two numbers, of the order's kind; ties go by number, rising. A record
-/// that is not there is before all others.
+/// Compares the records of two numbers, of the order's kind; ties are broken by number, ascending.
+/// A record that is not there is before all others.
 pub fn compare_numbers(order: &Order, content: &Content, left: u64, right: u64) -> Ordering
     ensures { result ≡ numbers_cmp order.now.kind order.now.tree content.now.content left right }
 {

@@ -10,7 +10,7 @@ use Rattle.mail_records.specs.declared.edits.Edit.{Edit}
 use Rattle.mail_records.specs.declared.edits.Edit.TheVariants.{PutMailbox, PutEmail, PutThread}
 use Rattle.state_log.specs.declared.notes.Note.{Note}
 
--- a log: where it begins, a note of each edit since, and for how many more room stands ready
+-- a log: where it begins, a note of each edit since, and for how many more there is room
 pub record Notes : Type 0 where
   pub floor : ℕ
   pub floors : Floors

@@ -39,7 +39,11 @@ impl Model for Log {
 
     ghost view = { λ l. record {
       floor = l.floor;
-      floors = record { mailbox = l.floors.mailbox; email = l.floors.email; thread = l.floors.thread };
+      floors = record {
+        mailbox = l.floors.mailbox;
+        email = l.floors.email;
+        thread = l.floors.thread;
+      };
       notes = l.notes.items;
       spare = vec_capacity l.notes - vec_len l.notes;
     } };
@@ -90,8 +94,8 @@ fn moved(positions: Positions, kind: Kind, position: u64) -> Positions
 }
 
 impl Log {
-    /// A log without notes that begins at this floor, with the positions of the kinds there. It
-    /// takes no memory.
+    /// Returns a log without notes that begins at this floor, with the positions of the kinds
+    /// there. Allocates nothing.
     pub fn new(alloc: Global, floor: u64, mailbox: u64, email: u64, thread: u64) -> Log
         requires { (mailbox ≤ floor) × (email ≤ floor) × (thread ≤ floor) }
         ensures floor { result.floor ≡ floor }
@@ -112,14 +116,14 @@ impl Log {
         }
     }
 
-    /// The last position.
+    /// Returns the last position.
     pub fn end(&self) -> u64
         ensures { result ≡ log_end self.now }
     {
         self.floor + self.notes.len() as u64
     }
 
-    /// The state of a kind: the position of its last edit, else its position at the floor.
+    /// Returns the state of a kind: the position of its last edit, else its position at the floor.
     pub fn state_of(&self, kind: Kind) -> u64
         ensures state { result ≡ last_position kind self.now.floor self.now.floors
             (ids_in self.now.notes) }
@@ -128,8 +132,8 @@ impl Log {
         position_of(&self.states, kind)
     }
 
-    /// The state of a kind at a position: the position of its last edit up to there, else its
-    /// position at the floor.
+    /// Returns the state of a kind at a position: the position of its last edit up to there, else
+    /// its position at the floor.
     pub fn state_at(&self, kind: Kind, position: u64) -> u64
         ensures state { result ≡ last_position kind self.now.floor self.now.floors
             (take (position - self.now.floor) (ids_in self.now.notes)) }
@@ -152,8 +156,8 @@ impl Log {
         &self.notes[..count as usize]
     }
 
-    /// Whether all edits of a kind after a position are known: it is from the kind's position at
-    /// the floor to the end.
+    /// Returns whether all edits of a kind after a position are known: the position is from the
+    /// kind's position at the floor to the end.
     pub fn reaches(&self, kind: Kind, position: u64) -> bool
         ensures { IsTrue result ↔ ((floor_of self.now.floors kind ≤ position)
             × (position ≤ log_end self.now)) }
@@ -161,8 +165,8 @@ impl Log {
         position_of(&self.floors, kind) <= position && position <= self.end()
     }
 
-    /// The numbers that the edits of a kind after one position, and up to another, name, in number
-    /// order.
+    /// Returns the numbers that the edits of a kind after one position, and up to another, name, in
+    /// number order.
     pub fn touched(
         &self,
         alloc: Global,
@@ -178,7 +182,7 @@ impl Log {
         touched_in(alloc, self.notes_between(from, upto), kind)
     }
 
-    /// The notes of the edits after one position, up to another, in order.
+    /// Lends the notes of the edits after one position, up to another, in order.
     pub fn notes_between(&self, from: u64, upto: u64) -> &[Note]
         requires order { from ≤ upto }
         requires within { upto ≤ log_end self.now }
@@ -190,7 +194,7 @@ impl Log {
         &notes[first..]
     }
 
-    /// The note of the edit at a position above the floor.
+    /// Returns the note of the edit at a position above the floor.
     pub fn note(&self, position: u64) -> Note
         requires above { self.now.floor < position }
         requires within { position ≤ log_end self.now }
@@ -200,7 +204,8 @@ impl Log {
         self.notes[(position - self.floor - 1) as usize]
     }
 
-    /// Makes room for notes of these edits. Where there is none, all but the room is as before.
+    /// Makes room for notes of these edits. If an allocation fails, all but the room is
+    /// as before.
     pub fn reserve(&mut self, edits: &[Edit]) -> Result<(), NoMemory>
         ensures same { self.new ≡ record self.old { spare = self.new.spare } }
         ensures spare { OnOk result (length edits.now ≤ self.new.spare) }
@@ -210,7 +215,7 @@ impl Log {
         Ok(())
     }
 
-    /// Adds a note of an edit. Where there is no memory for it, all but the room is as before.
+    /// Adds a note of an edit. If an allocation fails, all but the room is as before.
     pub fn push(&mut self, edit: &Edit) -> Result<(), NoMemory>
         requires { log_end self.old + 1 < 2 ^ 64 }
         ensures ok { OnOk result (self.new ≡ record self.old
@@ -222,7 +227,7 @@ impl Log {
         Ok(())
     }
 
-    /// Adds a note of an edit, for which room is reserved. It takes no memory.
+    /// Adds a note of an edit, for which room is reserved. Allocates nothing.
     pub fn push_ready(&mut self, edit: Edit)
         requires room { 1 ≤ self.old.spare }
         requires short { log_end self.old + 1 < 2 ^ 64 }
@@ -233,7 +238,7 @@ impl Log {
         self.note_ready(&edit);
     }
 
-    /// The same for an edit that is lent.
+    /// Adds a note of an edit that is lent, for which room is reserved. Allocates nothing.
     pub fn note_ready(&mut self, edit: &Edit)
         requires room { 1 ≤ self.old.spare }
         requires short { log_end self.old + 1 < 2 ^ 64 }
@@ -248,7 +253,7 @@ impl Log {
     }
 }
 
-/// Adds notes of edits in order, for which room is reserved. It takes no memory.
+/// Adds notes of edits in order, for which room is reserved. Allocates nothing.
 pub fn note_all_ready(log: &mut Log, edits: &[Edit])
     requires room { length edits.now ≤ log.old.spare }
     requires short { log_end log.old + length edits.now < 2 ^ 64 }

@@ -9,21 +9,21 @@ use mail_records::Edit;
 /// What an edit names, and how.
 #[derive(Clone, Copy, Debug, PartialEq, Eq)]
 pub struct Note {
-    /// The kind of the record that it puts or drops.
+    /// The kind of the record that the edit puts or drops.
     pub kind: Kind,
     /// That record's number.
     pub number: u64,
-    /// The thread that it names, where the record is an email.
+    /// The thread that the edit names, if the record is an email.
     pub thread: Option<u64>,
-    /// Whether it puts the record.
+    /// Whether the edit puts the record.
     pub put: bool,
     /// Whether the record was there before, as it is before a drop.
     pub was: bool,
-    /// Whether it changes only the counts of a mailbox.
+    /// Whether the edit changes only the counts of a mailbox.
     pub counts: bool,
 }
 
-// A note of an edit that puts a record.
+// Returns the note of an edit that puts a record.
 fn put_note(kind: Kind, number: u64, thread: Option<u64>, was: bool, counts: bool) -> Note
     ensures { result ≡ record {
       kind = kind;
@@ -44,7 +44,7 @@ fn put_note(kind: Kind, number: u64, thread: Option<u64>, was: bool, counts: boo
     }
 }
 
-// A note of an edit that drops a record.
+// Returns the note of an edit that drops a record.
 fn drop_note(kind: Kind, number: u64, thread: Option<u64>) -> Note
     ensures { result ≡ record {
       kind = kind;
@@ -65,7 +65,7 @@ fn drop_note(kind: Kind, number: u64, thread: Option<u64>) -> Note
     }
 }
 
-/// The note of an edit.
+/// Returns the note of an edit.
 pub fn note_of(edit: &Edit) -> Note
     ensures { result ≡ note_of edit.now }
 {
@@ -83,14 +83,14 @@ pub fn note_of(edit: &Edit) -> Note
     }
 }
 
-/// Whether a note is of a kind.
+/// Returns whether a note is of a kind.
 pub fn is_of(note: &Note, kind: Kind) -> bool
     ensures { result ≡ is_kind kind note.now.kind }
 {
     note.kind == kind
 }
 
-/// The place of the last note of a kind, counted from 1.
+/// Returns the index of the last note of a kind, counted from 1.
 pub fn last_place(notes: &[Note], kind: Kind) -> Option<usize>
     ensures value { result ≡ last_place (is_kind_of kind) (ids_in notes.now) }
     ensures within { IfSome result (λ n. n ≤ length notes.now) }

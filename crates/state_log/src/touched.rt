@@ -22,7 +22,7 @@ fn numbers_named(alloc: Global, notes: &[Note], kind: Kind) -> Result<Vec<u64>, 
     Ok(numbers)
 }
 
-// In number order, each once.
+// Puts numbers in order, each once.
 fn put_in_order(numbers: &mut Vec<u64>)
     ensures rise { IsStrictlyIncreasing numbers.new.items }
     ensures same { (n : ℕ) → list_any (λ x. x == n) numbers.new.items
@@ -32,7 +32,7 @@ fn put_in_order(numbers: &mut Vec<u64>)
     numbers.dedup();
 }
 
-/// The numbers of a kind that the notes name, in number order.
+/// Returns the numbers of a kind that the notes name, in number order.
 pub fn touched_in(alloc: Global, notes: &[Note], kind: Kind) -> Result<Numbers, NoMemory>
     ensures { IfOk result (AreNamed kind (ids_in notes.now)) }
 {

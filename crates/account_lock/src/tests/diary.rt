@@ -3,7 +3,7 @@ ghost use Rattle.std.specs.Prelude.{◌≡◌, ◌++◌, ◌∷◌, [], true, fa
 ghost use Rattle.mail_records.specs.Histories.{Refused};
 ghost use Rattle.account_lock.specs.Entries.{StartsWith};
 
-use crate::{AccountLock, Pass, Standing};
+use crate::{AccountLock, AccountView, Pass};
 use jm_base::NoMemory;
 use mail_records::Stamp;
 use std::alloc::Global;
@@ -26,7 +26,7 @@ impl Model for Diary {
     ghost view = { λ d. map Refused d.stamps.items };
 }
 
-impl Standing for Diary {
+impl AccountView for Diary {
     ghost use Rattle.mail_records.specs.Histories.{empty_history};
 
     ghost entries = { λ d. d };

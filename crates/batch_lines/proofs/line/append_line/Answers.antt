@@ -1,5 +1,5 @@
 use Rattle.jm_json.specs.Json.{tree_of}
-use Rattle.jm_json.specs.Data.{data_of}
+use Rattle.jm_json.specs.JsonValues.{data_of}
 use Rattle.serde_json.specs.Written.{compact_text}
 use Rattle.batch_lines.proofs.Replies.{text_stands}
 use Rattle.batch_lines.proofs.line.append_line.Goals as goal

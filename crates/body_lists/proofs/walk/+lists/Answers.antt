@@ -1,8 +1,8 @@
 use Rattle.std.proofs.Common.{◌≡◌, true, OnOk, sym, subst, arith}
 use Rattle.mime_type.specs.PartTrees.{PartTrees}
-use Rattle.mime_type.specs.Joined.{node_of}
+use Rattle.mime_type.specs.PartViews.{node_of}
 use Rattle.body_lists.specs.Lists.{Lists, both, given, inside, ended}
-use Rattle.body_lists.specs.Shown.{lists_of, open_of, place_of}
+use Rattle.body_lists.specs.Views.{lists_of, open_of, place_of}
 use Rattle.body_lists.proofs.ListFacts.{part_size, multipart_gives}
 use Rattle.body_lists.proofs.walk.+lists.Goals as goal
 

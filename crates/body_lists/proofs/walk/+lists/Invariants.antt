@@ -1,8 +1,8 @@
 use Rattle.std.proofs.Common.{◌≡◌, true, ◌+◌, ◌*◌, drop}
 use Rattle.mime_type.specs.PartTrees.{none, part_count}
-use Rattle.mime_type.specs.Joined.{tree_of, joined}
+use Rattle.mime_type.specs.PartViews.{tree_of, joined}
 use Rattle.body_lists.specs.Lists.{both, given}
-use Rattle.body_lists.specs.Shown.{lists_of, open_of, place_of}
+use Rattle.body_lists.specs.Views.{lists_of, open_of, place_of}
 use Rattle.body_lists.proofs.walk.+lists.Given as goal
 
 abbrev pub decreases-add_part : goal.decreases-add_part

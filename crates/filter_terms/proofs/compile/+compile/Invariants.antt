@@ -3,8 +3,8 @@ use Rattle.jm_json.specs.Tree.{trees_of, fields_of}
 use Rattle.jm_json.specs.Size.{size_of, trees_size, fields_size}
 use Rattle.jm_json.specs.Json.{tree_of, member_of}
 use Rattle.filter_terms.specs.Filters.{conditions_say, items_say}
-use Rattle.filter_terms.specs.Ready.{say_all}
-use Rattle.filter_terms.specs.Seen.{Target}
+use Rattle.filter_terms.specs.Compiled.{say_all}
+use Rattle.filter_terms.specs.Targets.{Target}
 use Rattle.filter_terms.proofs.compile.+compile.Given as goal
 
 abbrev pub decreases-compile : goal.decreases-compile

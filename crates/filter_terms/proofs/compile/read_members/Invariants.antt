@@ -3,8 +3,8 @@ use Rattle.std.specs.List.{list_all}
 use Rattle.jm_json.specs.Tree.{fields_of}
 use Rattle.jm_json.specs.Json.{member_of}
 use Rattle.filter_terms.specs.Filters.{members_hold}
-use Rattle.filter_terms.specs.Ready.{say_all}
-use Rattle.filter_terms.specs.Seen.{Target}
+use Rattle.filter_terms.specs.Compiled.{say_all}
+use Rattle.filter_terms.specs.Targets.{Target}
 use Rattle.filter_terms.proofs.compile.read_members.Given as goal
 
 abbrev pub invariant-loop-member : goal.invariant-loop-member

@@ -1,6 +1,6 @@
 use Rattle.std.proofs.Common.{◌≡◌, drop}
 use Rattle.std.specs.List.{list_any}
-use Rattle.filter_terms.specs.Ready.{is_other_than}
+use Rattle.filter_terms.specs.Compiled.{is_other_than}
 use Rattle.filter_terms.proofs.emails.is_in_other_than.Given as goal
 
 abbrev pub invariant-loop-own : goal.invariant-loop-own

@@ -4,7 +4,7 @@ use Rattle.jm_json.specs.Json.{tree_of}
 use Rattle.mail_records.specs.States.{state_of}
 use Rattle.mail_records.specs.Histories.{blobs_of, content_of}
 use Rattle.state_log.proofs.Agreement.{state_of-log}
-use Rattle.get_calls.specs.Faults.{Explains}
+use Rattle.get_calls.specs.Faults.{GetFails}
 use Rattle.mail_view.specs.Gets.{get_threads, got}
 use Rattle.get_calls.proofs.gets.get_account_threads.Goals as goal
 
@@ -17,5 +17,5 @@ returns c =
     ap₂ (λ content n. get_threads content n t) c.content.ensures.content state in
     record {
       ok = subst (λ g. IfOk c.get_threads.result (λ t. g ≡ got (tree_of t))) same c.get_threads.ensures.ok;
-      err = subst (λ g. IfErr c.get_threads.result (λ fault. Explains fault g)) same c.get_threads.ensures.err;
+      err = subst (λ g. IfErr c.get_threads.result (λ fault. GetFails fault g)) same c.get_threads.ensures.err;
     }

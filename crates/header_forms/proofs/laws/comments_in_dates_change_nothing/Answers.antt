@@ -4,5 +4,5 @@ use Rattle.header_forms.proofs.laws.comments_in_dates_change_nothing.Goals as go
 pub returns-clause-date : goal.returns-clause-date
 returns-clause-date c = date_same
 
-pub returns-clause-moment : goal.returns-clause-moment
-returns-clause-moment c = utc_same
+pub returns-clause-timestamp : goal.returns-clause-timestamp
+returns-clause-timestamp c = utc_same

@@ -1,6 +1,6 @@
 use Rattle.std.proofs.Common.{◌≡◌, Some, Less, Equal, Greater, map, sym, ap, ◌∙◌, arith}
 use Rattle.jm_json.specs.Json.{member_of}
-use Rattle.jm_json.specs.Runs.{first_order}
+use Rattle.jm_json.specs.FirstMembers.{first_order}
 use Rattle.jm_json.proofs.Merging.{lower_taken, upper_taken, both_taken, rises_without_first}
 use Rattle.jm_json.proofs.member_runs.take_first.Goals as goal
 

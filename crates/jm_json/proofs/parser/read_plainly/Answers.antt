@@ -2,7 +2,7 @@ use Rattle.std.proofs.Common.{◌≡◌, [], Some, refl, sym, ap, ◌∙◌, rul
 use Rattle.json.specs.Json as json
 use Rattle.json.specs.Lex.{tokens}
 use Rattle.jm_json.specs.Json.{tree_of}
-use Rattle.jm_json.specs.Data.{data_of}
+use Rattle.jm_json.specs.JsonValues.{data_of}
 use Rattle.jm_json.proofs.Readings.{taken_whole, read_from}
 use Rattle.jm_json.proofs.parser.read_plainly.Goals as goal
 

@@ -1,5 +1,5 @@
 use Rattle.std.proofs.Common.{◌≡◌, drop, bytes_eq}
-use Rattle.jm_json.specs.Whole.{pointer_part}
+use Rattle.jm_json.specs.Integers.{pointer_part}
 use Rattle.jm_json.proofs.paths.is_written.Given as goal
 
 abbrev pub invariant-loop-b : goal.invariant-loop-b

@@ -1,6 +1,6 @@
 use Rattle.std.proofs.Common.{◌≡◌, ◌+◌, [], ◌∷◌, map, drop, true, false, bytes_eq, sym, ap, ◌∙◌, arith}
 use Rattle.std.proofs.lemmas.List.{drop_more, drop_all}
-use Rattle.jm_json.specs.Whole.{pointer_part}
+use Rattle.jm_json.specs.Integers.{pointer_part}
 use Rattle.jm_json.specs.Json.{member_of}
 use Rattle.jm_json.proofs.Parts.{find_part, found_none, found_here, found_later}
 use Rattle.jm_json.proofs.paths.written_member.Goals as goal

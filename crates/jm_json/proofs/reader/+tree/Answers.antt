@@ -6,8 +6,8 @@ use Rattle.std.specs.String.{string_cmp}
 use Rattle.serde_json.specs.View as view
 use Rattle.serde_json.proofs.Views.{Entry}
 use Rattle.jm_json.specs.Json.{tree_of}
-use Rattle.jm_json.specs.Data.{data_of}
-use Rattle.jm_json.specs.Whole.{first_bad_member}
+use Rattle.jm_json.specs.JsonValues.{data_of}
+use Rattle.jm_json.specs.Integers.{first_invalid_member}
 use Rattle.jm_json.proofs.Values.{pair_of, items_as_list, same_members, rises, pairs_more}
 use Rattle.jm_json.proofs.reader.+tree.Goals as goal
 
@@ -38,7 +38,7 @@ members_from-loop-name-preserved t c =
       done ++ e ∷ [],
       all ∙ sym (append_assoc done (e ∷ []) left),
       ap (map pair_of) c.in_ok-push-in-Ok.ensures.ok ∙ pairs_more l.members done c.in_ok-from_str-in-Ok.field-0 (tree_of c.in-Ok.tree) e l.invariant.2 named c.in-Ok.ensures.ok,
-      l.invariant.3 ∙ ap (λ es. first_bad_member (view.members_view es)) c.in-Some.ensures.steps ∙ rw c.in-Ok.ensures.whole refl,
+      l.invariant.3 ∙ ap (λ es. first_invalid_member (view.members_view es)) c.in-Some.ensures.steps ∙ rw c.in-Ok.ensures.whole refl,
     )
 
 pub members_from-returns-clause-ok : goal.members_from-returns-clause-ok

@@ -2,7 +2,7 @@ use Rattle.std.proofs.Common.{rules}
 use Rattle.serde_json.specs.View.{view}
 use Rattle.serde_json.specs.Errors.{IsMemory}
 use Rattle.jm_json.specs.Json.{tree_of}
-use Rattle.jm_json.proofs.Readings.{refused, taken_whole, taken_bad}
+use Rattle.jm_json.proofs.Readings.{refused, taken_whole, taken_invalid}
 use Rattle.jm_json.proofs.reader.read_exactly.Goals as goal
 
 pub returns-in-Err : goal.returns-in-Err
@@ -16,4 +16,4 @@ returns-in-Ok-tree_from c =
 
 pub returns-in-Err-NotWhole : goal.returns-in-Err-NotWhole
 returns-in-Err-NotWhole c =
-    taken_bad c.args.bytes.now (view c.in-Ok.value) c.in-Err-NotWhole.path c.in-Ok.ensures.ok.0 c.in-Ok.ensures.ok.1 (rw c.in-Err-NotWhole.field-0-is at c.in-Err-NotWhole.ensures.err)
+    taken_invalid c.args.bytes.now (view c.in-Ok.value) c.in-Err-NotWhole.path c.in-Ok.ensures.ok.0 c.in-Ok.ensures.ok.1 (rw c.in-Err-NotWhole.field-0-is at c.in-Err-NotWhole.ensures.err)

@@ -1,7 +1,7 @@
 use Rattle.std.proofs.Common.{◌≡◌, map, take, drop, Less, Equal, Greater, nat_cmp, sym, subst, arith}
 use Rattle.std.specs.Cmp.Lexicographic.{slice_cmp}
 use Rattle.jm_json.specs.Json.{member_of}
-use Rattle.jm_json.specs.Place.{AllBelow, AllAbove}
+use Rattle.jm_json.specs.KeyIndices.{AllBelow, AllAbove}
 use Rattle.jm_json.proofs.Puts.{low_at, high_at, held_at, told}
 use Rattle.jm_json.proofs.tree.place_of.Goals as goal
 use Rattle.jm_json.proofs.tree.place_of.Goals.{in-Less, in-Greater}

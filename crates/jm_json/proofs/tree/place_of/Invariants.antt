@@ -1,6 +1,6 @@
 use Rattle.std.proofs.Common.{◌-◌, ◌<◌, ◌≤◌, length, map, take, drop}
 use Rattle.jm_json.specs.Json.{member_of}
-use Rattle.jm_json.specs.Place.{AllBelow, AllAbove}
+use Rattle.jm_json.specs.KeyIndices.{AllBelow, AllAbove}
 use Rattle.jm_json.proofs.tree.place_of.Given as goal
 
 abbrev pub invariant-halves : goal.invariant-halves

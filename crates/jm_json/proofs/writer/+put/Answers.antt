@@ -11,7 +11,7 @@ use Rattle.serde_json.specs.Read.{of_items, of_members}
 use Rattle.serde_json.specs.Written.{outline, members_outline, WritesValue, WritesItems, WritesMembers}
 use Rattle.jm_json.specs.Tree.{trees_of, fields_of}
 use Rattle.jm_json.specs.Json.{tree_of, member_of}
-use Rattle.jm_json.specs.Data.{data_of, items_of, members_of}
+use Rattle.jm_json.specs.JsonValues.{data_of, items_of, members_of}
 use Rattle.jm_json.proofs.Sizes.{item_size, member_size}
 use Rattle.jm_json.proofs.Values.{put_member}
 use Rattle.jm_json.proofs.writer.+put.Goals as goal

@@ -1,6 +1,6 @@
 use Rattle.std.proofs.Common.{◌≡◌, ◌++◌, ap₂, ◌∙◌}
 use Rattle.jm_json.specs.Json.{tree_of}
-use Rattle.jm_json.specs.Data.{data_of}
+use Rattle.jm_json.specs.JsonValues.{data_of}
 use Rattle.jm_json.proofs.Values.{no_float}
 use Rattle.jm_json.proofs.Writings.{text_written, utf8_written, read_written}
 use Rattle.jm_json.proofs.writer.append_text.Goals as goal

@@ -2,7 +2,7 @@ use Rattle.std.proofs.Common.{◌++◌, ap, ◌∙◌, refl}
 use Rattle.serde_json.specs.Written.{compact_text}
 use Rattle.jm_json.specs.Json.{tree_of}
 use Rattle.jm_json.proofs.Readings.{taken_whole}
-use Rattle.jm_json.specs.Data.{data_of}
+use Rattle.jm_json.specs.JsonValues.{data_of}
 use Rattle.jm_json.proofs.writer.write.Goals as goal
 
 pub returns-clause-reads_back : goal.returns-clause-reads_back

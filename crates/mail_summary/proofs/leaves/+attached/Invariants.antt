@@ -1,8 +1,8 @@
 use Rattle.std.proofs.Common.{◌≡◌, ◌+◌, ◌*◌, drop}
 use Rattle.std.specs.List.{list_any}
 use Rattle.mime_type.specs.PartTrees.{none, part_count}
-use Rattle.mime_type.specs.Joined.{tree_of, joined}
-use Rattle.mime_tree.specs.Kept.{walked}
+use Rattle.mime_type.specs.PartViews.{tree_of, joined}
+use Rattle.mime_tree.specs.PartLimit.{walked}
 use Rattle.mail_summary.specs.Leaves.{shows_attachment}
 use Rattle.mail_summary.proofs.leaves.+attached.Given as goal
 

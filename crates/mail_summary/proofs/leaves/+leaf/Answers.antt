@@ -1,9 +1,9 @@
 use Rattle.std.proofs.Common.{◌+◌, drop, sym, ap, ◌∙◌, arith}
 use Rattle.std.specs.Option.{option_map, option_or}
 use Rattle.mime_type.specs.PartTrees.{none}
-use Rattle.mime_type.specs.Joined.{joined}
+use Rattle.mime_type.specs.PartViews.{joined}
 use Rattle.mail_summary.specs.Leaves.{leaf_numbered}
-use Rattle.mail_summary.specs.Shown.{node_in}
+use Rattle.mail_summary.specs.Views.{node_in}
 use Rattle.mail_summary.proofs.LeafFacts.{part_size, found_next}
 use Rattle.mail_summary.proofs.leaves.+leaf.Goals as goal
 

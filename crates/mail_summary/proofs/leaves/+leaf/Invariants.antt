@@ -1,6 +1,6 @@
 use Rattle.std.proofs.Common.{◌≡◌, ◌+◌, ◌*◌, drop}
 use Rattle.mime_type.specs.PartTrees.{none, part_count}
-use Rattle.mime_type.specs.Joined.{tree_of, joined}
+use Rattle.mime_type.specs.PartViews.{tree_of, joined}
 use Rattle.mail_summary.specs.Leaves.{leaf_numbered}
 use Rattle.mail_summary.proofs.leaves.+leaf.Given as goal
 

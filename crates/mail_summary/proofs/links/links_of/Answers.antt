@@ -1,5 +1,5 @@
 use Rattle.std.proofs.Common.{◌≡◌, List, ℕ, [], ◌++◌, filter, codes, ap, ◌∙◌}
-use Rattle.mime_lines.specs.Named.{last_value_of}
+use Rattle.mime_lines.specs.FieldOffsets.{last_value_of}
 use Rattle.mail_summary.specs.Links.{if_value, ids_of, gathered, is_short}
 use Rattle.mail_summary.proofs.LinkFacts.{three}
 use Rattle.mail_summary.proofs.links.links_of.Goals as goal

@@ -1,6 +1,6 @@
 use Rattle.std.proofs.Common.{◌≡◌, drop}
 use Rattle.mime_type.specs.PartTrees.{none}
-use Rattle.mime_type.specs.Joined.{tree_of}
+use Rattle.mime_type.specs.PartViews.{tree_of}
 use Rattle.mail_summary.specs.Leaves.{first_text}
 use Rattle.mail_summary.proofs.preview.first_text_of.Given as goal
 

@@ -1,8 +1,8 @@
 use Rattle.std.proofs.Common.{length, sym, ap, ◌∙◌}
 use Rattle.std.specs.Option.{option_map}
 use Rattle.mime_type.specs.PartTrees.{none}
-use Rattle.mime_type.specs.Joined.{tree_of}
-use Rattle.mail_summary.specs.Shown.{node_in}
+use Rattle.mime_type.specs.PartViews.{tree_of}
+use Rattle.mail_summary.specs.Views.{node_in}
 use Rattle.mail_summary.proofs.FirstTexts.{first_placed}
 use Rattle.mail_summary.proofs.preview.preview_of.Goals as goal
 

@@ -1,6 +1,6 @@
 use Rattle.std.proofs.Common.{◌≡◌, drop}
 use Rattle.std.specs.Prelude.{find}
-use Rattle.mime_lines.specs.Named.{is_named}
+use Rattle.mime_lines.specs.FieldOffsets.{is_named}
 use Rattle.mail_summary.proofs.received.first_value.Given as goal
 
 abbrev pub invariant-loop-field : goal.invariant-loop-field

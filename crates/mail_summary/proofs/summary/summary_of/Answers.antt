@@ -1,6 +1,6 @@
 use Rattle.std.proofs.Common.{codes, ap, ◌∙◌}
 use Rattle.std.specs.Option.{option_and_then}
-use Rattle.mime_lines.specs.Named.{last_value_of}
+use Rattle.mime_lines.specs.FieldOffsets.{last_value_of}
 use Rattle.mail_summary.specs.Leaves.{has_attachment_in}
 use Rattle.mail_summary.specs.Summaries.{name_by, sent_by, subject_by}
 use Rattle.mail_summary.proofs.summary.summary_of.Goals as goal

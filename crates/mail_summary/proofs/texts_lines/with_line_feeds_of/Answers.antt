@@ -8,13 +8,13 @@ pub loop-line-preserved : goal.loop-line-preserved
 loop-line-preserved c =
     let out = string_bytes c.loop-line.out in
     let line = c.in-Some.line.now in
-    let behind = c.in-Some.behind.now in
-    let parts = split_parts 13 c.loop-line.rest.now (Some (c.in-Some.line, c.in-Some.behind)) c.in-Some.ensures.cases (lit< tt) in
+    let after = c.in-Some.after.now in
+    let parts = split_parts 13 c.loop-line.rest.now (Some (c.in-Some.line, c.in-Some.after)) c.in-Some.ensures.cases (lit< tt) in
     record {
       text = search rules;
-      same = c.in_ok-push_return.ensures ∙ ap (λ t. t ++ with_line_feeds (13 ∷ behind)) c.in_ok-push_str.ensures.bytes
-          ∙ append_assoc out line (with_line_feeds (13 ∷ behind))
-          ∙ ap (λ t. out ++ t) (sym (ap with_line_feeds parts.0 ∙ lines_front line (13 ∷ behind) parts.1)) ∙ c.loop-line.invariant.same;
+      same = c.in_ok-push_return.ensures ∙ ap (λ t. t ++ with_line_feeds (13 ∷ after)) c.in_ok-push_str.ensures.bytes
+          ∙ append_assoc out line (with_line_feeds (13 ∷ after))
+          ∙ ap (λ t. out ++ t) (sym (ap with_line_feeds parts.0 ∙ lines_front line (13 ∷ after) parts.1)) ∙ c.loop-line.invariant.same;
     }
 
 pub returns : goal.returns

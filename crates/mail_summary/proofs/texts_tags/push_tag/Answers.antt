@@ -8,7 +8,7 @@ pub returns-in_ok-push-in-Some-clause-value : goal.returns-in_ok-push-in-Some-cl
 returns-in_ok-push-in-Some-clause-value c =
     let out = string_bytes c.args.out.now in
     let later = c.in-Some.later.now in
-    let parts = split_parts 62 c.args.behind.now (Some (c.in-Some.field-0-0, c.in-Some.later)) c.in-Some.ensures.cases (lit< tt) in
+    let parts = split_parts 62 c.args.after.now (Some (c.in-Some.field-0-0, c.in-Some.later)) c.in-Some.ensures.cases (lit< tt) in
     ap (λ t. t ++ without_tags later) (c.in_ok-push-in-Some.ensures.bytes ∙ ap (λ t. out ++ t) (c.in_ok-push-in-Some.ensures.ascii (lit< tt)))
     ∙ append_assoc out (32 ∷ []) (without_tags later)
     ∙ ap (λ t. out ++ t) (sym (ap (λ t. without_tags (60 ∷ t)) parts.0 ∙ tag_closed c.in-Some.field-0-0.now later parts.1))
@@ -16,8 +16,8 @@ returns-in_ok-push-in-Some-clause-value c =
 pub returns-in_ok-push_str-in-None-clause-value : goal.returns-in_ok-push_str-in-None-clause-value
 returns-in_ok-push_str-in-None-clause-value c =
     let out = string_bytes c.args.out.now in
-    let behind = c.args.behind.now in
-    let none = split_parts 62 behind None c.in-None.ensures.cases (lit< tt) in
+    let after = c.args.after.now in
+    let none = split_parts 62 after None c.in-None.ensures.cases (lit< tt) in
     append-nil (string_bytes c.push_str.new.self) ∙ c.in_ok-push_str-in-None.ensures.bytes
-    ∙ ap (λ t. t ++ behind) (c.in_ok-push-in-None.ensures.bytes ∙ ap (λ t. out ++ t) (c.in_ok-push-in-None.ensures.ascii (lit< tt)))
-    ∙ append_assoc out (60 ∷ []) behind ∙ ap (λ t. out ++ t) (sym (tag_open behind none))
+    ∙ ap (λ t. t ++ after) (c.in_ok-push-in-None.ensures.bytes ∙ ap (λ t. out ++ t) (c.in_ok-push-in-None.ensures.ascii (lit< tt)))
+    ∙ append_assoc out (60 ∷ []) after ∙ ap (λ t. out ++ t) (sym (tag_open after none))

@@ -8,13 +8,13 @@ pub loop-front-preserved : goal.loop-front-preserved
 loop-front-preserved c =
     let out = string_bytes c.loop-front.out in
     let front = c.in-Some.front.now in
-    let behind = c.in-Some.behind.now in
-    let parts = split_parts 60 c.loop-front.rest.now (Some (c.in-Some.front, c.in-Some.behind)) c.in-Some.ensures.cases (lit< tt) in
+    let after = c.in-Some.after.now in
+    let parts = split_parts 60 c.loop-front.rest.now (Some (c.in-Some.front, c.in-Some.after)) c.in-Some.ensures.cases (lit< tt) in
     record {
       text = search rules;
-      same = c.in_ok-rest.ensures.value ∙ ap (λ t. t ++ without_tags (60 ∷ behind)) c.in_ok-push_str.ensures.bytes
-          ∙ append_assoc out front (without_tags (60 ∷ behind))
-          ∙ ap (λ t. out ++ t) (sym (ap without_tags parts.0 ∙ tags_front front (60 ∷ behind) parts.1)) ∙ c.loop-front.invariant.same;
+      same = c.in_ok-rest.ensures.value ∙ ap (λ t. t ++ without_tags (60 ∷ after)) c.in_ok-push_str.ensures.bytes
+          ∙ append_assoc out front (without_tags (60 ∷ after))
+          ∙ ap (λ t. out ++ t) (sym (ap without_tags parts.0 ∙ tags_front front (60 ∷ after) parts.1)) ∙ c.loop-front.invariant.same;
     }
 
 pub returns : goal.returns

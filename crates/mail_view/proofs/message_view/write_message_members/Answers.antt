@@ -1,8 +1,7 @@
 use Rattle.std.proofs.Common.{◌≡◌, ◌∙◌, ap, sym, subst, length, List}
-use Rattle.mime_type.specs.Node.{Node}
-use Rattle.mime_type.specs.PartTrees.{none}
-use Rattle.mime_type.specs.Joined.{tree_of}
-use Rattle.mime_tree.specs.Kept.{walked, parts_of}
+use Rattle.mime_type.specs.PartTrees.{Node, none}
+use Rattle.mime_type.specs.PartViews.{tree_of}
+use Rattle.mime_tree.specs.PartLimit.{walked, parts_of}
 use Rattle.body_lists.specs.Lists.{lists_in}
 use Rattle.mail_view.specs.Views.{ArePlaced, nodes_of}
 use Rattle.mail_view.proofs.TreeFacts.{walked_placed}

@@ -1,5 +1,5 @@
 use Rattle.std.proofs.Common.{◌≡◌, map, drop, []}
-use Rattle.mime_type.specs.Joined.{node_of}
+use Rattle.mime_type.specs.PartViews.{node_of}
 use Rattle.mail_view.specs.Objects.{put_all}
 use Rattle.mail_view.specs.Parts.{part_member}
 use Rattle.mail_view.proofs.part.write_part_members.Given as goal

@@ -1,7 +1,7 @@
 use Rattle.std.proofs.Common.{◌≡◌, ◌+◌, ◌*◌, ◌++◌, drop}
 use Rattle.mime_type.specs.PartTrees.{none, part_count}
-use Rattle.mime_type.specs.Joined.{tree_of, joined}
-use Rattle.mime_tree.specs.Kept.{walked}
+use Rattle.mime_type.specs.PartViews.{tree_of, joined}
+use Rattle.mime_tree.specs.PartLimit.{walked}
 use Rattle.mail_view.specs.Views.{nodes_of}
 use Rattle.mail_view.proofs.part_list.+walk.Given as goal
 

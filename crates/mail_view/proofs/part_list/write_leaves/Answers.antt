@@ -1,6 +1,6 @@
 use Rattle.std.proofs.Common.{length, sym, subst, Option}
 use Rattle.std.specs.Prelude.{IfSome}
-use Rattle.mime_type.specs.Node.{Node}
+use Rattle.mime_type.specs.PartTrees.{Node}
 use Rattle.mime_tree.specs.Places.{IsPlaced}
 use Rattle.mail_summary.specs.Leaves.{has_number}
 use Rattle.mail_view.specs.Views.{nodes_of}

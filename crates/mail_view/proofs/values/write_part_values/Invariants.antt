@@ -1,5 +1,5 @@
 use Rattle.std.proofs.Common.{◌≡◌, drop, []}
-use Rattle.body_lists.specs.Shown.{lists_of}
+use Rattle.body_lists.specs.Views.{lists_of}
 use Rattle.mail_view.specs.Objects.{put_all}
 use Rattle.mail_view.specs.Views.{nodes_of}
 use Rattle.mail_view.specs.Values.{entries}

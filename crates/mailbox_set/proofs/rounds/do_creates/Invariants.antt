@@ -1,4 +1,5 @@
-use Rattle.std.proofs.Common.{◌≡◌, ◌+◌, ◌<◌, ◌^◌, map, length}
+use Rattle.std.proofs.Common.{◌≡◌, ◌+◌, ◌<◌, map, length}
+use Rattle.jm_base.specs.declared.identifiers.TheConstants.{NUMBER_LIMIT}
 use Rattle.mailbox_set.specs.Creates.{Progress}
 use Rattle.mailbox_set.specs.Views.{create_of, Follows}
 use Rattle.mailbox_set.specs.Rounds.{after_creates, in_rounds}
@@ -6,7 +7,7 @@ use Rattle.mailbox_set.proofs.rounds.do_creates.Given as goal
 
 abbrev pub invariant-rounds : goal.invariant-rounds
 invariant-rounds l = record {
-  room : l.planner.next + length l.rest.items < 2 ^ 53;
+  room : l.planner.next + length l.rest.items < NUMBER_LIMIT;
   follows : (s : Progress) → Follows l.initial.planner s → (t : Progress) × Follows l.planner t × (in_rounds (length l.rest.items) t (map create_of l.rest.items) ≡ after_creates s (map create_of l.fn.drafts.items));
 }
 

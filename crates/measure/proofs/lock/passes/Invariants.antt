@@ -1,5 +1,5 @@
 use Rattle.std.proofs.Common.{◌≡◌, true, false, ◌+◌, All}
 use Rattle.measure.proofs.lock.passes.Given as goal
 
-abbrev pub invariant-loop-made : goal.invariant-loop-made
-invariant-loop-made l = (l.root ≡ record l.initial.root { given = l.initial.root.given + l.made }) × All (λ p. (p.lock ≡ l.initial.lock.id) × (p.root ≡ false) × (p.holds ≡ false)) l.passes.items
+abbrev pub invariant-loop-index : goal.invariant-loop-index
+invariant-loop-index l = (l.root ≡ record l.initial.root { given = l.initial.root.given + l.index }) × All (λ p. (p.lock ≡ l.initial.lock.id) × (p.root ≡ false) × (p.holds ≡ false)) l.passes.items

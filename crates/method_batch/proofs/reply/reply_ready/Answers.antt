@@ -1,5 +1,5 @@
 use Rattle.std.proofs.Common.{rules, ◌≡◌, false}
-use Rattle.jm_json.specs.Invoked.{call_of}
+use Rattle.jm_json.specs.Invocations.{call_of}
 use Rattle.method_batch.specs.Answer.{is_echo}
 use Rattle.method_batch.proofs.Together.{port_replied, port_stopped}
 use Rattle.method_batch.proofs.reply.reply_ready.Goals as goal

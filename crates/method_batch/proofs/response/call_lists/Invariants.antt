@@ -1,5 +1,5 @@
 use Rattle.std.proofs.Common.{◌≡◌, map, ◌++◌, length}
-use Rattle.jm_json.specs.Invoked.{call_of}
+use Rattle.jm_json.specs.Invocations.{call_of}
 use Rattle.method_batch.specs.Outcome.{call_tree}
 use Rattle.method_batch.proofs.response.call_lists.Given as goal
 

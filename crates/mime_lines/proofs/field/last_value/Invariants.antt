@@ -1,6 +1,6 @@
 use Rattle.std.proofs.Common.{◌≡◌, ◌≤◌, length, take}
 use Rattle.std.specs.Prelude.{find, reverse}
-use Rattle.mime_lines.specs.Named.{is_named}
+use Rattle.mime_lines.specs.FieldOffsets.{is_named}
 use Rattle.mime_lines.proofs.field.last_value.Given as goal
 
 abbrev pub invariant-loop-left : goal.invariant-loop-left

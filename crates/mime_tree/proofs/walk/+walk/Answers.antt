@@ -3,12 +3,12 @@ use Rattle.std.specs.Prelude.{slice_range}
 use Rattle.mime_lines.specs.Lines.{lines}
 use Rattle.mime_cut.specs.Cut.{piece, cut, after_line}
 use Rattle.mime_type.specs.PartTrees.{none, part}
-use Rattle.mime_type.specs.Joined.{node_of, tree_of, joined}
+use Rattle.mime_type.specs.PartViews.{node_of, tree_of, joined}
 use Rattle.mime_tree.specs.Tree.{part_tree, trees_of, within}
 use Rattle.mime_tree.specs.Tree.{is_digest as digest_of}
 use Rattle.mime_tree.specs.Places.{AllPlaced}
-use Rattle.mime_tree.specs.Kept.{next_number}
-use Rattle.mime_tree.specs.Counted.{taken}
+use Rattle.mime_tree.specs.PartLimit.{next_number}
+use Rattle.mime_tree.specs.Budget.{taken}
 use Rattle.mime_tree.proofs.TakenFacts.{took, onto, taken_zero, part_alone, part_first, inner_of, inner_more, onto_push, finished}
 use Rattle.mime_tree.proofs.HeadFacts.{entered, not_numbered, same_next, body_slice, part_placed, numbered_placed, placed_push}
 use Rattle.mime_tree.proofs.SliceFacts.{length-slice, take-slice, drop-slice}
@@ -69,7 +69,7 @@ parts_within-returns-then-budget-eq0-clause-taken t c =
     let b = c.as_bytes-boundary.result.now in
     let bytes = slice_range message part.body part.end in
     let each = part_tree (c.args.levels - 1) c.is_digest-digest.result in
-    let rest = trees_of each (after_line b c.loop-found.found.kind c.loop-found.place (lines c.loop-found.found.rest.now)) in
+    let rest = trees_of each (after_line b c.loop-found.found.kind c.loop-found.offset (lines c.loop-found.found.rest.now)) in
     let number = c.loop-found.budget.number in
     ap (λ d. taken (within (part_tree (c.args.levels - 1) d) part.boundary part.body bytes) c.args.budget.now.left c.args.budget.now.number) (sym c.is_digest-digest.ensures)
     ∙ ap (λ o. taken (within each o part.body bytes) c.args.budget.now.left c.args.budget.now.number) (c.in-Some.is ∙ ap Some (sym c.as_bytes-boundary.ensures.value))
@@ -86,22 +86,22 @@ parts_within-loop-found-preserved t c =
     let b = c.as_bytes-boundary.result.now in
     let rest = c.loop-found.found.rest.now in
     let next = c.next_delimiter-next.result in
-    let place = c.loop-found.place in
+    let offset = c.loop-found.offset in
     let each = part_tree (c.args.levels - 1) c.is_digest-digest.result in
-    let now = piece place (slice_range message place (place + next.before)) in
-    let later = after_line b next.kind (place + next.size) (lines next.rest.now) in
+    let now = piece offset (slice_range message offset (offset + next.before)) in
+    let later = after_line b next.kind (offset + next.size) (lines next.rest.now) in
     let some : 0 < c.loop-found.budget.left = omega arith in
-    let count : length (slice_range message place part.end) ≡ part.end - place = length-slice message place part.end c.loop-found.invariant.ordered c.requires.inside in
-    let same : length rest ≡ length (slice_range message place part.end) = ap length c.loop-found.invariant.rest in
+    let count : length (slice_range message offset part.end) ≡ part.end - offset = length-slice message offset part.end c.loop-found.invariant.ordered c.requires.inside in
+    let same : length rest ≡ length (slice_range message offset part.end) = ap length c.loop-found.invariant.rest in
     let inside : next.size ≤ length rest = c.next_delimiter-next.ensures.within in
     let before : next.before ≤ next.size = c.next_delimiter-next.ensures.ordered in
-    let front : take next.before rest ≡ slice_range message place (place + next.before) =
-    ap (take next.before) c.loop-found.invariant.rest ∙ take-slice message place part.end next.before (omega arith) in
-    let opens : after_line b c.loop-found.found.kind place (lines rest) ≡ now ∷ later =
-    ap (λ m. after_line b m place (lines rest)) c.in-DelimiterLine.is ∙ c.next_delimiter-next.ensures.pieces place ∙ ap (λ t. piece place t ∷ later) front in
+    let front : take next.before rest ≡ slice_range message offset (offset + next.before) =
+    ap (take next.before) c.loop-found.invariant.rest ∙ take-slice message offset part.end next.before (omega arith) in
+    let opens : after_line b c.loop-found.found.kind offset (lines rest) ≡ now ∷ later =
+    ap (λ m. after_line b m offset (lines rest)) c.in-DelimiterLine.is ∙ c.next_delimiter-next.ensures.pieces offset ∙ ap (λ t. piece offset t ∷ later) front in
     let k = c.read_part_tree.new.budget.left in
     let j = c.read_part_tree.new.budget.number in
-    let step : taken (trees_of each (after_line b c.loop-found.found.kind place (lines rest))) c.loop-found.budget.left c.loop-found.budget.number
+    let step : taken (trees_of each (after_line b c.loop-found.found.kind offset (lines rest))) c.loop-found.budget.left c.loop-found.budget.number
     ≡ took (tree_of c.in_ok-inner.inner (taken (trees_of each later) k j).parts) (taken (trees_of each later) k j).left (taken (trees_of each later) k j).number =
     ap (λ ps. taken (trees_of each ps) c.loop-found.budget.left c.loop-found.budget.number) opens
     ∙ part_first (c.args.levels - 1) c.is_digest-digest.result now (trees_of each later) c.loop-found.budget.left c.loop-found.budget.number k j
@@ -110,7 +110,7 @@ parts_within-loop-found-preserved t c =
       taken = ap (λ items. onto items (taken (trees_of each later) k j)) c.in_ok-push.ensures.items
           ∙ onto_push c.loop-found.items.items c.in_ok-inner.inner (taken (trees_of each later) k j) _ step
           ∙ c.loop-found.invariant.taken;
-      rest = c.next_delimiter-next.ensures.rest ∙ ap (drop next.size) c.loop-found.invariant.rest ∙ drop-slice message place part.end next.size (omega arith);
+      rest = c.next_delimiter-next.ensures.rest ∙ ap (drop next.size) c.loop-found.invariant.rest ∙ drop-slice message offset part.end next.size (omega arith);
       placed = subst (λ items. AllPlaced (length message) (joined items none)) (sym c.in_ok-push.ensures.items)
           (placed_push (length message) c.loop-found.items.items c.in_ok-inner.inner c.loop-found.invariant.placed c.in_ok-inner.ensures.placed);
       ordered = omega arith;

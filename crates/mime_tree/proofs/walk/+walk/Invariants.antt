@@ -4,10 +4,11 @@ use Rattle.mime_lines.specs.Lines.{lines}
 use Rattle.mime_cut.specs.DelimiterLines.{by_line_kind}
 use Rattle.mime_cut.specs.Cut.{cut, after_line}
 use Rattle.mime_type.specs.PartTrees.{none}
-use Rattle.mime_type.specs.Joined.{joined}
+use Rattle.mime_type.specs.PartViews.{joined}
 use Rattle.mime_tree.specs.Places.{AllPlaced}
 use Rattle.mime_tree.specs.Tree.{part_tree, trees_of}
-use Rattle.mime_tree.specs.Counted.{taken}
+use Rattle.mime_tree.specs.Budget.{taken}
+use Rattle.mime_tree.specs.declared.walk.TheConstants.{MAX_PARTS}
 use Rattle.mime_tree.proofs.TakenFacts.{onto}
 use Rattle.mime_tree.proofs.walk.+walk.Given as goal
 
@@ -19,12 +20,12 @@ decreases-parts_within l = 2 * l.levels
 
 abbrev pub invariant-parts_within-loop-found : goal.invariant-parts_within-loop-found
 invariant-parts_within-loop-found l = record {
-  taken : onto l.items.items (taken (trees_of (part_tree (l.levels - 1) l.digest) (after_line l.boundary l.found.kind l.place (lines l.found.rest.now))) l.budget.left l.budget.number)
+  taken : onto l.items.items (taken (trees_of (part_tree (l.levels - 1) l.digest) (after_line l.boundary l.found.kind l.offset (lines l.found.rest.now))) l.budget.left l.budget.number)
       ≡ taken (trees_of (part_tree (l.levels - 1) l.digest) (cut l.boundary l.part.body (lines (slice_range l.message l.part.body l.part.end)))) l.fn.budget.left l.fn.budget.number;
-  rest : l.found.rest.now ≡ slice_range l.message l.place l.part.end;
+  rest : l.found.rest.now ≡ slice_range l.message l.offset l.part.end;
   placed : AllPlaced (length l.message) (joined l.items.items none);
-  ordered : l.place ≤ l.part.end;
-  room : l.budget.number + l.budget.left ≤ 1001;
+  ordered : l.offset ≤ l.part.end;
+  room : l.budget.number + l.budget.left ≤ MAX_PARTS + 1;
 }
 
 abbrev pub decreases-parts_within-loop-found : goal.decreases-parts_within-loop-found

@@ -2,7 +2,7 @@ use Rattle.std.proofs.Common.{length}
 use Rattle.std.specs.Prelude.{slice_range}
 use Rattle.std.proofs.lemmas.Result.{IfOk-weaker}
 use Rattle.mime_type.specs.PartTrees.{none}
-use Rattle.mime_type.specs.Joined.{tree_of}
+use Rattle.mime_type.specs.PartViews.{tree_of}
 use Rattle.mime_tree.proofs.TakenFacts.{parts_is}
 use Rattle.mime_tree.proofs.SliceFacts.{slice_whole}
 use Rattle.mime_tree.proofs.walk.parts.Goals as goal

@@ -1,5 +1,5 @@
 use Rattle.std.proofs.Common.{◌≡◌, ◌++◌, take}
-use Rattle.mime_lines.specs.Named.{lowered}
+use Rattle.mime_lines.specs.FieldOffsets.{lowered}
 use Rattle.mime_type.proofs.characters.push_lowered.Given as goal
 
 abbrev pub invariant-loop-byte : goal.invariant-loop-byte

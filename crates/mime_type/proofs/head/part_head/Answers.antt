@@ -1,6 +1,6 @@
 use Rattle.std.proofs.Common.{◌≡◌, ◌+◌, ◌-◌, ◌≤◌, length, take, drop, ap, arith}
 use Rattle.mime_lines.specs.Fields.{body_of}
-use Rattle.mime_type.proofs.Places.{length-piece}
+use Rattle.mime_type.proofs.PieceLengths.{length-piece}
 use Rattle.mime_type.proofs.Same.{same_node}
 use Rattle.mime_type.specs.Head.{head_at}
 use Rattle.mime_type.proofs.head.part_head.Goals as goal

@@ -1,5 +1,5 @@
 use Rattle.std.proofs.Common.{◌≡◌, ◌≤◌, suc, true, false, length, bytes_eq, refl, sym, ap, ◌∙◌}
-use Rattle.mime_lines.specs.Named.{lowered}
+use Rattle.mime_lines.specs.FieldOffsets.{lowered}
 use Rattle.mime_type.specs.Grammar.{turn_at, skips, gives, first_named}
 use Rattle.mime_type.specs.Views.{pair, turn}
 use Rattle.mime_type.proofs.Turns.{begun, ended, broke, skipped, gave, passed}

@@ -1,5 +1,5 @@
 use Rattle.std.proofs.Common.{length}
-use Rattle.mime_lines.specs.Named.{lowered}
+use Rattle.mime_lines.specs.FieldOffsets.{lowered}
 use Rattle.mime_type.specs.Grammar.{params_of, first_named}
 use Rattle.mime_type.proofs.Turns.{Sees}
 use Rattle.mime_type.proofs.params.find_value.Given as goal

@@ -1,6 +1,6 @@
 use Rattle.std.proofs.Common.{◌≡◌, Some, sym}
 use Rattle.std.specs.Str.{IsUtf8}
-use Rattle.mime_lines.specs.Named.{lowered}
+use Rattle.mime_lines.specs.FieldOffsets.{lowered}
 use Rattle.mime_type.specs.Grammar.{params_of, first_named}
 use Rattle.mime_type.specs.Views.{leading_value}
 use Rattle.mime_type.proofs.Utf8.{first_named-utf8}

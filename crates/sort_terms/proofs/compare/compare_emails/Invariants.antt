@@ -1,5 +1,5 @@
 use Rattle.std.proofs.Common.{◌≡◌, drop}
-use Rattle.filter_terms.specs.Seen.{seen_in}
+use Rattle.filter_terms.specs.Targets.{seen_in}
 use Rattle.sort_terms.specs.Comparators.{emails_cmp}
 use Rattle.sort_terms.proofs.compare.compare_emails.Given as goal
 

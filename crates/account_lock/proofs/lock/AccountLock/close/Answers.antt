@@ -7,16 +7,16 @@ use Rattle.account_lock.proofs.lock.AccountLock.close.Goals as goal
 
 pub unwrap-requires : goal.unwrap-requires
 unwrap-requires g c =
-    let shows : Box g.row.B.Denot Global → List _ = λ b. g.B.Standing.entries b.value in
-    let origin : Box g.row.B.Denot Global → Origin = λ b. record { before = g.B.Standing.before b.value; opening = g.B.Standing.opening b.value } in
+    let shows : Box g.row.B.Denot Global → List _ = λ b. g.B.AccountView.entries b.value in
+    let origin : Box g.row.B.Denot Global → Origin = λ b. record { before = g.B.AccountView.before b.value; opening = g.B.AccountView.opening b.value } in
     let built : Box g.row.B.Denot Global = c.self.inside.table.shared.key.value in
     let e = closes shows origin built c.pass.inside.badge.table_id _ _ _ _ _ c.take-value.result (sym (ap (facts c.pass.inside.badge.table_id) c.into_seat.ensures.2) ∙ c.pass.view_is) c.requires.root.0 c.requires.root.1 c.close_with-closed.ensures.values.2 c.take-value.ensures.value in
     subst IsSome (sym e.1) (search rules)
 
 pub returns-clause-seen : goal.returns-clause-seen
 returns-clause-seen g c =
-    let shows : Box g.row.B.Denot Global → List _ = λ b. g.B.Standing.entries b.value in
-    let origin : Box g.row.B.Denot Global → Origin = λ b. record { before = g.B.Standing.before b.value; opening = g.B.Standing.opening b.value } in
+    let shows : Box g.row.B.Denot Global → List _ = λ b. g.B.AccountView.entries b.value in
+    let origin : Box g.row.B.Denot Global → Origin = λ b. record { before = g.B.AccountView.before b.value; opening = g.B.AccountView.opening b.value } in
     let built : Box g.row.B.Denot Global = c.self.inside.table.shared.key.value in
     let e = closes shows origin built c.pass.inside.badge.table_id _ _ _ _ _ c.take-value.result (sym (ap (facts c.pass.inside.badge.table_id) c.into_seat.ensures.2) ∙ c.pass.view_is) c.requires.root.0 c.requires.root.1 c.close_with-closed.ensures.values.2 c.take-value.ensures.value in
     let same : e.0 ≡ c.unwrap.result = cc (e.1, c.unwrap.ensures) in
@@ -24,8 +24,8 @@ returns-clause-seen g c =
 
 pub returns-clause-ended : goal.returns-clause-ended
 returns-clause-ended g c =
-    let shows : Box g.row.B.Denot Global → List _ = λ b. g.B.Standing.entries b.value in
-    let origin : Box g.row.B.Denot Global → Origin = λ b. record { before = g.B.Standing.before b.value; opening = g.B.Standing.opening b.value } in
+    let shows : Box g.row.B.Denot Global → List _ = λ b. g.B.AccountView.entries b.value in
+    let origin : Box g.row.B.Denot Global → Origin = λ b. record { before = g.B.AccountView.before b.value; opening = g.B.AccountView.opening b.value } in
     let built : Box g.row.B.Denot Global = c.self.inside.table.shared.key.value in
     let e = closes shows origin built c.pass.inside.badge.table_id _ _ _ _ _ c.take-value.result (sym (ap (facts c.pass.inside.badge.table_id) c.into_seat.ensures.2) ∙ c.pass.view_is) c.requires.root.0 c.requires.root.1 c.close_with-closed.ensures.values.2 c.take-value.ensures.value in
     let same : e.0 ≡ c.unwrap.result = cc (e.1, c.unwrap.ensures) in
@@ -33,8 +33,8 @@ returns-clause-ended g c =
 
 pub returns-clause-all : goal.returns-clause-all
 returns-clause-all g c =
-    let shows : Box g.row.B.Denot Global → List _ = λ b. g.B.Standing.entries b.value in
-    let origin : Box g.row.B.Denot Global → Origin = λ b. record { before = g.B.Standing.before b.value; opening = g.B.Standing.opening b.value } in
+    let shows : Box g.row.B.Denot Global → List _ = λ b. g.B.AccountView.entries b.value in
+    let origin : Box g.row.B.Denot Global → Origin = λ b. record { before = g.B.AccountView.before b.value; opening = g.B.AccountView.opening b.value } in
     let built : Box g.row.B.Denot Global = c.self.inside.table.shared.key.value in
     let e = closes shows origin built c.pass.inside.badge.table_id _ _ _ _ _ c.take-value.result (sym (ap (facts c.pass.inside.badge.table_id) c.into_seat.ensures.2) ∙ c.pass.view_is) c.requires.root.0 c.requires.root.1 c.close_with-closed.ensures.values.2 c.take-value.ensures.value in
     let same : e.0 ≡ c.unwrap.result = cc (e.1, c.unwrap.ensures) in
@@ -42,8 +42,8 @@ returns-clause-all g c =
 
 pub returns-clause-names : goal.returns-clause-names
 returns-clause-names g c =
-    let shows : Box g.row.B.Denot Global → List _ = λ b. g.B.Standing.entries b.value in
-    let origin : Box g.row.B.Denot Global → Origin = λ b. record { before = g.B.Standing.before b.value; opening = g.B.Standing.opening b.value } in
+    let shows : Box g.row.B.Denot Global → List _ = λ b. g.B.AccountView.entries b.value in
+    let origin : Box g.row.B.Denot Global → Origin = λ b. record { before = g.B.AccountView.before b.value; opening = g.B.AccountView.opening b.value } in
     let built : Box g.row.B.Denot Global = c.self.inside.table.shared.key.value in
     let e = closes shows origin built c.pass.inside.badge.table_id _ _ _ _ _ c.take-value.result (sym (ap (facts c.pass.inside.badge.table_id) c.into_seat.ensures.2) ∙ c.pass.view_is) c.requires.root.0 c.requires.root.1 c.close_with-closed.ensures.values.2 c.take-value.ensures.value in
     let same : e.0 ≡ c.unwrap.result = cc (e.1, c.unwrap.ensures) in
@@ -51,8 +51,8 @@ returns-clause-names g c =
 
 pub returns-clause-before : goal.returns-clause-before
 returns-clause-before g c =
-    let shows : Box g.row.B.Denot Global → List _ = λ b. g.B.Standing.entries b.value in
-    let origin : Box g.row.B.Denot Global → Origin = λ b. record { before = g.B.Standing.before b.value; opening = g.B.Standing.opening b.value } in
+    let shows : Box g.row.B.Denot Global → List _ = λ b. g.B.AccountView.entries b.value in
+    let origin : Box g.row.B.Denot Global → Origin = λ b. record { before = g.B.AccountView.before b.value; opening = g.B.AccountView.opening b.value } in
     let built : Box g.row.B.Denot Global = c.self.inside.table.shared.key.value in
     let e = closes shows origin built c.pass.inside.badge.table_id _ _ _ _ _ c.take-value.result (sym (ap (facts c.pass.inside.badge.table_id) c.into_seat.ensures.2) ∙ c.pass.view_is) c.requires.root.0 c.requires.root.1 c.close_with-closed.ensures.values.2 c.take-value.ensures.value in
     let same : e.0 ≡ c.unwrap.result = cc (e.1, c.unwrap.ensures) in
@@ -60,8 +60,8 @@ returns-clause-before g c =
 
 pub returns-clause-opening : goal.returns-clause-opening
 returns-clause-opening g c =
-    let shows : Box g.row.B.Denot Global → List _ = λ b. g.B.Standing.entries b.value in
-    let origin : Box g.row.B.Denot Global → Origin = λ b. record { before = g.B.Standing.before b.value; opening = g.B.Standing.opening b.value } in
+    let shows : Box g.row.B.Denot Global → List _ = λ b. g.B.AccountView.entries b.value in
+    let origin : Box g.row.B.Denot Global → Origin = λ b. record { before = g.B.AccountView.before b.value; opening = g.B.AccountView.opening b.value } in
     let built : Box g.row.B.Denot Global = c.self.inside.table.shared.key.value in
     let e = closes shows origin built c.pass.inside.badge.table_id _ _ _ _ _ c.take-value.result (sym (ap (facts c.pass.inside.badge.table_id) c.into_seat.ensures.2) ∙ c.pass.view_is) c.requires.root.0 c.requires.root.1 c.close_with-closed.ensures.values.2 c.take-value.ensures.value in
     let same : e.0 ≡ c.unwrap.result = cc (e.1, c.unwrap.ensures) in
@@ -69,8 +69,8 @@ returns-clause-opening g c =
 
 pub returns-clause-built : goal.returns-clause-built
 returns-clause-built g c none_given =
-    let shows : Box g.row.B.Denot Global → List _ = λ b. g.B.Standing.entries b.value in
-    let origin : Box g.row.B.Denot Global → Origin = λ b. record { before = g.B.Standing.before b.value; opening = g.B.Standing.opening b.value } in
+    let shows : Box g.row.B.Denot Global → List _ = λ b. g.B.AccountView.entries b.value in
+    let origin : Box g.row.B.Denot Global → Origin = λ b. record { before = g.B.AccountView.before b.value; opening = g.B.AccountView.opening b.value } in
     let built : Box g.row.B.Denot Global = c.self.inside.table.shared.key.value in
     let e = closes shows origin built c.pass.inside.badge.table_id _ _ _ _ _ c.take-value.result (sym (ap (facts c.pass.inside.badge.table_id) c.into_seat.ensures.2) ∙ c.pass.view_is) c.requires.root.0 c.requires.root.1 c.close_with-closed.ensures.values.2 c.take-value.ensures.value in
     let same : e.0 ≡ c.unwrap.result = cc (e.1, c.unwrap.ensures) in

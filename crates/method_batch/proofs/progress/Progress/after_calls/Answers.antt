@@ -1,5 +1,5 @@
 use Rattle.std.proofs.Common.{[], ◌∷◌, ◌++◌, map}
-use Rattle.jm_json.specs.Invoked.{call_of}
+use Rattle.jm_json.specs.Invocations.{call_of}
 use Rattle.method_batch.proofs.Together.{runs_on, answers_on, next_call, begun}
 use Rattle.method_batch.proofs.progress.Progress.after_calls.Goals as goal
 

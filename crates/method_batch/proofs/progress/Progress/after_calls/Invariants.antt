@@ -1,6 +1,6 @@
 use Rattle.std.proofs.Common.{◌≡◌, List, map, ◌++◌, length}
 use Rattle.jm_json.specs.Call.{Call}
-use Rattle.jm_json.specs.Invoked.{call_of}
+use Rattle.jm_json.specs.Invocations.{call_of}
 use Rattle.method_batch.specs.Answer.{Asked, Runs, Answers}
 use Rattle.method_batch.proofs.progress.Progress.after_calls.Given as goal
 

@@ -1,4 +1,4 @@
-use Rattle.jm_json.specs.Invoked.{call_of}
+use Rattle.jm_json.specs.Invocations.{call_of}
 use Rattle.method_batch.proofs.Together.{may_have}
 use Rattle.method_batch.proofs.progress.Progress.go_on.Goals as goal
 
