@@ -15,8 +15,8 @@ use Rattle.http_wire.specs.Responses.{continue_bytes, IsPrefixWritten}
 use Rattle.http_wire.specs.Pieces.{Gained, Stops}
 use Rattle.http_wire.specs.Parts.{Took, Halts}
 use Rattle.http_wire.specs.Lengths.{planned}
-use Rattle.http_wire.specs.Opened.{IsOpened, IsRejected, wire_fault_of, IsMade, continued_bytes}
-use Rattle.http_wire.specs.declared.opened.OpenHead.{OpenHead}
+use Rattle.http_wire.specs.FramedHeads.{IsFramed, IsRejected, wire_fault_of, IsMade, continued_bytes}
+use Rattle.http_wire.specs.declared.framed_head.FramedHead.{FramedHead}
 use Rattle.http_wire.specs.declared.request.HttpRequest.{HttpRequest}
 use Rattle.http_wire.specs.declared.body_fault.BodyFault.{BodyFault}
 use Rattle.http_wire.specs.declared.body_fault.BodyFault.TheVariants.{Invalid as BodyBad, TooLong as BodyOver, Ended, ReadFault as BodyReadFault, NoMemory as BodyNoMemory}
@@ -128,10 +128,10 @@ rejected_request (CutOff count) bytes new head rest a h r p is k = absurd k
 
 -- ---- the interim response
 
-due_is : (head rest : List ℕ) (o : OpenHead) (k : IsOpened head o) → is_due_by (Some k.h) (Head head rest) ≡ o.due
+due_is : (head rest : List ℕ) (o : FramedHead) (k : IsFramed head o) → is_due_by (Some k.h) (Head head rest) ≡ o.due
 due_is head rest o k = rw (k.host, k.body [], k.goes_on) (sym k.due)
 
-pub unwritten_request : (e : WireFault) (bytes new head rest : List ℕ) (o : OpenHead) (a b h k : Option (List ℕ)) (r s p q : ℕ) → beginning_of bytes ≡ Head head rest → IsOpened head o → o.due ≡ true
+pub unwritten_request : (e : WireFault) (bytes new head rest : List ℕ) (o : FramedHead) (a b h k : Option (List ℕ)) (r s p q : ℕ) → beginning_of bytes ≡ Head head rest → IsFramed head o → o.due ≡ true
     → b ≡ a → IsPrefixWritten e h k continue_bytes → Rose p q → ReadsRequestFrom bytes new a b h k r s p q (Err e)
 unwritten_request e bytes new head rest o a b h k r s p q is opened due left w rose =
     subst (λ (z : WireFault). ReadsRequestFrom bytes new a b h k r s p q (Err z)) (sym w.0) (record {
@@ -142,7 +142,7 @@ unwritten_request e bytes new head rest o a b h k r s p q is opened due left w r
     })
 
 -- it was written if and only if it was due
-continued_by : (v : Bool) (seen head rest : List ℕ) (o : OpenHead) (h k : Option (List ℕ)) → o.due ≡ v → beginning_of seen ≡ Head head rest → IsOpened head o → Appends h k (continued_bytes v)
+continued_by : (v : Bool) (seen head rest : List ℕ) (o : FramedHead) (h k : Option (List ℕ)) → o.due ≡ v → beginning_of seen ≡ Head head rest → IsFramed head o → Appends h k (continued_bytes v)
     → (IsDue seen × Appends h k continue_bytes) ⊎ (¬ (IsDue seen) × Appends h k [])
 continued_by true seen head rest o h k due is opened put =
     inl (a_due seen (Head head rest) (Some opened.h) is opened.reads (due_is head rest o opened ∙ due), put)
@@ -151,13 +151,13 @@ continued_by false seen head rest o h k due is opened put =
 
 -- ---- the body
 
-met_body : (bytes head rest t : List ℕ) (o : OpenHead) (body : Body) → beginning_of bytes ≡ Head head rest → (k : IsOpened head o) → planned o.limit o.plan (rest ++ t) ≡ body
+met_body : (bytes head rest t : List ℕ) (o : FramedHead) (body : Body) → beginning_of bytes ≡ Head head rest → (k : IsFramed head o) → planned o.limit o.plan (rest ++ t) ≡ body
     → IsMessage requests (bytes ++ t) (with_body requests k.h body)
 met_body bytes head rest t o body is k by =
     met (bytes ++ t) (Head head (rest ++ t)) (Some k.h) (with_body requests k.h body) (head_stays bytes t head rest is) k.reads
     (rw k.host (ap (with_body requests k.h) (k.body (rest ++ t) ∙ by)))
 
-request_of : (head body : List ℕ) (o : OpenHead) (x : HttpRequest) (k : IsOpened head o) → IsMade o body x → IsRequestOf k.h body x
+request_of : (head body : List ℕ) (o : FramedHead) (x : HttpRequest) (k : IsFramed head o) → IsMade o body x → IsRequestOf k.h body x
 request_of head body o x k m = record {
   method = m.method ∙ k.parsed.method;
   target = m.target ∙ k.parsed.target;
@@ -166,7 +166,7 @@ request_of head body o x k m = record {
   last = m.last ∙ ap₂ (λ (n : ℕ) (fs : List (List ℕ × List ℕ)). is_last n fs) k.parsed.minor k.parsed.fields;
 }
 
-pub whole_request : (bytes new head rest body : List ℕ) (o : OpenHead) (x : HttpRequest) (a b h k : Option (List ℕ)) (r s p q : ℕ) → beginning_of bytes ≡ Head head rest → IsOpened head o
+pub whole_request : (bytes new head rest body : List ℕ) (o : FramedHead) (x : HttpRequest) (a b h k : Option (List ℕ)) (r s p q : ℕ) → beginning_of bytes ≡ Head head rest → IsFramed head o
     → Appends h k (continued_bytes o.due) → Took a b (λ t. planned o.limit o.plan (rest ++ t) ≡ Whole body new) → IsMade o body x → ReadsRequestFrom bytes new a b h k r s p q (Ok x)
 whole_request bytes new head rest body o x a b h k r s p q is opened put took made = record {
   taken = took.0;
@@ -181,7 +181,7 @@ begun_here bytes head rest t n count is n_is count_is =
     let k = begun_is (bytes ++ t) head (rest ++ t) (head_stays bytes t head rest is) in
     (omega (arith, k.0, n_is, count_is), omega (arith, k.1, n_is))
 
-pub cut_request : (e : BodyFault) (bytes new head rest : List ℕ) (o : OpenHead) (n : ℕ) (a b h k : Option (List ℕ)) (r s p q : ℕ) → beginning_of bytes ≡ Head head rest → IsOpened head o → n ≡ length head
+pub cut_request : (e : BodyFault) (bytes new head rest : List ℕ) (o : FramedHead) (n : ℕ) (a b h k : Option (List ℕ)) (r s p q : ℕ) → beginning_of bytes ≡ Head head rest → IsFramed head o → n ≡ length head
     → Appends h k (continued_bytes o.due)
     → Took a b (λ t. Halts e (planned o.limit o.plan (rest ++ t) ≡ BodyInvalid) (planned o.limit o.plan (rest ++ t) ≡ BodyTooLong) (planned o.limit o.plan (rest ++ t) ≡ BodyUnfinished) (length (rest ++ t)) b r s)
     → ReadsRequestFrom bytes new a b h k r s p q (Err (wire_fault_of n o.limit e))
@@ -255,14 +255,14 @@ later_request old mid new a b c h k r q s p t (Err e) g low m =
 pub head_len : (xs head : List ℕ) (start end : ℕ) → head ≡ take (end - start) (drop start xs) → start ≤ end → end ≤ length xs → end - start ≡ length head
 head_len xs head start end is low high = omega (arith, ap length is, low, high, length-take {A = ℕ}, length-drop {A = ℕ})
 
-pub whole_after : (bytes new head rest body : List ℕ) (o : OpenHead) (x : HttpRequest) (a m b h l k : Option (List ℕ)) (r s p q : ℕ) → beginning_of bytes ≡ Head head rest → IsOpened head o
+pub whole_after : (bytes new head rest body : List ℕ) (o : FramedHead) (x : HttpRequest) (a m b h l k : Option (List ℕ)) (r s p q : ℕ) → beginning_of bytes ≡ Head head rest → IsFramed head o
     → m ≡ a → k ≡ l → Appends h l (continued_bytes o.due) → Took m b (λ t. planned o.limit o.plan (rest ++ t) ≡ Whole body new) → IsMade o body x
     → ReadsRequestFrom bytes new a b h k r s p q (Ok x)
 whole_after bytes new head rest body o x a m b h l k r s p q is opened left held put took made =
     whole_request bytes new head rest body o x a b h k r s p q is opened (subst (λ (z : Option (List ℕ)). Appends h z (continued_bytes o.due)) (sym held) put)
     (subst (λ (z : Option (List ℕ)). Took z b (λ t. planned o.limit o.plan (rest ++ t) ≡ Whole body new)) left took) made
 
-pub cut_after : (e : BodyFault) (bytes new head rest : List ℕ) (o : OpenHead) (n : ℕ) (a m b h l k : Option (List ℕ)) (r u s p q : ℕ) → beginning_of bytes ≡ Head head rest → IsOpened head o → n ≡ length head
+pub cut_after : (e : BodyFault) (bytes new head rest : List ℕ) (o : FramedHead) (n : ℕ) (a m b h l k : Option (List ℕ)) (r u s p q : ℕ) → beginning_of bytes ≡ Head head rest → IsFramed head o → n ≡ length head
     → m ≡ a → k ≡ l → u ≡ r → Appends h l (continued_bytes o.due)
     → Took m b (λ t. Halts e (planned o.limit o.plan (rest ++ t) ≡ BodyInvalid) (planned o.limit o.plan (rest ++ t) ≡ BodyTooLong) (planned o.limit o.plan (rest ++ t) ≡ BodyUnfinished) (length (rest ++ t)) b u s)
     → ReadsRequestFrom bytes new a b h k r s p q (Err (wire_fault_of n o.limit e))

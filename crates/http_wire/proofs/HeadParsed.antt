@@ -11,8 +11,8 @@ use Rattle.httparse.specs.declared.spans.RequestSpans.{RequestSpans}
 use Rattle.http_wire.specs.Fields.{pairs}
 use Rattle.http_wire.specs.declared.request.HttpField.{HttpField}
 use Rattle.http_wire.specs.Requests.{requests}
-use Rattle.http_wire.specs.Parsed.{IsParsed, IsCopied}
-use Rattle.http_wire.specs.declared.parsed.ParsedHead.{ParsedHead}
+use Rattle.http_wire.specs.ParsedHeads.{IsParsed, IsCopied}
+use Rattle.http_wire.specs.declared.head_parser.ParsedHead.{ParsedHead}
 
 pub reads_whole : (buf : List ℕ) (spans : List HeaderSpan) (at : RequestSpans) (h : RequestHead) → IsRequestAt buf spans at h → length spans ≡ 64 → at.len ≡ length buf → requests.reads buf h
 reads_whole buf spans at h r room len =

@@ -5,13 +5,13 @@ use Rattle.httparse.specs.Grammar.{RequestHead}
 use Rattle.http_wire.specs.Fields.{pairs, has_host, expects_continue}
 use Rattle.http_wire.specs.Bodies.{Framing, Body, BodyInvalid, BodyTooLong, BodyUnfinished, Whole, framing_of}
 use Rattle.http_wire.specs.Requests.{requests, names_and_values, body_limit, request_body, with_body, is_open}
-use Rattle.http_wire.specs.Parsed.{IsParsed}
+use Rattle.http_wire.specs.ParsedHeads.{IsParsed}
 use Rattle.http_wire.specs.Lengths.{planned, IsWithinLimit, IsSaid}
-use Rattle.http_wire.specs.Opened.{IsOpened, IsRejected, IsRejectedAs, refusal_of}
+use Rattle.http_wire.specs.FramedHeads.{IsFramed, IsRejected, IsRejectedAs, refusal_of}
 use Rattle.http_wire.specs.declared.bodies.BodyPlan.{BodyPlan}
 use Rattle.http_wire.specs.declared.bodies.BodyPlan.TheVariants.{Invalid as NoPlan, TooLong as IsOver, Sized as OfSize, Chunked as InChunks}
 use Rattle.http_wire.specs.declared.lengths.BodyLength.{BodyLength}
-use Rattle.http_wire.specs.declared.parsed.ParsedHead.{ParsedHead}
+use Rattle.http_wire.specs.declared.head_parser.ParsedHead.{ParsedHead}
 use Rattle.http_wire.specs.declared.fault.WireFault.{WireFault}
 use Rattle.http_wire.specs.declared.fault.WireFault.TheVariants.{BadHead, BodyTooLong as BodyOver}
 use Rattle.std.proofs.lemmas.Bool.{le-ltb}
@@ -39,7 +39,7 @@ pub opened : (bytes : List ℕ) (h : RequestHead) (p : ParsedHead) (limit : ℕ)
     → has_host (pairs p.fields) ≡ true → limit ≡ body_limit p.target
     → ((framing : Framing) → IsSaid framing said → (rest : List ℕ) → request_body limit framing rest ≡ planned limit plan rest) → IsSaid (framing_of (pairs p.fields)) said
     → IsWithinLimit limit plan → refusal_of limit plan ≡ None → due ≡ expects_continue p.minor (pairs p.fields)
-    → IsOpened bytes (record { head = p; limit = limit; plan = plan; due = due })
+    → IsFramed bytes (record { head = p; limit = limit; plan = plan; due = due })
 opened bytes h p limit plan said due reads k host limit_is by says within none due_is = record {
   h = h;
   reads = reads;

@@ -8,6 +8,6 @@ pub mod Pieces
 pub mod Views
 pub mod Parts
 pub mod Found
-pub mod Parsed
+pub mod ParsedHeads
 pub mod Lengths
-pub mod Opened
+pub mod FramedHeads

@@ -8,7 +8,7 @@ ghost use Rattle.http_wire.specs.Parts.{Took, Halts, IsCountBelow};
 use crate::body_fault::BodyFault;
 use crate::chunks::read_chunked;
 use crate::lengths::BodyLength;
-use crate::sized::read_sized;
+use crate::sized_bodies::read_sized;
 use crate::unread::Unread;
 use jm_edge::Link;
 use std::alloc::Global;

@@ -6,7 +6,7 @@ ghost use Rattle.http_wire.specs.Parts.{Took, Halts, IsCountBelow, HasStep};
 
 use crate::body_fault::BodyFault;
 use crate::parts::{read_chunk_end, read_chunk_line, read_trailer};
-use crate::sized::read_sized;
+use crate::sized_bodies::read_sized;
 use crate::unread::Unread;
 use jm_edge::Link;
 use std::alloc::Global;

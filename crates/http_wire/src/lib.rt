@@ -14,14 +14,14 @@ mod chunks;
 mod connection;
 mod fault;
 mod fields;
+mod framed_head;
+mod head_parser;
 mod heads;
 mod laws;
 mod lengths;
 #[cfg(test)]
 mod limit_tests;
 mod limits;
-mod opened;
-mod parsed;
 mod parts;
 mod pieces;
 mod request;
@@ -29,7 +29,7 @@ mod request;
 mod request_tests;
 mod requests;
 mod responses;
-mod sized;
+mod sized_bodies;
 #[cfg(test)]
 mod tests;
 mod unread;
@@ -37,13 +37,13 @@ mod unread;
 pub use bodies::{BodyPlan, plan_body, read_body};
 pub use body_fault::BodyFault;
 pub use fault::WireFault;
+pub use head_parser::{ParsedHead, parse_head};
 pub use heads::HeadSpan;
 pub use laws::{keep_heads, show_examples_of_messages};
 pub use lengths::{BodyLength, find_length};
 pub use limits::{
     MAX_CHUNK_DIGITS, MAX_CHUNK_LINE_BYTES, MAX_HEAD_BYTES, MAX_HEAD_FIELDS, MAX_TRAILER_BYTES,
 };
-pub use parsed::{ParsedHead, parse_head};
 pub use pieces::read_head;
 pub use request::{HttpField, HttpFields, HttpRequest};
 pub use requests::read_request;

@@ -7,15 +7,15 @@ ghost use Rattle.http_wire.specs.Views.{IsHeadAt, IsWithin};
 ghost use Rattle.http_wire.specs.Responses.{continue_bytes, IsPrefixWritten};
 ghost use Rattle.http_wire.specs.Requests.{ReadsRequestFrom};
 ghost use Rattle.http_wire.specs.Parts.{IsCountBelow};
-ghost use Rattle.http_wire.specs.Opened.{IsMade, continued_bytes, wire_fault_of};
+ghost use Rattle.http_wire.specs.FramedHeads.{IsMade, continued_bytes, wire_fault_of};
 
 use crate::WireFault;
 use crate::bodies::read_body;
 use crate::body_fault::BodyFault;
 use crate::connection::is_last;
+use crate::framed_head::{FramedHead, frame_head};
+use crate::head_parser::ParsedHead;
 use crate::heads::HeadSpan;
-use crate::opened::{OpenHead, open_head};
-use crate::parsed::ParsedHead;
 use crate::pieces::read_head;
 use crate::request::HttpRequest;
 use crate::responses::put_bytes;
@@ -67,11 +67,11 @@ fn find_wire_fault(fault: BodyFault, head: usize, limit: usize) -> WireFault
 }
 
 // Returns the request with this head and this body.
-fn make_request(opened: OpenHead, body: Vec<u8>) -> HttpRequest
-    ensures { IsMade opened body.items result }
+fn make_request(framed: FramedHead, body: Vec<u8>) -> HttpRequest
+    ensures { IsMade framed body.items result }
 {
-    let last = is_last(opened.head.minor, opened.head.fields.as_slice());
-    let OpenHead { head, .. } = opened;
+    let last = is_last(framed.head.minor, framed.head.fields.as_slice());
+    let FramedHead { head, .. } = framed;
     let ParsedHead {
         method,
         target,
@@ -103,18 +103,18 @@ fn read_after_head<L: Link>(
         link.old) (L.put_faults link.new) result }
     ensures room { length room.new ≡ length room.old }
 {
-    let opened = match open_head(alloc, find_head_bytes(early.as_slice(), at)) {
-        Ok(opened) => opened,
+    let framed = match frame_head(alloc, find_head_bytes(early.as_slice(), at)) {
+        Ok(framed) => framed,
         Err(fault) => return Err(fault),
     };
-    match put_continue(link, opened.due) {
+    match put_continue(link, framed.due) {
         Ok(()) => {}
         Err(fault) => return Err(fault),
     }
     early.skip(at.end);
-    match read_body(alloc, link, room, opened.plan, opened.limit, early) {
-        Ok(body) => Ok(make_request(opened, body)),
-        Err(fault) => Err(find_wire_fault(fault, at.end - at.start, opened.limit)),
+    match read_body(alloc, link, room, framed.plan, framed.limit, early) {
+        Ok(body) => Ok(make_request(framed, body)),
+        Err(fault) => Err(find_wire_fault(fault, at.end - at.start, framed.limit)),
     }
 }
 

@@ -1,19 +1,19 @@
 // What the head of a request says of its message.
 ghost use Rattle.std.specs.Prelude.{◌≡◌, ◌<◌, ◌^◌, IfOk, IfErr};
 ghost use Rattle.http_wire.specs.Requests.{body_limit};
-ghost use Rattle.http_wire.specs.Opened.{IsOpened, IsRejected, refusal_of};
+ghost use Rattle.http_wire.specs.FramedHeads.{IsFramed, IsRejected, refusal_of};
 
 use crate::WireFault;
 use crate::bodies::{BodyPlan, plan_body};
 use crate::connection::{expects_continue, has_host};
+use crate::head_parser::{ParsedHead, parse_head};
 use crate::lengths::find_length;
-use crate::parsed::{ParsedHead, parse_head};
 use jm_base::{MAX_REQUEST_BYTES, MAX_UPLOAD_BYTES};
 use std::alloc::Global;
 
 /// A valid head, and how the body after it is read.
 #[derive(Drop)]
-pub(crate) struct OpenHead {
+pub(crate) struct FramedHead {
     pub head: ParsedHead,
     pub limit: usize,
     pub plan: BodyPlan,
@@ -48,8 +48,8 @@ fn find_refusal(plan: BodyPlan, limit: usize) -> Option<WireFault>
 
 // Returns the head that these bytes are, if it is valid, and its body is not too long.
 #[tactic(auto, using(crate::proofs::Opening::opened, crate::proofs::Opening::no_head, crate::proofs::Opening::no_host, crate::proofs::Opening::refused))]
-pub(crate) fn open_head(alloc: Global, bytes: &[u8]) -> Result<OpenHead, WireFault>
-    ensures ok { IfOk result (IsOpened bytes.now) }
+pub(crate) fn frame_head(alloc: Global, bytes: &[u8]) -> Result<FramedHead, WireFault>
+    ensures ok { IfOk result (IsFramed bytes.now) }
     ensures small { IfOk result (λ o. o.limit < 2 ^ 32) }
     ensures err { IfErr result (IsRejected bytes.now) }
 {
@@ -68,7 +68,7 @@ pub(crate) fn open_head(alloc: Global, bytes: &[u8]) -> Result<OpenHead, WireFau
         None => {}
     }
     let due = expects_continue(head.minor, head.fields.as_slice());
-    Ok(OpenHead {
+    Ok(FramedHead {
         head,
         limit,
         plan,

@@ -1,7 +1,7 @@
 use Rattle.std.proofs.Common.{◌≡◌, ◌++◌, length, map, All}
 use Rattle.httparse.specs.Spans.{header_bytes, IsHeaderWithin}
 use Rattle.http_wire.specs.Fields.{pairs}
-use Rattle.http_wire.proofs.parsed.copy_fields.Given as goal
+use Rattle.http_wire.proofs.head_parser.copy_fields.Given as goal
 
 abbrev pub invariant-field : goal.invariant-field
 invariant-field l = record {

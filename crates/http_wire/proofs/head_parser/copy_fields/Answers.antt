@@ -1,7 +1,7 @@
 use Rattle.httparse.specs.Spans.{IsHeaderWithin}
 use Rattle.std.proofs.Common.{length}
 use Rattle.http_wire.proofs.HeadParsed.{all_rest, copied_next}
-use Rattle.http_wire.proofs.parsed.copy_fields.Goals as goal
+use Rattle.http_wire.proofs.head_parser.copy_fields.Goals as goal
 
 pub field-preserved : goal.field-preserved
 field-preserved c = record {

@@ -5,7 +5,7 @@ use Rattle.http_wire.specs.Requests.{body_limit}
 use Rattle.http_wire.specs.Lengths.{IsSaid}
 use Rattle.http_wire.specs.declared.request.HttpField.{HttpField}
 use Rattle.http_wire.proofs.Opening.{opened, no_host, head_found}
-use Rattle.http_wire.proofs.opened.open_head.Goals as goal
+use Rattle.http_wire.proofs.framed_head.frame_head.Goals as goal
 
 pub returns-then-not-has_host-clause-err : goal.returns-then-not-has_host-clause-err
 returns-then-not-has_host-clause-err c =

@@ -4,7 +4,7 @@ ghost use Rattle.httparse.specs.Grammar.{RequestHead};
 ghost use Rattle.httparse.specs.Spans.{span_bytes, header_bytes, IsWithin, IsHeaderWithin};
 ghost use Rattle.http_wire.specs.Fields.{pairs};
 ghost use Rattle.http_wire.specs.Requests.{requests};
-ghost use Rattle.http_wire.specs.Parsed.{IsParsed, IsCopied};
+ghost use Rattle.http_wire.specs.ParsedHeads.{IsParsed, IsCopied};
 
 use crate::limits::MAX_HEAD_FIELDS;
 use crate::request::{HttpField, HttpFields};

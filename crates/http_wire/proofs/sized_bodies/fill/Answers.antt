@@ -1,6 +1,6 @@
 use Rattle.std.proofs.Common.{rules}
 use Rattle.http_wire.proofs.Filled.{gains_ended}
-use Rattle.http_wire.proofs.sized.fill.Goals as goal
+use Rattle.http_wire.proofs.sized_bodies.fill.Goals as goal
 
 pub returns-then-more-eq0-clause-err : goal.returns-then-more-eq0-clause-err
 returns-then-more-eq0-clause-err g c =

@@ -1,6 +1,6 @@
 use Rattle.std.proofs.Common.{◌-◌, ◌≡◌, ◌≤◌, ◌+◌, length}
 use Rattle.http_wire.proofs.Filled.{Gains}
-use Rattle.http_wire.proofs.sized.fill.Given as goal
+use Rattle.http_wire.proofs.sized_bodies.fill.Given as goal
 
 abbrev pub invariant-turn : goal.invariant-turn
 invariant-turn g l = record {

@@ -1,6 +1,6 @@
 use Rattle.std.proofs.Common.{rules}
 use Rattle.http_wire.proofs.Filled.{filled}
-use Rattle.http_wire.proofs.sized.read_into.Goals as goal
+use Rattle.http_wire.proofs.sized_bodies.read_into.Goals as goal
 
 pub returns-in-Ok-clause-ok : goal.returns-in-Ok-clause-ok
 returns-in-Ok-clause-ok g c =

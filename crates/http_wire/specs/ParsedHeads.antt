@@ -6,7 +6,7 @@ use Rattle.httparse.specs.declared.spans.HeaderSpan.{HeaderSpan}
 use Rattle.httparse.specs.declared.spans.RequestSpans.{RequestSpans}
 use Rattle.http_wire.specs.Fields.{pairs}
 use Rattle.http_wire.specs.Requests.{names_and_values}
-use Rattle.http_wire.specs.declared.parsed.ParsedHead.{ParsedHead}
+use Rattle.http_wire.specs.declared.head_parser.ParsedHead.{ParsedHead}
 
 -- the parts of a head of the grammar
 pub record IsParsed (h : RequestHead) (p : ParsedHead) : Type 0 where

@@ -7,18 +7,18 @@ use Rattle.http_wire.specs.Bodies.{framing_of}
 use Rattle.http_wire.specs.Requests.{Message, Invalid, OverLimit, AreReadAs, requests, names_and_values, body_limit, request_body, message_by, is_open, is_due_by}
 use Rattle.http_wire.specs.Responses.{continue_bytes}
 use Rattle.http_wire.specs.declared.request.HttpRequest.{HttpRequest}
-use Rattle.http_wire.specs.Parsed.{IsParsed}
+use Rattle.http_wire.specs.ParsedHeads.{IsParsed}
 use Rattle.http_wire.specs.Lengths.{planned, IsWithinLimit}
 use Rattle.http_wire.specs.declared.bodies.BodyPlan.{BodyPlan}
 use Rattle.http_wire.specs.declared.bodies.BodyPlan.TheVariants.{Invalid as NoPlan, TooLong as IsOver, Sized as OfSize, Chunked as InChunks}
-use Rattle.http_wire.specs.declared.opened.OpenHead.{OpenHead}
+use Rattle.http_wire.specs.declared.framed_head.FramedHead.{FramedHead}
 use Rattle.http_wire.specs.declared.body_fault.BodyFault.{BodyFault}
 use Rattle.http_wire.specs.declared.body_fault.BodyFault.TheVariants.{Invalid as BodyBad, TooLong as BodyOver, Ended, ReadFault as BodyReadFault, NoMemory as BodyNoMemory}
 use Rattle.http_wire.specs.declared.fault.WireFault.{WireFault}
 use Rattle.http_wire.specs.declared.fault.WireFault.TheVariants.{End, ReadFault, WriteFault, BadHead, HeadTooLong, BodyTooLong, CutOff, NoMemory}
 
 -- The bytes are a valid head, whose message has a body that is read by this plan.
-pub record IsOpened (bytes : List ℕ) (o : OpenHead) : Type 0 where
+pub record IsFramed (bytes : List ℕ) (o : FramedHead) : Type 0 where
   pub h : RequestHead
   pub reads : AreReadAs requests bytes (Some h)
   pub parsed : IsParsed h o.head
@@ -69,7 +69,7 @@ abbrev pub continued_bytes : Bool → List ℕ
 continued_bytes due = if due then continue_bytes else []
 
 -- the request with this head and this body
-pub record IsMade (o : OpenHead) (body : List ℕ) (r : HttpRequest) : Type 0 where
+pub record IsMade (o : FramedHead) (body : List ℕ) (r : HttpRequest) : Type 0 where
   pub method : r.method ≡ o.head.method
   pub target : r.target ≡ o.head.target
   pub fields : pairs r.fields ≡ pairs o.head.fields
