@@ -4,16 +4,9 @@
 -- A keeper's content is a base or none, and rows. Contracts know it as an `Option`: `None` if the
 -- keeper cannot say what its content is, as after a fault of its disk.
 use Rattle.std.specs.Prelude.{◌≡◌, ◌↔◌, ℕ, Result, Ok, Err, List, [], ◌∷◌, ◌++◌, Option, Some, None, ◌⊎◌}
-use Rattle.jm_edge.specs.Causes.{Rose}
 use Rattle.jm_edge.specs.declared.fault.EdgeFault.{EdgeFault}
 use Rattle.jm_edge.specs.declared.fault.EdgeFault.TheVariants.{Failed, NoMemory}
 use Rattle.keep_port.specs.declared.kept.Kept.{Kept}
-
--- the count of faults rose if the call failed, and else it is as it was
-abbrev pub IsCounted : {T : Type 0} → ℕ → ℕ → Result T EdgeFault → Type 0
-IsCounted before now (Err Failed) = Rose before now
-IsCounted before now (Err NoMemory) = now ≡ before
-IsCounted before now (Ok _) = now ≡ before
 
 -- this is the content, if the content is known
 abbrev pub IsContent : Option Kept → Kept → Type 0

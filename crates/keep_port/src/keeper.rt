@@ -1,7 +1,8 @@
 // The port to what keeps the rows of an account.
 ghost use Rattle.std.specs.Prelude.{◌≡◌, ◌⊎◌, ℕ, Option, Some, IfOk};
 ghost use Rattle.keep_port.specs.declared.kept.Kept.{Kept};
-ghost use Rattle.keep_port.specs.Keeping.{IsCounted, IsContent, IsUnknownOr, content_after, content_loaded, with_row_if, MayLeave};
+ghost use Rattle.jm_edge.specs.Causes.{IsCounted};
+ghost use Rattle.keep_port.specs.Keeping.{IsContent, IsUnknownOr, content_after, content_loaded, with_row_if, MayLeave};
 
 use crate::Kept;
 use jm_edge::EdgeFault;
@@ -21,12 +22,12 @@ use std::alloc::Global;
 /// bound holds however much a keeper knows. A keeper that leaves it empty promises nothing of a
 /// crash; how much at least is in it is for each keeper to promise.
 ///
-/// Whoever opens an account over a keeper (a later `Book::start`) loads it once, and relies on what
-/// a crash may leave. It assumes that since the last `append` or `replace` that returned `Ok` no
-/// `append` or `replace` was refused; or that whatever else a crash may leave is the content with
-/// one more row, which is the next commit of that account. The second is so of a keeper that a book
-/// hands back, however many of its appends were refused. A row that was refused and is no such
-/// commit may be there after a crash, and the account is damaged then.
+/// Whoever opens an account over a keeper (`Book::start` of account_book) loads it once, and relies
+/// on what a crash may leave. It assumes that since the last `append` or `replace` that returned
+/// `Ok` no `append` or `replace` was refused; or that whatever else a crash may leave is the
+/// content with one more row, which is the next commit of that account. The second is so of a
+/// keeper that a book hands back, however many of its appends were refused. A row that was refused
+/// and is no such commit may be there after a crash, and the account is damaged then.
 pub trait Keeper: Drop + Send {
     /// The content, if the keeper knows it.
     ghost kept: { Self → Option Kept };

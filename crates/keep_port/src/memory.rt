@@ -1,7 +1,8 @@
 // A keeper in memory, with lists of the calls that fail.
 ghost use Rattle.std.specs.Prelude.{◌≡◌, ◌⊎◌, Some, IfOk};
 ghost use Rattle.keep_port.specs.declared.kept.Kept.{Kept};
-ghost use Rattle.keep_port.specs.Keeping.{IsCounted, IsContent, IsUnknownOr, content_after, content_loaded, with_row_if, MayLeave, MustLeave};
+ghost use Rattle.jm_edge.specs.Causes.{IsCounted};
+ghost use Rattle.keep_port.specs.Keeping.{IsContent, IsUnknownOr, content_after, content_loaded, with_row_if, MayLeave, MustLeave};
 
 use crate::calls::Calls;
 use crate::{Keeper, Kept};

@@ -1,7 +1,8 @@
 // A keeper of rows in a database, which counts its faults. Contracts do not know what the database
 // holds.
 ghost use Rattle.std.specs.Prelude.{◌≡◌, ◌⊎◌, None, Some, IsSome, IfOk, IfErr};
-ghost use Rattle.keep_port.specs.Keeping.{IsCounted, IsContent, IsUnknownOr, content_after, content_loaded, MayLeave};
+ghost use Rattle.jm_edge.specs.Causes.{IsCounted};
+ghost use Rattle.keep_port.specs.Keeping.{IsContent, IsUnknownOr, content_after, content_loaded, MayLeave};
 ghost use Rattle.keep_port.specs.declared.kept.Kept.{Kept};
 ghost use Rattle.keep_sqlite.specs.Answers.{Answers};
 
