@@ -1,5 +1,5 @@
 -- Arguments without a reference are resolved to themselves.
-use Rattle.std.proofs.Common.{◌≡◌, ℕ, List, [], ◌∷◌, ◌++◌, ◌&&◌, ◌||◌, Bool, true, false, Some, Less, Greater, option_map, option_and_then, is_some, cond, drop, refl, sym, ap, ◌∙◌, subst, append_assoc, append-nil}
+use Rattle.std.proofs.Common.{◌≡◌, arith, ℕ, List, [], ◌∷◌, ◌++◌, ◌+◌, ◌&&◌, ◌||◌, Bool, true, false, Some, Less, Greater, option_map, option_and_then, is_some, cond, drop, refl, sym, ap, ◌∙◌, subst, append_assoc, append-nil}
 use Rattle.std.specs.List.{list_any}
 use Rattle.std.specs.Ordering.{nat_cmp, ordering_reverse}
 use Rattle.std.specs.Cmp.Lexicographic.{slice_cmp, nat_list_cmp_total}
@@ -9,6 +9,7 @@ use Rattle.jm_json.specs.Call.{Call}
 use Rattle.jm_json.specs.Order.{KeysRise, put}
 use Rattle.jm_json.specs.KeyIndices.{AllBelow}
 use Rattle.jm_json.proofs.Puts.{below_of}
+use Rattle.result_refs.specs.Made.{argument_bytes, referred_bytes, arguments_bytes, reference_bytes}
 use Rattle.result_refs.specs.References.{is_marked, referred, arguments, clashes, by_arguments, resolved, resolution}
 
 abbrev Pairs : Type 0
@@ -63,3 +64,22 @@ plain_arguments (object fs) ms slice cs e is rise h =
     fields_of-pairs_of : (gs : Fields) → fields_of (pairs_of gs) ≡ gs
     fields_of-pairs_of no_fields = refl
     fields_of-pairs_of (field k t gs) = ap (λ hs. field k t hs) (fields_of-pairs_of gs)
+
+nothing_taken : (ms : Pairs) (cs : List Call) → list_any (λ m. is_marked m.0) ms ≡ false → arguments_bytes ms cs ≡ 0
+nothing_taken [] cs h = refl
+nothing_taken (m ∷ ms) cs h =
+    let none = or_false (is_marked m.0) (list_any (λ x. is_marked x.0) ms) h in
+    let first : argument_bytes m cs ≡ 0 = ap (λ b. cond b (referred_bytes m.1 cs) 0) none.0 in
+    let rest = nothing_taken ms cs none.1 in
+    omega (arith, first, rest)
+
+-- arguments without a reference take nothing
+pub nothing_of : (args : Tree) (ms slice : Pairs) (cs : List Call) → Some ms ≡ as_object args → slice ≡ ms → list_any (λ m. is_marked m.0) slice ≡ false → reference_bytes args cs ≡ 0
+nothing_of null ms slice cs e is h = refl
+nothing_of (boolean b) ms slice cs e is h = refl
+nothing_of (number z) ms slice cs e is h = refl
+nothing_of (text s) ms slice cs e is h = refl
+nothing_of (list ts) ms slice cs e is h = refl
+nothing_of (object fs) ms slice cs e is h =
+    let same : slice ≡ pairs_of fs = cc in
+    nothing_taken (pairs_of fs) cs (subst (λ xs. list_any (λ m. is_marked m.0) xs ≡ false) same h)

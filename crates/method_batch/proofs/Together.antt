@@ -1,5 +1,5 @@
 -- Replies to calls one after another, and what the port was asked for them.
-use Rattle.std.proofs.Common.{◌≡◌, inl, inr, ℕ, List, [], ◌∷◌, ◌++◌, map, length, nat_lt, cond, Bool, true, false, Option, Some, None, option_to_list, Result, Ok, Err, IfOk, OnErr, refl, sym, ap, ◌∙◌, subst, append_assoc, append-nil}
+use Rattle.std.proofs.Common.{◌≡◌, inl, inr, ℕ, ◌+◌, ◌≤◌, arith, List, [], ◌∷◌, ◌++◌, map, length, nat_lt, cond, Bool, true, false, Option, Some, None, option_to_list, Result, Ok, Err, IfOk, OnErr, refl, sym, ap, ◌∙◌, subst, append_assoc, append-nil}
 use Rattle.jm_base.specs.declared.memory.NoMemory.{NoMemory}
 use Rattle.jm_json.specs.Tree.{Tree}
 use Rattle.jm_json.specs.Call.{Call}
@@ -11,7 +11,8 @@ use Rattle.jm_json.specs.declared.invocation.Replied.{Replied}
 use Rattle.jm_base.specs.declared.limits.TheConstants.{MAX_REQUEST_BYTES}
 use Rattle.method_batch.specs.Method.{core_capability, mail_capability}
 use Rattle.method_batch.specs.Request.{request_of, problem_in, uses}
-use Rattle.method_batch.specs.Prepared.{Preparation, refused, ready, preparation}
+use Rattle.result_refs.specs.declared.room.TheConstants.{MAX_REFERENCE_BYTES}
+use Rattle.method_batch.specs.Prepared.{Preparation, refused, ready, preparation, taken_by}
 use Rattle.method_batch.specs.Answer.{Asked, Runs, RepliesPrepared, RepliesOne, Answers, StopsPrepared, StopsAtFirst, StopsOrPerforms, HasBegunCalls, after_reply, is_echo}
 use Rattle.method_batch.specs.Outcome.{HasBegunRequest, HasBegunUnless, HasBegunBy, HasBegun, HasBegunReading, HasBegunAnswer, beginning}
 use Rattle.method_batch.specs.declared.outcome.Problem.{Problem}
@@ -47,40 +48,42 @@ first_stays stops s core mail [] before stays = refl
 first_stays stops s core mail (c ∷ cs) before stays = prepared_stays stops s (preparation core mail c before.responses) before.made stays
 
 -- a call that was replied was performed, also where its responses were not kept
-pub may_have : {S : Type 0} (answers : S → Call → List Created → Replied → S → Type 0) (stops : S → Call → List Created → S → Type 0) (s s' : S) (core mail : Bool) (c : Call) (before : Progress) (replied : Replied) (r : Result (Unit {0}) NoMemory)
-    → ((asked : List Asked) × Runs answers s asked s' × RepliesOne core mail c before asked replied) → OnErr r (StopsOrPerforms answers stops s s' core mail c before)
-may_have answers stops s s' core mail c before replied (Ok u) h = tt
-may_have answers stops s s' core mail c before replied (Err e) h = inr (after_reply before replied, (h.0, replied, h.1, h.2, refl))
+pub may_have : {S : Type 0} (answers : S → Call → List Created → Replied → S → Type 0) (stops : S → Call → List Created → S → Type 0) (s s' : S) (core mail : Bool) (c : Call) (before : Progress) (room : ℕ) (replied : Replied) (r : Result (Unit {0}) NoMemory)
+    → ((asked : List Asked) × Runs answers s asked s' × RepliesOne core mail c before asked replied) → taken_by core mail c before.responses ≤ room → OnErr r (StopsOrPerforms answers stops s s' core mail c before room)
+may_have answers stops s s' core mail c before room replied (Ok u) h few = tt
+may_have answers stops s s' core mail c before room replied (Err e) h few = inr (after_reply before replied, (h.0, replied, h.1, h.2, refl), few)
 
 pub runs_on : {S : Type 0} (answers : S → Call → List Created → Replied → S → Type 0) (s m s' : S) (before after : List Asked) → Runs answers s before m → Runs answers m after s' → Runs answers s (before ++ after) s'
 runs_on {S} answers s m s' [] after h k = subst (λ (x : S). Runs answers x after s') h k
 runs_on answers s m s' (a ∷ before) after h k = (h.0, h.1, runs_on answers h.0 m s' before after h.2 k)
 
-pub answers_on : (core mail : Bool) (cs : List Call) (c : Call) (asked first : List Asked) (before p after : Progress) (replied : Replied)
-    → Answers core mail cs before asked p → RepliesOne core mail c p first replied → after ≡ after_reply p replied → Answers core mail (cs ++ c ∷ []) before (asked ++ first) after
-answers_on core mail [] c asked first before p after replied h one is =
-    (first, [], replied, ap (λ (xs : List Asked). xs ++ first) h.0 ∙ sym (append-nil first), subst (λ (x : Progress). RepliesOne core mail c x first replied) h.1 one, (refl, is ∙ ap (λ (x : Progress). after_reply x replied) h.1))
-answers_on core mail (d ∷ cs) c asked first before p after replied (front, more, said, e, o, rest) one is =
-    (front, more ++ first, said, ap (λ (xs : List Asked). xs ++ first) e ∙ append_assoc front more first, o, answers_on core mail cs c more first (after_reply before said) p after replied rest one is)
+pub answers_on : (core mail : Bool) (cs : List Call) (c : Call) (asked first : List Asked) (before p after : Progress) (replied : Replied) (taken : ℕ)
+    → Answers core mail cs before asked p taken → RepliesOne core mail c p first replied → after ≡ after_reply p replied → Answers core mail (cs ++ c ∷ []) before (asked ++ first) after (taken + taken_by core mail c p.responses)
+answers_on core mail [] c asked first before p after replied taken h one is =
+    let same : taken_by core mail c p.responses ≡ taken_by core mail c before.responses = ap (λ (x : Progress). taken_by core mail c x.responses) h.1 in
+    let none = h.2 in
+    (first, [], replied, 0, ap (λ (xs : List Asked). xs ++ first) h.0 ∙ sym (append-nil first), subst (λ (x : Progress). RepliesOne core mail c x first replied) h.1 one, omega (arith, same, none), (refl, is ∙ ap (λ (x : Progress). after_reply x replied) h.1, refl))
+answers_on core mail (d ∷ cs) c asked first before p after replied taken (front, more, said, left, e, o, sum, rest) one is =
+    (front, more ++ first, said, left + taken_by core mail c p.responses, ap (λ (xs : List Asked). xs ++ first) e ∙ append_assoc front more first, o, omega (arith, sum), answers_on core mail cs c more first (after_reply before said) p after replied left rest one is)
 
 -- the calls with the next one taken off the rest
 pub next_call : (calls done : List Call) (rest more : List Invocation) (i : Invocation) → calls ≡ done ++ map call_of rest → rest ≡ option_to_list (Some i) ++ more → calls ≡ (done ++ call_of i ∷ []) ++ map call_of more
 next_call calls done rest more i e step = e ∙ ap (λ (xs : List Invocation). done ++ map call_of xs) step ∙ sym (append_assoc done (call_of i ∷ []) (map call_of more))
 
 -- what was done by a call that found no memory
-pub begun : {S : Type 0} (answers : S → Call → List Created → Replied → S → Type 0) (stops : S → Call → List Created → S → Type 0) (s m s' : S) (core mail : Bool) (calls done more : List Call) (c : Call) (asked : List Asked) (start p : Progress)
-    → Stays stops → calls ≡ (done ++ c ∷ []) ++ more → Runs answers s asked m → Answers core mail done start asked p → StopsOrPerforms answers stops m s' core mail c p → HasBegunCalls answers stops s s' core mail calls start
-begun {S} answers stops s m s' core mail calls done more c asked start p stays e runs here (inl stopped) =
-    (done, c ∷ more, asked, p, m, e ∙ append_assoc done (c ∷ []) more, runs, here, stopped)
-begun {S} answers stops s m s' core mail calls done more c asked start p stays e runs here (inr (after, (first, replied, then, one, is))) =
-    (done ++ c ∷ [], more, asked ++ first, after, s', e, runs_on answers s m s' asked first runs then, answers_on core mail done c asked first start p after replied here one is, first_stays stops s' core mail more after stays)
+pub begun : {S : Type 0} (answers : S → Call → List Created → Replied → S → Type 0) (stops : S → Call → List Created → S → Type 0) (s m s' : S) (core mail : Bool) (calls done more : List Call) (c : Call) (asked : List Asked) (start p : Progress) (taken room : ℕ)
+    → Stays stops → calls ≡ (done ++ c ∷ []) ++ more → Runs answers s asked m → Answers core mail done start asked p taken → taken + room ≤ MAX_REFERENCE_BYTES → StopsOrPerforms answers stops m s' core mail c p room → HasBegunCalls answers stops s s' core mail calls start
+begun {S} answers stops s m s' core mail calls done more c asked start p taken room stays e runs here few (inl stopped) =
+    (done, c ∷ more, asked, p, taken, m, e ∙ append_assoc done (c ∷ []) more, runs, here, omega (arith, few), stopped)
+begun {S} answers stops s m s' core mail calls done more c asked start p taken room stays e runs here few (inr (after, (first, replied, then, one, is), less)) =
+    (done ++ c ∷ [], more, asked ++ first, after, taken + taken_by core mail c p.responses, s', e, runs_on answers s m s' asked first runs then, answers_on core mail done c asked first start p after replied taken here one is, omega (arith, few, less), first_stays stops s' core mail more after stays)
 
 -- all were performed, also where the Response found no memory
 pub all_begun : {S T : Type 0} (answers : S → Call → List Created → Replied → S → Type 0) (stops : S → Call → List Created → S → Type 0) (s s' : S) (core mail : Bool) (r : Request) (start after : Progress) (x : Result T NoMemory)
     → core ≡ uses core_capability r.using → mail ≡ uses mail_capability r.using → start ≡ beginning r.created
-    → ((asked : List Asked) × Runs answers s asked s' × Answers core mail r.calls start asked after) → OnErr x (HasBegunRequest answers stops s s' r)
+    → ((asked : List Asked) × (taken : ℕ) × Runs answers s asked s' × Answers core mail r.calls start asked after taken × (taken ≤ MAX_REFERENCE_BYTES)) → OnErr x (HasBegunRequest answers stops s s' r)
 all_begun answers stops s s' core mail r start after (Ok y) c m b h = tt
-all_begun answers stops s s' core mail r start after (Err y) c m b h = rw (sym c, sym m, sym b) (r.calls, [], h.0, after, s', sym (append-nil r.calls), h.1, h.2, refl)
+all_begun answers stops s s' core mail r start after (Err y) c m b h = rw (sym c, sym m, sym b) (r.calls, [], h.0, after, h.1, s', sym (append-nil r.calls), h.2, h.3, h.4, refl)
 
 pub on_err : {T E : Type 0} (P : Type 0) (r : Result T E) → P → OnErr r P
 on_err P (Ok x) h = tt
@@ -90,7 +93,7 @@ on_err P (Err e) h = h
 
 module _ {S : Type 0} (answers : S → Call → List Created → Replied → S → Type 0) (stops : S → Call → List Created → S → Type 0) (stays : Stays stops) where
   calls_not_begun : (s : S) (core mail : Bool) (cs : List Call) (p : Progress) → HasBegunCalls answers stops s s core mail cs p
-  calls_not_begun s core mail cs p = ([], cs, [], p, s, refl, refl, (refl, refl), first_stays stops s core mail cs p stays)
+  calls_not_begun s core mail cs p = ([], cs, [], p, 0, s, refl, refl, (refl, refl, refl), omega arith, first_stays stops s core mail cs p stays)
 
   unless_not_begun : (s : S) (r : Request) (p : Option Problem) → HasBegunUnless answers stops s s r p
   unless_not_begun s r None = calls_not_begun s (uses core_capability r.using) (uses mail_capability r.using) r.calls (beginning r.created)

@@ -1,9 +1,10 @@
 -- The replies to the calls of a request, one after the other (RFC 8620, section 3.4).
-use Rattle.std.specs.Prelude.{◌≡◌, ◌⊎◌, List, [], ◌∷◌, ◌++◌, Bool, cond, codes, bytes_eq}
+use Rattle.std.specs.Prelude.{◌≡◌, ◌⊎◌, ℕ, ◌+◌, ◌≤◌, List, [], ◌∷◌, ◌++◌, Bool, cond, codes, bytes_eq}
 use Rattle.jm_json.specs.Call.{Call}
 use Rattle.jm_json.specs.declared.invocation.Created.{Created}
 use Rattle.jm_json.specs.declared.invocation.Replied.{Replied}
-use Rattle.method_batch.specs.Prepared.{Preparation, refused, ready, preparation}
+use Rattle.result_refs.specs.declared.room.TheConstants.{MAX_REFERENCE_BYTES}
+use Rattle.method_batch.specs.Prepared.{Preparation, refused, ready, preparation, taken_by}
 use Rattle.method_batch.specs.declared.progress.Progress.{Progress}
 
 -- a call that a port performed, with what the request had created up to then, and the port's reply
@@ -46,13 +47,15 @@ RepliesOne core mail c before asked replied =
 abbrev pub after_reply : Progress → Replied → Progress
 after_reply p r = record { responses = p.responses ++ r.responses; made = p.made ++ r.made }
 
--- the calls in order, each from the progress after the one before
-abbrev pub Answers : Bool → Bool → List Call → Progress → List Asked → Progress → Type 0
-Answers core mail [] before asked after = (asked ≡ []) × (after ≡ before)
-Answers core mail (c ∷ cs) before asked after =
-    (first : List Asked) × (more : List Asked) × (replied : Replied) × (asked ≡ first ++ more)
-    × RepliesOne core mail c before first replied
-    × Answers core mail cs (after_reply before replied) more after
+-- the calls in order, each from the progress after the one before; their references took so many
+-- bytes together
+abbrev pub Answers : Bool → Bool → List Call → Progress → List Asked → Progress → ℕ → Type 0
+Answers core mail [] before asked after taken = (asked ≡ []) × (after ≡ before) × (taken ≡ 0)
+Answers core mail (c ∷ cs) before asked after taken =
+    (first : List Asked) × (more : List Asked) × (replied : Replied) × (rest : ℕ)
+    × (asked ≡ first ++ more) × RepliesOne core mail c before first replied
+    × (taken ≡ taken_by core mail c before.responses + rest)
+    × Answers core mail cs (after_reply before replied) more after rest
 
 -- ---- of a port that goes from the state s to s'
 
@@ -77,12 +80,13 @@ StopsOne stops s s' core mail c before =
     StopsPrepared stops s s' (preparation core mail c before.responses) before.made
 
 -- A call of a request ended out of memory: the port stopped at it, or it was performed and its
--- responses were lost.
+-- responses were lost. Its references took at most what there was room for.
 abbrev pub StopsOrPerforms : {S : Type 0} → (S → Call → List Created → Replied → S → Type 0)
-    → (S → Call → List Created → S → Type 0) → S → S → Bool → Bool → Call → Progress → Type 0
-StopsOrPerforms answers stops s s' core mail c before =
+    → (S → Call → List Created → S → Type 0) → S → S → Bool → Bool → Call → Progress → ℕ → Type 0
+StopsOrPerforms answers stops s s' core mail c before room =
     StopsOne stops s s' core mail c before
-    ⊎ ((after : Progress) × HasPerformed answers s s' core mail c before after)
+    ⊎ ((after : Progress) × HasPerformed answers s s' core mail c before after
+    × (taken_by core mail c before.responses ≤ room))
 
 -- The port is left so if the first of these calls ended out of memory. If there is no call, it is
 -- as it was.
@@ -92,10 +96,12 @@ StopsAtFirst stops s s' core mail [] before = s' ≡ s
 StopsAtFirst stops s s' core mail (c ∷ cs) before = StopsOne stops s s' core mail c before
 
 -- Calls of a request that ended out of memory: the first ones were performed, each once and in
--- order, the port stopped at the next one, and no other was performed.
+-- order, the port stopped at the next one, and no other was performed. The references of those that
+-- were performed took at most `MAX_REFERENCE_BYTES` together.
 abbrev pub HasBegunCalls : {S : Type 0} → (S → Call → List Created → Replied → S → Type 0)
     → (S → Call → List Created → S → Type 0) → S → S → Bool → Bool → List Call → Progress → Type 0
 HasBegunCalls {S} answers stops s s' core mail cs before =
-    (done : List Call) × (more : List Call) × (asked : List Asked) × (after : Progress) × (m : S)
-    × (cs ≡ done ++ more) × Runs answers s asked m × Answers core mail done before asked after
+    (done : List Call) × (more : List Call) × (asked : List Asked) × (after : Progress)
+    × (taken : ℕ) × (m : S) × (cs ≡ done ++ more) × Runs answers s asked m
+    × Answers core mail done before asked after taken × (taken ≤ MAX_REFERENCE_BYTES)
     × StopsAtFirst stops m s' core mail more after

@@ -1,5 +1,5 @@
 -- What is answered to a request (RFC 8620, sections 3.4 and 3.6.1).
-use Rattle.std.specs.Prelude.{◌≡◌, ℕ, List, [], ◌∷◌, ◌++◌, Option, Some, None, Bool, true, false, is_some, unwrap_or, map, codes, pos, cond, nat_lt, length}
+use Rattle.std.specs.Prelude.{◌≡◌, ℕ, ◌≤◌, List, [], ◌∷◌, ◌++◌, Option, Some, None, Bool, true, false, is_some, unwrap_or, map, codes, pos, cond, nat_lt, length}
 use Rattle.jm_json.specs.Reading.{Reading, not_json, not_whole, whole, reading_of}
 use Rattle.jm_json.specs.Tree.{Tree, number, text, list, object, trees_of, fields_of}
 use Rattle.jm_json.specs.Order.{put}
@@ -9,6 +9,7 @@ use Rattle.jm_json.specs.declared.invocation.Created.{Created}
 use Rattle.jm_json.specs.declared.invocation.Replied.{Replied}
 use Rattle.method_batch.specs.Method.{core_capability, mail_capability}
 use Rattle.method_batch.specs.Request.{request_of, problem_in, uses}
+use Rattle.result_refs.specs.declared.room.TheConstants.{MAX_REFERENCE_BYTES}
 use Rattle.method_batch.specs.Answer.{Asked, Runs, Answers, HasBegunCalls}
 use Rattle.jm_base.specs.declared.limits.TheConstants.{MAX_REQUEST_BYTES}
 use Rattle.method_batch.specs.declared.progress.Progress.{Progress}
@@ -89,13 +90,15 @@ abbrev pub beginning : Option (List Created) → Progress
 beginning created = record { responses = []; made = unwrap_or created [] }
 
 -- Here and below, of a port that goes from the state s to s' meanwhile: the calls of a request were
--- answered. The Response shows what was created where the request itself did.
+-- answered, and their references took at most `MAX_REFERENCE_BYTES` together. The Response shows
+-- what was created where the request itself did.
 abbrev pub IsResponse : {S : Type 0} → (S → Call → List Created → Replied → S → Type 0) → S → S
     → Request → Outcome → Type 0
 IsResponse answers s s' r o =
-    (asked : List Asked) × (after : Progress) × Runs answers s asked s'
+    (asked : List Asked) × (after : Progress) × (taken : ℕ) × Runs answers s asked s'
     × Answers (uses core_capability r.using) (uses mail_capability r.using) r.calls
-    (beginning r.created) asked after
+    (beginning r.created) asked after taken
+    × (taken ≤ MAX_REFERENCE_BYTES)
     × IsReply o 200 (response_tree (is_some r.created) after)
 
 -- a request for which there is a problem is rejected

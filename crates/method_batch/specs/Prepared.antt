@@ -6,6 +6,7 @@ use Rattle.jm_json.specs.Tree.{Tree}
 use Rattle.jm_json.specs.Find.{as_object}
 use Rattle.jm_json.specs.Call.{Call, error_of}
 use Rattle.jm_json.specs.Invocations.{call_of}
+use Rattle.result_refs.specs.Made.{reference_bytes}
 use Rattle.result_refs.specs.References.{Resolution, bad_reference, both, resolved, resolution, is_marked}
 use Rattle.method_batch.specs.Method.{is_allowed}
 use Rattle.method_batch.specs.declared.prepare.Prepared.{Prepared}
@@ -31,6 +32,16 @@ preparation core mail c responses =
 abbrev pub preparation_of : Prepared → Preparation
 preparation_of (Refused i) = refused (call_of i)
 preparation_of (Ready i) = ready (call_of i)
+
+-- The bytes that the references of a call take from the room of its request, after these responses.
+-- A call that is rejected takes none.
+abbrev pub taken_if : Preparation → ℕ → ℕ
+taken_if (refused response) bytes = 0
+taken_if (ready c) bytes = bytes
+
+abbrev pub taken_by : Bool → Bool → Call → List Call → ℕ
+taken_by core mail c responses =
+    taken_if (preparation core mail c responses) (reference_bytes c.args responses)
 
 -- ---- whether anything is to be resolved
 

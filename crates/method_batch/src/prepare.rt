@@ -1,10 +1,11 @@
 // A call before it is performed: its name is looked up, and its arguments are resolved (RFC 8620,
 // sections 3.6.2 and 3.7).
-ghost use Rattle.std.specs.Prelude.{◌≡◌, false, List, map, IfOk};
+ghost use Rattle.std.specs.Prelude.{◌≡◌, ◌+◌, ◌≤◌, false, List, map, IfOk};
 ghost use Rattle.std.specs.List.{list_any};
 ghost use Rattle.jm_json.specs.Json.{tree_of, member_of};
 ghost use Rattle.jm_json.specs.Call.{Call, error_of};
 ghost use Rattle.jm_json.specs.Invocations.{call_of};
+ghost use Rattle.result_refs.specs.Made.{reference_bytes};
 ghost use Rattle.result_refs.specs.References.{resolution, resolved, is_marked};
 ghost use Rattle.method_batch.specs.Prepared.{has_reference};
 
@@ -23,10 +24,11 @@ pub(crate) enum Prepared {
 }
 
 impl Prepared {
-    ghost use Rattle.method_batch.specs.Prepared.{preparation, preparation_of, by_resolution, refused};
+    ghost use Rattle.method_batch.specs.Prepared.{preparation, preparation_of, by_resolution, refused, taken_by, taken_if};
 
     /// Looks up the method of a call and resolves its arguments after these responses, in a request
-    /// that uses the capabilities of the core and of mail, or not.
+    /// that uses the capabilities of the core and of mail, or not. What the references take is
+    /// taken from the room.
     pub(crate) fn of_call(
         alloc: Global,
         room: &mut u64,
@@ -35,9 +37,12 @@ impl Prepared {
         call: Invocation,
         responses: &[Invocation],
     ) -> Result<Prepared, NoMemory>
-        ensures { IfOk result
+        ensures prepared { IfOk result
             (λ p. preparation_of p
             ≡ preparation core mail (call_of call) (map call_of responses.now)) }
+        ensures room { IfOk result
+            (λ _. taken_by core mail (call_of call) (map call_of responses.now) + room.new
+            ≤ room.old) }
     {
         if !is_allowed(core, mail, call.name.as_str()) {
             return Prepared::refusal(alloc, "unknownMethod", call.id);
@@ -52,9 +57,12 @@ impl Prepared {
         call: Invocation,
         responses: &[Invocation],
     ) -> Result<Prepared, NoMemory>
-        ensures { IfOk result (λ p. preparation_of p
+        ensures prepared { IfOk result (λ p. preparation_of p
             ≡ by_resolution (call_of call)
             (resolution (call_of call).args (map call_of responses.now))) }
+        ensures room { IfOk result (λ p. taken_if (preparation_of p)
+            (reference_bytes (call_of call).args (map call_of responses.now)) + room.new
+            ≤ room.old) }
     {
         if has_reference(&call.args) {
             return Prepared::resolved(alloc, room, call, responses);
@@ -68,9 +76,12 @@ impl Prepared {
         call: Invocation,
         responses: &[Invocation],
     ) -> Result<Prepared, NoMemory>
-        ensures { IfOk result (λ p. preparation_of p
+        ensures prepared { IfOk result (λ p. preparation_of p
             ≡ by_resolution (call_of call)
             (resolution (call_of call).args (map call_of responses.now))) }
+        ensures room { IfOk result (λ p. taken_if (preparation_of p)
+            (reference_bytes (call_of call).args (map call_of responses.now)) + room.new
+            ≤ room.old) }
     {
         let Invocation { name, args, id } = call;
         match resolve(alloc, room, args, responses) {
@@ -94,6 +105,8 @@ fn has_reference(args: &Json) -> bool
     ensures exact { result ≡ has_reference (tree_of args.now) }
     ensures plain { result ≡ false → (cs : List Call) → resolution (tree_of args.now) cs
         ≡ resolved (tree_of args.now) }
+    ensures nothing { result ≡ false → (cs : List Call)
+        → reference_bytes (tree_of args.now) cs ≡ 0 }
 {
     match args.as_object() {
         Some(members) => has_marks(members.as_slice()),

@@ -1,5 +1,5 @@
 // How far a request has come: its calls are performed one after the other.
-ghost use Rattle.std.specs.Prelude.{◌≡◌, List, IfOk, OnOk, OnErr};
+ghost use Rattle.std.specs.Prelude.{◌≡◌, ◌+◌, ◌≤◌, ℕ, List, IfOk, OnOk, OnErr};
 ghost use Rattle.jm_json.specs.Invocations.{call_of};
 
 use crate::port::Port;
@@ -18,6 +18,8 @@ pub struct Progress {
 }
 
 impl Progress {
+    ghost use Rattle.result_refs.specs.declared.room.TheConstants.{MAX_REFERENCE_BYTES};
+    ghost use Rattle.method_batch.specs.Prepared.{taken_by};
     ghost use Rattle.method_batch.specs.Answer.{Asked, Runs, Answers, after_reply, HasPerformed, StopsOrPerforms, HasBegunCalls};
     ghost use Rattle.method_batch.specs.Outcome.{beginning};
 
@@ -31,8 +33,9 @@ impl Progress {
         }
     }
 
-    /// Performs calls in order. If memory runs out, the first ones were
-    /// performed, the port stopped at the next one, and no other was performed.
+    /// Performs calls in order. If memory runs out, the first ones were performed, the port stopped
+    /// at the next one, and no other was performed. Their references take at most
+    /// [`MAX_REFERENCE_BYTES`] together; past that the request ends out of memory.
     pub(crate) fn after_calls<P: Port>(
         self,
         alloc: Global,
@@ -42,8 +45,8 @@ impl Progress {
         calls: Invocations,
     ) -> Result<Progress, NoMemory>
         ensures done { IfOk result
-            (λ after. (asked : List Asked) × Runs P.answers port.old asked port.new
-            × Answers core mail calls self asked after) }
+            (λ after. (asked : List Asked) × (taken : ℕ) × Runs P.answers port.old asked port.new
+            × Answers core mail calls self asked after taken × (taken ≤ MAX_REFERENCE_BYTES)) }
         ensures begun { OnErr result
             (HasBegunCalls P.answers P.stops port.old port.new core mail calls self) }
     {
@@ -70,9 +73,11 @@ impl Progress {
     ) -> Result<(), NoMemory>
         ensures ok { OnOk result
             (HasPerformed P.answers port.old port.new core mail (call_of call) self.old self.new) }
+        ensures room { OnOk result
+            (taken_by core mail (call_of call) self.old.responses + room.new ≤ room.old) }
         ensures err { OnErr result
             (StopsOrPerforms P.answers P.stops port.old port.new core mail
-            (call_of call) self.old) }
+            (call_of call) self.old room.old) }
     {
         match reply(alloc, port, room, core, mail, call, self) {
             Ok(replied) => self.take(replied),

@@ -1,7 +1,7 @@
 // The reply to one call: by the responses up to here, by its text alone, or by the port.
-ghost use Rattle.std.specs.Prelude.{◌≡◌, List, [], ◌∷◌, IfOk, OnErr};
+ghost use Rattle.std.specs.Prelude.{◌≡◌, ◌+◌, ◌≤◌, map, List, [], ◌∷◌, IfOk, OnErr};
 ghost use Rattle.jm_json.specs.Invocations.{call_of};
-ghost use Rattle.method_batch.specs.Prepared.{preparation_of, ready};
+ghost use Rattle.method_batch.specs.Prepared.{preparation_of, ready, taken_by};
 ghost use Rattle.method_batch.specs.Answer.{Asked, Runs, RepliesOne, RepliesPrepared, StopsOne, StopsPrepared, is_echo};
 
 use crate::port::Port;
@@ -27,6 +27,8 @@ pub(crate) fn reply<P: Port>(
     ensures replied { IfOk result
         (λ r. (asked : List Asked) × Runs P.answers port.old asked port.new
         × RepliesOne core mail (call_of call) before.now asked r) }
+    ensures room { IfOk result
+        (λ _. taken_by core mail (call_of call) before.now.responses + room.new ≤ room.old) }
     ensures stopped { OnErr result
         (StopsOne P.stops port.old port.new core mail (call_of call) before.now) }
 {
