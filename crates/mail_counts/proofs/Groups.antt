@@ -1,12 +1,14 @@
 -- Members of groups, and how many of them a mailbox has: its counts.
-use Rattle.std.proofs.Common.{◌≡◌, ℕ, pos, ◌+◌, ◌<◌, ◌≤◌, Bool, true, false, ◌||◌, ◌&&◌, not, cond, eqb, List, [], ◌∷◌, ◌++◌, map, filter, length, suc, refl, sym, ap, ap₂, ◌∙◌, subst, arith, ⊎_elim, eqb-true, ne_eqb}
+use Rattle.std.proofs.Common.{◌≡◌, ℕ, pos, ◌+◌, ◌<◌, ◌≤◌, Bool, true, false, ◌||◌, ◌&&◌, not, cond, eqb, List, [], ◌∷◌, ◌++◌, map, filter, length, suc, refl, sym, ap, ap₂, ◌∙◌, subst, arith, ⊎_elim, IsPermutation, eqb-true, ne_eqb}
 use Rattle.std.specs.List.{AllByRecursion, flat_map, list_any}
+use Rattle.std.specs.List.Sorted.{IsStrictlySortedBy}
 use Rattle.std.specs.declared.cmp.Ordering.{Ordering}
 use Rattle.std.specs.declared.cmp.Ordering.TheVariants.{Less, Equal, Greater}
 use Rattle.std.specs.Ordering.{is_eq, eq_by_cmp, int_eq, match_ordering, ordering_then, nat_cmp, int_cmp}
 use Rattle.std.specs.Cmp.{IsTotalOrder, then_total, on_total, nat_cmp_total, int_cmp_total, tied_itself, signed_Decides, unsigned_tied}
 use Rattle.std.proofs.lemmas.Bool.{cases_Bool, true≢false}
 use Rattle.std.proofs.lemmas.List.{length-map}
+use Rattle.std.proofs.lemmas.List.Sorted.{list_any-IsPermutation}
 use Rattle.mail_records.specs.Contents.{email_number}
 use Rattle.mail_records.specs.Tables.{IsTable}
 use Rattle.mail_records.specs.declared.records.Email.{Email}
@@ -18,7 +20,7 @@ use Rattle.mail_counts.specs.Members.{Tallied, is_of_group, mailbox_member, mail
 use Rattle.mail_counts.specs.Tidy.{by_received}
 use Rattle.mail_counts.specs.Touched.{emails_of, in_order, is_one_of, list_of_thread, rising, sorted_once}
 use Rattle.mail_counts.specs.declared.members.Member.{Member}
-use Rattle.mail_counts.proofs.Sorted.{is_one_of-rising, length-rising, map-sorted_once, rising-same, sorted_once-filter}
+use Rattle.mail_counts.proofs.Sorted.{is_one_of-rising, length-rising, map-sorted_once, rising-same, sorted_once-filter, sorted_once-is}
 
 -- ---- the order of members
 
@@ -141,6 +143,48 @@ group-list t emails inside same =
     ∙ (ap (sorted_once member_cmp) (filter-map (is_of_group t) thread_member inside ∙ ap (map thread_member) same)
     ∙ sym (map-sorted_once by_received member_cmp thread_member (λ e. own e ≡ true) (λ a b p q. same_order t a b p q) (filter own emails) (all_passed own emails))))
     ∙ map-map member_number thread_member (in_order (filter own emails))
+
+-- what passes no test passes each test's opposite
+all_left : {A : Type 0} (p : A → Bool) (xs : List A) → list_any (λ x. not (p x)) xs ≡ false → AllByRecursion (λ x. p x ≡ true) xs
+all_left p [] e = tt
+all_left p (x ∷ xs) e = step (p x) refl (all_left p xs)
+  where
+    step : (b : Bool) → p x ≡ b → (list_any (λ y. not (p y)) xs ≡ false → AllByRecursion (λ y. p y ≡ true) xs) → AllByRecursion (λ y. p y ≡ true) (x ∷ xs)
+    step true t rest = (t, rest (subst (λ b. (not b || list_any (λ y. not (p y)) xs) ≡ false) t e))
+    step false t rest = absurd (true≢false (subst (λ b. (not b || list_any (λ y. not (p y)) xs) ≡ false) t e))
+
+none_left : {A : Type 0} (p : A → Bool) (xs : List A) → AllByRecursion (λ x. p x ≡ true) xs → list_any (λ x. not (p x)) xs ≡ false
+none_left p [] all = refl
+none_left p (x ∷ xs) all = ap (λ b. not b || list_any (λ x. not (p x)) xs) all.0 ∙ none_left p xs all.1
+
+any_mapped : {A B : Type 0} (p : B → Bool) (f : A → B) (xs : List A) → list_any p (map f xs) ≡ list_any (λ x. p (f x)) xs
+any_mapped p f [] = refl
+any_mapped p f (x ∷ xs) = ap (λ b. p (f x) || b) (any_mapped p f xs)
+
+-- members of one thread rise as their emails do
+members_rise : (t : ℕ) (es : List Email) → AllByRecursion (λ (e : Email). eqb e.thread t ≡ true) es → IsStrictlySortedBy by_received es → IsStrictlySortedBy member_cmp (map thread_member es)
+unfolding IsStrictlySortedBy
+members_rise t [] all rise = tt
+members_rise t (e ∷ es) all rise = (above es all.1 rise.0, members_rise t es all.1 rise.1)
+  where
+    above : (xs : List Email) → AllByRecursion (λ (x : Email). eqb x.thread t ≡ true) xs → AllByRecursion (λ x. by_received e x ≡ Less) xs → AllByRecursion (λ m. member_cmp (thread_member e) m ≡ Less) (map thread_member xs)
+    above [] own up = tt
+    above (x ∷ xs) own up = (same_order t e x all.0 own.0 ∙ up.0, above xs own.1 up.1)
+
+-- the emails of a thread have one order
+pub list-unique : (t : ℕ) (emails listed : List Email) → IsPermutation (filter (λ (e : Email). eqb e.thread t) emails) listed → IsStrictlySortedBy by_received listed
+    → map email_number listed ≡ list_of_thread emails t
+list-unique t emails listed moved rise =
+    let own : Email → Bool = λ e. eqb e.thread t in
+    let inside : List Email = filter own emails in
+    let all : AllByRecursion (λ e. own e ≡ true) listed =
+    all_left own listed (sym (list_any-IsPermutation (λ e. not (own e)) inside listed moved) ∙ none_left own inside (all_passed own emails)) in
+    let same : map thread_member listed ≡ map thread_member (in_order inside) =
+    sorted_once-is member_total member_equal (map thread_member inside) (map thread_member listed) (members_rise t listed all rise)
+    (λ k. any_mapped (λ x. is_eq (member_cmp x k)) thread_member listed
+    ∙ (sym (list_any-IsPermutation (λ e. is_eq (member_cmp (thread_member e) k)) inside listed moved) ∙ sym (any_mapped (λ x. is_eq (member_cmp x k)) thread_member inside)))
+    ∙ sym (map-sorted_once by_received member_cmp thread_member (λ e. own e ≡ true) (λ a b p q. same_order t a b p q) inside (all_passed own emails)) in
+    sym (map-map member_number thread_member listed) ∙ (ap (map member_number) same ∙ map-map member_number thread_member (in_order inside))
 
 -- ---- the members of a mailbox
 

@@ -96,6 +96,16 @@ AreThreadsTidy-after_edits (DropEmail number thread ∷ es) c of tidy = let no =
 AreThreadsTidy-after_edits (PutThread item was ∷ es) c of tidy = let no = of.0 in absurd (cc)
 AreThreadsTidy-after_edits (DropThread number ∷ es) c of tidy = let no = of.0 in absurd (cc)
 
+-- edits of mailboxes leave emails
+pub of_mailboxes_leave : (es : List Edit) → AllByRecursion IsOfMailbox es → AllByRecursion LeavesEmails es
+of_mailboxes_leave [] of = tt
+of_mailboxes_leave (PutMailbox item was counts ∷ es) of = (refl, of_mailboxes_leave es of.1)
+of_mailboxes_leave (DropMailbox number ∷ es) of = (refl, of_mailboxes_leave es of.1)
+of_mailboxes_leave (PutEmail item was ∷ es) of = let no = of.0 in absurd (cc)
+of_mailboxes_leave (DropEmail number thread ∷ es) of = let no = of.0 in absurd (cc)
+of_mailboxes_leave (PutThread item was ∷ es) of = let no = of.0 in absurd (cc)
+of_mailboxes_leave (DropThread number ∷ es) of = let no = of.0 in absurd (cc)
+
 -- with no edits after them
 pub and_none : (P : Content → Type 0) (c : Content) (es more : List Edit) → more ≡ [] → P (after_edits c es) → P (after_edits c (es ++ more))
 and_none P c es more none holds = subst (λ (all : List Edit). P (after_edits c all)) (sym (ap (λ (tail : List Edit). es ++ tail) none ∙ append-nil es)) holds

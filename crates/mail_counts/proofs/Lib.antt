@@ -7,6 +7,7 @@ pub mod Growth
 pub mod Kept
 pub mod Laid
 pub mod Listed
+pub mod Lookups
 pub mod Named
 pub mod Nothing
 pub mod Parted

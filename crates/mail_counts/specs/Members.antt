@@ -44,6 +44,10 @@ member_number m = m.number
 abbrev pub member_group : Member → ℕ
 member_group m = m.group
 
+-- the numbers of the members of a group
+abbrev pub listed_in : List Member → ℕ → List ℕ
+listed_in members group = map member_number (of_group group members)
+
 -- four lists of members in the groups that are mailboxes: all emails and the unread ones, all
 -- threads and the unread ones
 pub record Tallied : Type 0 where

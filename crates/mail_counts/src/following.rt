@@ -7,12 +7,12 @@ ghost use Rattle.mail_records.specs.Contents.{email_number, mailbox_number, thre
 ghost use Rattle.mail_records.specs.Edits.{AllFit, IsSmall, after_edits};
 ghost use Rattle.mail_records.specs.Tables.{IsTable};
 ghost use Rattle.mail_counts.specs.CountsFlag.{AreCountsFlagsRight};
-ghost use Rattle.mail_counts.specs.Derived.{LeavesEmails};
+ghost use Rattle.mail_counts.specs.Derived.{AllKeepCounts, AreCounted, IsOfMailbox, LeavesEmails};
 ghost use Rattle.mail_counts.specs.DerivedEdits.{are_equal_counts, count_after, count_edits, counts_after, derived_edits, edits_of_thread, own_counts, put_counts, same_numbers, with_counts};
 ghost use Rattle.mail_counts.specs.Members.{member_cmp, member_group, member_number, of_group, tallied_counts, thread_members};
 ghost use Rattle.mail_counts.specs.Overlaid.{all_listed, emails_among, if_of_threads, listed_at};
 ghost use Rattle.mail_counts.specs.Steps.{counted_edits, listed_edits};
-ghost use Rattle.mail_counts.specs.Tidy.{IsTidy};
+ghost use Rattle.mail_counts.specs.Tidy.{AreThreadsTidy, IsTidy};
 ghost use Rattle.mail_counts.specs.TidyBut.{LeaveTidyButThreadsAndCounts};
 ghost use Rattle.mail_counts.specs.Touched.{rising, sorted_once};
 
@@ -63,8 +63,8 @@ fn emails_among<'a>(
     Ok(emails)
 }
 
-// Returns emails as the members of their threads.
-fn thread_members(alloc: Global, emails: &[&Email]) -> Result<Vec<Member>, NoMemory>
+/// Returns emails as the members of their threads.
+pub(crate) fn thread_members(alloc: Global, emails: &[&Email]) -> Result<Vec<Member>, NoMemory>
     ensures { IfOk result (λ v. v.items ≡ thread_members (map (λ r. r.now) emails.now)) }
 {
     let mut members = Vec::new(alloc);
@@ -78,8 +78,8 @@ fn thread_members(alloc: Global, emails: &[&Email]) -> Result<Vec<Member>, NoMem
     Ok(members)
 }
 
-// Returns the numbers of members.
-fn numbers_of(alloc: Global, members: &[Member]) -> Result<Vec<u64>, NoMemory>
+/// Returns the numbers of members.
+pub(crate) fn numbers_of(alloc: Global, members: &[Member]) -> Result<Vec<u64>, NoMemory>
     ensures { IfOk result (λ v. v.items ≡ map member_number members.now) }
 {
     let mut numbers = Vec::new(alloc);
@@ -89,8 +89,8 @@ fn numbers_of(alloc: Global, members: &[Member]) -> Result<Vec<u64>, NoMemory>
     Ok(numbers)
 }
 
-// Returns whether two lists of numbers are the same.
-fn are_same_numbers(one: &[u64], other: &[u64]) -> bool
+/// Returns whether two lists of numbers are the same.
+pub(crate) fn are_same_numbers(one: &[u64], other: &[u64]) -> bool
     ensures { result ≡ same_numbers one.now other.now }
 {
     one == other
@@ -169,8 +169,8 @@ fn counts_after(own: &MailboxCounts, added: &MailboxCounts, taken: &MailboxCount
     }
 }
 
-// Returns the counts that a mailbox has.
-fn own_counts(mailbox: &Mailbox) -> MailboxCounts
+/// Returns the counts that a mailbox has.
+pub(crate) fn own_counts(mailbox: &Mailbox) -> MailboxCounts
     ensures { result ≡ own_counts mailbox.now }
 {
     MailboxCounts {
@@ -181,8 +181,8 @@ fn own_counts(mailbox: &Mailbox) -> MailboxCounts
     }
 }
 
-// Returns whether the four counts are the same.
-fn are_equal_counts(one: &MailboxCounts, other: &MailboxCounts) -> bool
+/// Returns whether the four counts are the same.
+pub(crate) fn are_equal_counts(one: &MailboxCounts, other: &MailboxCounts) -> bool
     ensures { result ≡ are_equal_counts one.now other.now }
 {
     one.total_emails == other.total_emails
@@ -341,6 +341,10 @@ fn found_edits(alloc: Global, before: &Content, edits: &[Edit]) -> Result<Vec<Ed
 ///
 /// A count is the mailbox's own with what the emails of these threads add to it and without what
 /// they took before. A thread without emails is dropped, and a new one that has none is put first.
+///
+/// After edits that leave emails, mailboxes of a tidy content still have their counts where new
+/// ones were put with counts 0 and the others with those that they had; and where all edits are of
+/// mailboxes, the threads are still those of the emails.
 pub fn derived(alloc: Global, before: &Content, edits: &[Edit]) -> Result<Edits, NoMemory>
     ensures more { IfOk result (λ more. more ≡ derived_edits before.now.content edits.now) }
     ensures tidy { IfOk result (λ more. IsTidy before.now.content
@@ -353,6 +357,14 @@ pub fn derived(alloc: Global, before: &Content, edits: &[Edit]) -> Result<Edits,
     ensures emails { IfOk result (AllByRecursion LeavesEmails) }
     ensures flags { IfOk result (AreCountsFlagsRight (after_edits before.now.content edits.now)) }
     ensures none { IfOk result (λ more. AllByRecursion LeavesEmails edits.now → more ≡ []) }
+    ensures counts { IfOk result (λ more. AllFit before.now.content edits.now
+        → AllByRecursion LeavesEmails edits.now
+        → IsTidy before.now.content
+        → AllKeepCounts before.now.content edits.now
+        → AreCounted (after_edits before.now.content (edits.now ++ more))) }
+    ensures threads { IfOk result (λ more. AllByRecursion IsOfMailbox edits.now
+        → AreThreadsTidy before.now.content
+        → AreThreadsTidy (after_edits before.now.content (edits.now ++ more))) }
 {
     let _mailboxes = before.mailboxes();
     let _emails = before.emails();

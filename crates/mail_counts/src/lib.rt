@@ -19,6 +19,7 @@ mod steps_tests;
 mod tally;
 #[cfg(test)]
 mod tests;
+mod thread_lists;
 mod touched;
 mod view;
 
@@ -32,4 +33,6 @@ pub use limits::{
 pub use mailbox_counts::MailboxCounts;
 pub use plan::{SetFault, SetPlan};
 pub use state::state_after;
+pub use tally::Tally;
+pub use thread_lists::ThreadLists;
 pub use view::{mailbox_rights, mailbox_view};

@@ -5,15 +5,16 @@ ghost use Rattle.mail_records.specs.Commits.{NumbersRise};
 ghost use Rattle.mail_records.specs.Contents.{email_number};
 ghost use Rattle.mail_records.specs.Tables.{IsTable};
 ghost use Rattle.mail_counts.specs.Counts.{email_thread, has_keyword, is_unread};
-ghost use Rattle.mail_counts.specs.DerivedEdits.{counts_over};
+ghost use Rattle.mail_counts.specs.DerivedEdits.{are_equal_counts, counts_over, own_counts};
 ghost use Rattle.mail_counts.specs.Members.{mailbox_member, mailbox_members, member_group, tallied_counts};
 ghost use Rattle.mail_counts.specs.Touched.{emails_of, is_one_of, rising};
 
 use crate::MailboxCounts;
+use crate::following::{are_equal_counts, own_counts};
 use crate::members::{Member, Members};
 use crate::touched::{is_one_of, put_in_order};
 use jm_base::{NoMemory, Text};
-use mail_records::Email;
+use mail_records::{Email, Mailbox};
 use std::alloc::Global;
 use std::marker::Model;
 
@@ -137,9 +138,9 @@ fn add_groups(numbers: &mut Vec<u64>, members: &[Member]) -> Result<(), NoMemory
     Ok(())
 }
 
-/// The counts of each mailbox over some emails.
+/// The counts of each mailbox over some emails (RFC 8621, section 2).
 #[derive(Drop)]
-pub(crate) struct Tally {
+pub struct Tally {
     total_emails: Members,
     unread_emails: Members,
     total_threads: Members,
@@ -160,8 +161,9 @@ impl Model for Tally {
 }
 
 impl Tally {
-    /// Counts emails, which are in number order.
-    pub(crate) fn new(alloc: Global, emails: &[&Email]) -> Result<Tally, NoMemory>
+    /// Counts emails, which are in number order. Its cost is that of sorting them and their
+    /// mailboxes.
+    pub fn new(alloc: Global, emails: &[&Email]) -> Result<Tally, NoMemory>
         requires table { IsTable email_number (map (λ r. r.now) emails.now) }
         ensures { IfOk result (λ t. (m : ℕ) → tallied_counts t m
             ≡ counts_over (map (λ r. r.now) emails.now) m) }
@@ -182,8 +184,8 @@ impl Tally {
         })
     }
 
-    /// Returns the counts of a mailbox.
-    pub(crate) fn counts(&self, mailbox: u64) -> MailboxCounts
+    /// Returns the counts of a mailbox: none where no email is in it.
+    pub fn counts(&self, mailbox: u64) -> MailboxCounts
         ensures { result ≡ tallied_counts self.now mailbox }
     {
         MailboxCounts {
@@ -192,6 +194,14 @@ impl Tally {
             total_threads: self.total_threads.of_group(mailbox).len() as u64,
             unread_threads: self.unread_threads.of_group(mailbox).len() as u64,
         }
+    }
+
+    /// Returns whether a mailbox's own counts are these.
+    pub fn has_counts(&self, mailbox: &Mailbox) -> bool
+        ensures { result ≡ are_equal_counts (own_counts mailbox.now)
+            (tallied_counts self.now mailbox.now.number) }
+    {
+        are_equal_counts(&own_counts(mailbox), &self.counts(mailbox.number))
     }
 
     /// Adds the numbers of the mailboxes that emails are in.

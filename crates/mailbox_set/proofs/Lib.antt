@@ -4,7 +4,6 @@ pub mod Knowing
 pub mod Naming
 pub mod Rising
 pub mod NewNumbers
-pub mod Lookups
 pub mod Following
 pub mod Rounding
 pub mod Planning

@@ -5,11 +5,12 @@ use Rattle.mail_records.specs.Edits.{AllFit, IsSmall, after_edits}
 use Rattle.mail_records.specs.declared.edits.Edit.{Edit}
 use Rattle.mail_records.proofs.Growth.{AreTables-after_edits}
 use Rattle.mail_counts.specs.CountsFlag.{AreCountsFlagsRight}
-use Rattle.mail_counts.specs.Derived.{LeavesEmails}
-use Rattle.mail_counts.specs.Tidy.{IsTidy}
+use Rattle.mail_counts.specs.Derived.{AreCounted, LeavesEmails}
+use Rattle.mail_counts.specs.Tidy.{AreThreadsTidy, IsTidy}
 use Rattle.mail_counts.specs.Touched.{touched_threads}
 use Rattle.mail_counts.proofs.Found.{table_at}
 use Rattle.mail_counts.proofs.Followed.{derived_flags, derived_leaves, derived_small}
+use Rattle.mail_counts.proofs.Kept.{AreCounted-after_edits, AreThreadsTidy-after_edits, and_none, of_mailboxes_leave}
 use Rattle.mail_counts.proofs.Nothing.{none_derived}
 use Rattle.mail_counts.proofs.TidyAgain.{made_tidy}
 use Rattle.mail_counts.proofs.following.derived.Goals as goal
@@ -56,3 +57,19 @@ returns-clause-flags c =
 
 pub returns-clause-none : goal.returns-clause-none
 returns-clause-none c = λ leave. returns-clause-more c ∙ none_derived c.args.before.now.content c.args.edits.now leave
+
+pub returns-clause-counts : goal.returns-clause-counts
+returns-clause-counts c =
+    λ fit leave tidy keep.
+    let before = c.args.before.now.content in
+    let edits = c.args.edits.now in
+    and_none AreCounted before edits _ (returns-clause-more c ∙ none_derived before edits leave)
+    (AreCounted-after_edits edits before fit leave tidy keep)
+
+pub returns-clause-threads : goal.returns-clause-threads
+returns-clause-threads c =
+    λ of tidy.
+    let before = c.args.before.now.content in
+    let edits = c.args.edits.now in
+    and_none AreThreadsTidy before edits _ (returns-clause-more c ∙ none_derived before edits (of_mailboxes_leave edits of))
+    (AreThreadsTidy-after_edits edits before of tidy)

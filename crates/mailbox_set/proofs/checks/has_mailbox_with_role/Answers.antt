@@ -4,7 +4,7 @@ use Rattle.mail_records.specs.declared.entries.Roled.{Roled}
 use Rattle.mailbox_set.specs.Views.{has_role, is_new, is_other, Follows}
 use Rattle.mailbox_set.specs.Creates.{Progress}
 use Rattle.mailbox_set.proofs.NewNumbers.{any_parts}
-use Rattle.mailbox_set.proofs.Lookups.{roles_found}
+use Rattle.mail_counts.proofs.Lookups.{roles_found}
 use Rattle.mailbox_set.proofs.checks.has_mailbox_with_role.Goals as goal
 
 pub returns-then-has_text : goal.returns-then-has_text

@@ -5,7 +5,7 @@ use Rattle.mail_records.specs.declared.entries.Named.{Named}
 use Rattle.mailbox_set.specs.Views.{is_new, is_other, Follows}
 use Rattle.mailbox_set.specs.Creates.{Progress}
 use Rattle.mailbox_set.proofs.NewNumbers.{any_parts}
-use Rattle.mailbox_set.proofs.Lookups.{siblings_found}
+use Rattle.mail_counts.proofs.Lookups.{siblings_found}
 use Rattle.mailbox_set.proofs.checks.has_sibling_named.Goals as goal
 
 pub returns-then-has_text : goal.returns-then-has_text

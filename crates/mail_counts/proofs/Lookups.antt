@@ -19,7 +19,6 @@ use Rattle.mail_records.proofs.KeyOrder.{key_total}
 use Rattle.mail_records.proofs.KeyTables.{lookup_number, nat_equal, then_first, then_second}
 use Rattle.mail_records.proofs.Unique.{key_equal}
 use Rattle.mail_counts.specs.Tidy.{is_sibling, same_parent, same_role}
-use Rattle.mailbox_set.specs.Views.{has_role}
 
 -- ---- booleans
 
@@ -216,6 +215,10 @@ siblings_found pass c parent name ns exact table =
     (λ m k e. ap (λ (x : Key). x.number) (sym (one_key (name_key m) k e))) (named_to parent name) (named_from parent name)
 
 -- ---- by role
+
+-- the mailbox has this role
+abbrev has_role : List ℕ → Mailbox → Bool
+has_role role m = same_role m.role (Some role)
 
 abbrev at_role : ℕ → List ℕ → Key
 at_role n r = record { group = None; text = r; received = pos 0; number = n; place = 0 }
