@@ -1,21 +1,22 @@
 -- What a commit more makes of an account.
-use Rattle.std.proofs.Common.{◌≡◌, ℕ, ◌+◌, List, [], ◌∷◌, ◌++◌, map, ◌≤◌, take, drop, length, refl, sym, ap, ap₂, ◌∙◌, subst, append_assoc, arith}
+use Rattle.std.proofs.Common.{◌≡◌, ◌↔◌, ℕ, Bool, IsTrue, ◌+◌, ◌-◌, ◌^◌, min, List, [], ◌∷◌, ◌++◌, map, ◌≤◌, take, drop, length, refl, sym, ap, ap₂, ◌∙◌, subst, append_assoc, arith}
 use Rattle.std.proofs.Math.Seq.{take-append_seam, drop-append_seam}
 use Rattle.std.proofs.lemmas.List.{append-nil, drop-append-le, map-append, take-append-le}
 use Rattle.mail_records.specs.Contents.{Content}
-use Rattle.mail_records.specs.Edits.{after_edits, AllFit}
-use Rattle.mail_records.specs.Histories.{History, Entry, Committed, Refused, edits_of, content_of, blobs_in, blobs_of, grown}
+use Rattle.mail_records.specs.Edits.{after_edits, AllFit, AllKeepThread}
+use Rattle.mail_records.specs.Histories.{History, Entry, Committed, Refused, IsSound, edits_of, content_of, blobs_in, blobs_of, grown}
 use Rattle.mail_records.specs.declared.edits.Edit.{Edit}
 use Rattle.mail_records.specs.declared.edits.Commit.{Commit}
-use Rattle.mail_records.proofs.Growth.{AllFit-append}
-use Rattle.mail_records.proofs.Prefixes.{IsFounded-grown_by, edits_of-grown, content_of-grown, blobs_of-grown}
+use Rattle.mail_records.specs.declared.edits.Stamp.{Stamp}
+use Rattle.mail_records.proofs.Growth.{AllFit-append, AllKeepThread-append, AllKeepThread-sound}
+use Rattle.mail_records.proofs.Prefixes.{IsFounded-grown_by, edits_of-grown, content_of-grown, blobs_of-grown, edits_of-refused, content_of-refused, blobs_of-refused}
 use Rattle.mail_records.proofs.Reached.{length_take}
-use Rattle.record_codec.specs.Sizes.{edit_bytes}
+use Rattle.record_codec.specs.Sizes.{capped, edit_bytes}
 use Rattle.record_codec.proofs.Lengths.{edit_bytes-append}
-use Rattle.state_log.proofs.Kept.{IsLogOf-committed}
+use Rattle.state_log.proofs.Kept.{IsLogOf-committed, IsLogOf-refused}
 use Rattle.state_log.specs.Logs.{Notes, note_of}
 use Rattle.blob_store.specs.Blobs.{AreBlobsFew}
-use Rattle.account_book.specs.Accounts.{Stands, history_of, entries_with, kept_entry}
+use Rattle.account_book.specs.Accounts.{IsAccountOf, history_of, entries_with, kept_entry}
 use Rattle.account_book.specs.declared.entry.Entry.{Entry as KeptEntry}
 
 -- an entry after others takes the blobs that they leave
@@ -40,11 +41,11 @@ abbrev pub noted : Notes → List Edit → ℕ → Notes
 noted log edits spare = record log { notes = log.notes ++ map note_of edits; spare = spare }
 
 -- the history with a commit more is the one that is kept so
-pub history_of-commit : (log log' : Notes) (base content : Content) (entries entries' : List KeptEntry) (blobs blobs' : List (List ℕ)) (n bytes : ℕ) (commit : Commit)
-    → Stands (history_of log base n entries blobs) content log entries blobs n bytes
+pub history_of-commit : (log log' : Notes) (base content : Content) (entries entries' : List KeptEntry) (blobs blobs' : List (List ℕ)) (n bytes : ℕ) (t : Bool) (commit : Commit)
+    → IsAccountOf (history_of log base n entries blobs) content log entries blobs n bytes t
     → log' ≡ noted log commit.edits log'.spare → entries' ≡ entries ++ kept_entry (Committed commit) ∷ [] → blobs' ≡ blobs ++ commit.blobs
     → history_of log' base n entries' blobs' ≡ grown (history_of log base n entries blobs) (Committed commit)
-history_of-commit log log' base content entries entries' blobs blobs' n bytes commit s is_log are_entries are_blobs =
+history_of-commit log log' base content entries entries' blobs blobs' n bytes t commit s is_log are_entries are_blobs =
     let hs = (history_of log base n entries blobs).entries in
     let front : List (List ℕ) = take n blobs in
     let count : n ≡ length front = s.base_blobs_are in
@@ -58,12 +59,13 @@ history_of-commit log log' base content entries entries' blobs blobs' n bytes co
     ∙ ap₂ (λ (bs : List (List ℕ)) (es : List Entry). record { floor = log.floor; floors = log.floors; base = base; base_blobs = bs; entries = es }) first more
 
 -- and all that is kept besides is of it
-pub Stands-commit : (h : History) (content content' : Content) (log log' : Notes) (entries entries' : List KeptEntry) (blobs blobs' : List (List ℕ)) (n bytes bytes' : ℕ) (commit : Commit)
-    → Stands h content log entries blobs n bytes → AllFit (content_of h) commit.edits
+pub IsAccountOf-commit : (h : History) (content content' : Content) (log log' : Notes) (entries entries' : List KeptEntry) (blobs blobs' : List (List ℕ)) (n bytes bytes' : ℕ) (t t' : Bool) (commit : Commit)
+    → IsAccountOf h content log entries blobs n bytes t → AllFit (content_of h) commit.edits
     → content' ≡ after_edits content commit.edits → log' ≡ noted log commit.edits log'.spare
-    → entries' ≡ entries ++ kept_entry (Committed commit) ∷ [] → blobs' ≡ blobs ++ commit.blobs → AreBlobsFew (blobs_of h ++ commit.blobs) → bytes' ≡ edit_bytes (edits_of h) + edit_bytes commit.edits
-    → Stands (grown h (Committed commit)) content' log' entries' blobs' n bytes'
-Stands-commit h content content' log log' entries entries' blobs blobs' n bytes bytes' commit s fit is_content is_log are_entries are_blobs few are_bytes =
+    → entries' ≡ entries ++ kept_entry (Committed commit) ∷ [] → blobs' ≡ blobs ++ commit.blobs → AreBlobsFew (blobs_of h ++ commit.blobs) → bytes' ≡ capped (edit_bytes (edits_of h) + edit_bytes commit.edits)
+    → (IsTrue t' ↔ AllKeepThread h.base (edits_of h ++ commit.edits))
+    → IsAccountOf (grown h (Committed commit)) content' log' entries' blobs' n bytes' t'
+IsAccountOf-commit h content content' log log' entries entries' blobs blobs' n bytes bytes' t t' commit s fit is_content is_log are_entries are_blobs few are_bytes keeps =
     let all = edits_of-grown h (Committed commit) in
     record {
       founded = IsFounded-grown_by h (Committed commit ∷ []) s.founded;
@@ -74,5 +76,88 @@ Stands-commit h content content' log log' entries entries' blobs blobs' n bytes 
       blobs_are = are_blobs ∙ ap (λ bs. bs ++ commit.blobs) s.blobs_are ∙ sym (blobs_of-grown h (Committed commit));
       few = subst AreBlobsFew (sym (are_blobs ∙ ap (λ bs. bs ++ commit.blobs) s.blobs_are)) few;
       base_blobs_are = s.base_blobs_are;
-      bytes_are = are_bytes ∙ sym (ap edit_bytes all ∙ edit_bytes-append (edits_of h) commit.edits);
+      bytes_are = are_bytes ∙ ap capped (sym (ap edit_bytes all ∙ edit_bytes-append (edits_of h) commit.edits));
+      threads = subst (λ (es : List Edit). IsTrue t' ↔ AllKeepThread h.base es) (sym all) keeps;
     }
+
+-- a count of bytes within the limit isn't capped
+pub capped_within : (n m : ℕ) → n ≤ 2 ^ 60 → m ≡ n → m ≡ capped n
+capped_within n m low is = omega (arith, low, is)
+
+pub capped_sum : (x y a b r : ℕ) → a ≡ capped x → b ≡ capped y → r ≡ capped (a + b) → r ≡ capped (x + y)
+capped_sum x y a b r ax by rab = omega (arith, ax, by, rab)
+
+AllKeepThread-front : (es more : List Edit) (c : Content) → AllKeepThread c (es ++ more) → AllKeepThread c es
+AllKeepThread-front [] more c keep = tt
+AllKeepThread-front (e ∷ es) more c keep = (keep.0, AllKeepThread-front es more _ keep.1)
+
+AllKeepThread-rest : (es more : List Edit) (c : Content) → AllKeepThread c (es ++ more) → AllKeepThread (after_edits c es) more
+AllKeepThread-rest [] more c keep = keep
+AllKeepThread-rest (e ∷ es) more c keep = AllKeepThread-rest es more _ keep.1
+
+-- whether threads are kept: a commit with which the history is sound changes nothing of it
+pub threads_sound : (h : History) (c : Commit) (t : Bool) → (IsTrue t ↔ AllKeepThread h.base (edits_of h)) → IsSound (grown h (Committed c)) → IsTrue t ↔ AllKeepThread h.base (edits_of h ++ c.edits)
+threads_sound h c t is sound =
+    let all : AllKeepThread h.base (edits_of h ++ c.edits) = subst (AllKeepThread h.base) (edits_of-grown h (Committed c)) (AllKeepThread-sound (grown h (Committed c)) sound) in
+    (λ _. all, λ _. is.1 (AllKeepThread-front (edits_of h) c.edits h.base all))
+
+-- and else both have to keep them
+pub threads_both : (es more : List Edit) (base c : Content) (t u r : Bool) → (IsTrue t ↔ AllKeepThread base es) → c ≡ after_edits base es → (IsTrue u ↔ AllKeepThread c more) → (IsTrue r ↔ (IsTrue t × IsTrue u)) → IsTrue r ↔ AllKeepThread base (es ++ more)
+threads_both es more base c t u r first is then both = (
+  λ yes. AllKeepThread-append es more base (first.0 (both.0 yes).0) (subst (λ k. AllKeepThread k more) is (then.0 (both.0 yes).1)),
+  λ keep. both.1 (first.1 (AllKeepThread-front es more base keep), then.1 (subst (λ k. AllKeepThread k more) (sym is) (AllKeepThread-rest es more base keep))),
+)
+
+-- ---- a refusal more
+
+entries_with-refused : (hs : List Entry) (s : Stamp) → entries_with (map kept_entry hs ++ kept_entry (Refused s) ∷ []) (blobs_in hs) ≡ hs ++ Refused s ∷ []
+entries_with-refused hs s = ap (entries_with (map kept_entry hs ++ kept_entry (Refused s) ∷ [])) (sym (append-nil (blobs_in hs))) ∙ entries_with-push hs (kept_entry (Refused s)) []
+
+pub history_of-refused : (log : Notes) (base content : Content) (entries entries' : List KeptEntry) (blobs : List (List ℕ)) (n bytes : ℕ) (t : Bool) (s : Stamp)
+    → IsAccountOf (history_of log base n entries blobs) content log entries blobs n bytes t → entries' ≡ entries ++ kept_entry (Refused s) ∷ []
+    → history_of log base n entries' blobs ≡ grown (history_of log base n entries blobs) (Refused s)
+history_of-refused log base content entries entries' blobs n bytes t s st are_entries =
+    let hs = (history_of log base n entries blobs).entries in
+    let front : List (List ℕ) = take n blobs in
+    let count : n ≡ length front = st.base_blobs_are in
+    let kept : entries' ≡ map kept_entry hs ++ kept_entry (Refused s) ∷ [] = are_entries ∙ ap (λ es. es ++ kept_entry (Refused s) ∷ []) st.entries_are in
+    let rest : drop n blobs ≡ blobs_in hs = ap (drop n) st.blobs_are ∙ (ap (λ k. drop k (front ++ blobs_in hs)) count ∙ drop-append_seam front (blobs_in hs)) in
+    ap (λ (es : List Entry). record { floor = log.floor; floors = log.floors; base = base; base_blobs = front; entries = es })
+    (ap₂ entries_with kept rest ∙ entries_with-refused hs s)
+
+pub IsAccountOf-refused : (h : History) (content : Content) (log : Notes) (entries entries' : List KeptEntry) (blobs : List (List ℕ)) (n bytes : ℕ) (t : Bool) (s : Stamp)
+    → IsAccountOf h content log entries blobs n bytes t → entries' ≡ entries ++ kept_entry (Refused s) ∷ [] → IsAccountOf (grown h (Refused s)) content log entries' blobs n bytes t
+IsAccountOf-refused h content log entries entries' blobs n bytes t s st are_entries =
+    let all = edits_of-refused h s in
+    record {
+      founded = IsFounded-grown_by h (Refused s ∷ []) st.founded;
+      fits = subst (AllFit h.base) (sym all) st.fits;
+      content_is = st.content_is ∙ sym (content_of-refused h s);
+      log_is = IsLogOf-refused h log s st.log_is;
+      entries_are = are_entries ∙ ap (λ es. es ++ kept_entry (Refused s) ∷ []) st.entries_are ∙ sym (map-append kept_entry h.entries (Refused s ∷ []));
+      blobs_are = st.blobs_are ∙ sym (blobs_of-refused h s);
+      few = st.few;
+      base_blobs_are = st.base_blobs_are;
+      bytes_are = st.bytes_are ∙ ap (λ (es : List Edit). capped (edit_bytes es)) (sym all);
+      threads = subst (λ (es : List Edit). IsTrue t ↔ AllKeepThread h.base es) (sym all) st.threads;
+    }
+
+-- ---- a commit more, by what holds of its parts
+
+pub IsAccountOf-entered : (log log' : Notes) (base content content' : Content) (entries entries' : List KeptEntry) (blobs blobs' : List (List ℕ)) (n bytes bytes' : ℕ) (t u r : Bool) (commit : Commit)
+    → IsAccountOf (history_of log base n entries blobs) content log entries blobs n bytes t
+    → AllFit content commit.edits → content' ≡ after_edits content commit.edits → (IsTrue u ↔ AllKeepThread content commit.edits)
+    → blobs' ≡ blobs ++ commit.blobs → AreBlobsFew (blobs ++ commit.blobs)
+    → log' ≡ noted log commit.edits log'.spare → entries' ≡ entries ++ kept_entry (Committed commit) ∷ []
+    → bytes' ≡ capped (bytes + capped (edit_bytes commit.edits)) → (IsTrue r ↔ (IsTrue t × IsTrue u))
+    → IsAccountOf (history_of log' base n entries' blobs') content' log' entries' blobs' n bytes' r
+IsAccountOf-entered log log' base content content' entries entries' blobs blobs' n bytes bytes' t u r commit s fit is_content keeps are_blobs few is_log are_entries are_bytes both =
+    let h = history_of log base n entries blobs in
+    let grows = history_of-commit log log' base content entries entries' blobs blobs' n bytes t commit s is_log are_entries are_blobs in
+    subst (λ k. IsAccountOf k content' log' entries' blobs' n bytes' r) (sym grows)
+    (IsAccountOf-commit h content content' log log' entries entries' blobs blobs' n bytes bytes' t r commit s
+    (subst (λ c. AllFit c commit.edits) s.content_is fit)
+    is_content is_log are_entries are_blobs
+    (subst (λ bs. AreBlobsFew (bs ++ commit.blobs)) s.blobs_are few)
+    (capped_sum (edit_bytes (edits_of h)) (edit_bytes commit.edits) bytes (capped (edit_bytes commit.edits)) bytes' s.bytes_are refl are_bytes)
+    (threads_both (edits_of h) commit.edits h.base content t u r s.threads s.content_is keeps both))

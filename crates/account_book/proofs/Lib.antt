@@ -3,3 +3,12 @@ pub mod Entering
 pub mod Answering
 pub mod Lasting
 pub mod Few
+pub mod Rows
+pub mod KeptHistories
+pub mod Starting
+pub mod Taking
+pub mod Opened
+pub mod Parts
+pub mod Ready
+pub mod Reopening
+pub mod Added

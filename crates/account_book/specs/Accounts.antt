@@ -1,11 +1,11 @@
 -- How an account keeps its history, and what holds of each account.
-use Rattle.std.specs.Prelude.{◌≡◌, ℕ, ◌≤◌, ◌+◌, ◌^◌, true, false, not, if◌then◌else◌, List, [], ◌∷◌, take, drop, filter, length, map}
+use Rattle.std.specs.Prelude.{◌≡◌, ◌↔◌, ℕ, ◌≤◌, ◌+◌, ◌^◌, Bool, IsTrue, true, false, not, if◌then◌else◌, List, [], ◌∷◌, take, drop, filter, length, map}
 use Rattle.mail_records.specs.Contents.{Content, NextAtMost}
-use Rattle.mail_records.specs.Edits.{AllFit}
+use Rattle.mail_records.specs.Edits.{AllFit, AllKeepThread}
 use Rattle.mail_records.specs.Histories.{History, Entry, Committed, Refused, IsFounded, is_refused, edits_of, content_of, blobs_of, end_of, max_position}
 use Rattle.blob_store.specs.Blobs.{AreBlobsFew}
 use Rattle.state_log.specs.Logs.{Notes, IsLogOf}
-use Rattle.record_codec.specs.Sizes.{edit_bytes}
+use Rattle.record_codec.specs.Sizes.{capped, edit_bytes}
 use Rattle.account_book.specs.declared.entry.Entry.{Entry as KeptEntry}
 
 -- the entry that is kept so, with these blobs
@@ -15,7 +15,7 @@ entry_with e blobs =
     then Refused e.stamp
     else Committed (record { blobs = blobs; edits = e.edits; stamp = e.stamp })
 
--- the entries that are kept so: each takes its blobs from the start of the list
+-- the entries that are kept so: each takes its blobs from the front of the list
 abbrev pub entries_with : List KeptEntry → List (List ℕ) → List Entry
 entries_with [] blobs = []
 entries_with (e ∷ es) blobs =
@@ -42,11 +42,11 @@ history_of log base base_blobs entries blobs = record {
   entries = entries_with entries (drop base_blobs blobs);
 }
 
--- Content, log, entries, blobs, the count of the base's blobs and the count of the bytes of edits
--- are those of the history. The history is founded, its edits fit one after the other, and its
--- blobs are within the limits.
-pub record Stands (h : History) (content : Content) (log : Notes) (entries : List KeptEntry)
-    (blobs : List (List ℕ)) (base_blobs bytes : ℕ) : Type 0 where
+-- Content, log, entries, blobs, the count of the base's blobs, the count of the bytes of edits and
+-- the flag that threads are kept are those of the history. The history is founded, its edits fit
+-- one after the other, and its blobs are within the limits.
+pub record IsAccountOf (h : History) (content : Content) (log : Notes) (entries : List KeptEntry)
+    (blobs : List (List ℕ)) (base_blobs bytes : ℕ) (keeps_threads : Bool) : Type 0 where
   pub founded : IsFounded h
   pub fits : AllFit h.base (edits_of h)
   pub content_is : content ≡ content_of h
@@ -55,7 +55,8 @@ pub record Stands (h : History) (content : Content) (log : Notes) (entries : Lis
   pub blobs_are : blobs ≡ blobs_of h
   pub few : AreBlobsFew blobs
   pub base_blobs_are : base_blobs ≡ length h.base_blobs
-  pub bytes_are : bytes ≡ edit_bytes (edits_of h)
+  pub bytes_are : bytes ≡ capped (edit_bytes (edits_of h))
+  pub threads : IsTrue keeps_threads ↔ AllKeepThread h.base (edits_of h)
 
 -- the last position, and the next number of each kind, that a call on an account may meet
 pub record IsBounded (h : History) : Type 0 where

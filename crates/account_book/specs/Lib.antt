@@ -2,6 +2,10 @@ pub mod Views
 pub mod Replies
 pub mod Plans
 pub mod Accounts
+pub mod Keeping
+pub mod Growing
+pub mod Opening
+pub mod Books
 pub mod Laws
 pub mod TestRules
 pub mod TestRulesLaws

@@ -1,11 +1,9 @@
 -- The rules by which tests perform calls: a method of a user who may write adds a mailbox that has
 -- the method's name, and is answered with its number. No rules of the product use them.
-use Rattle.std.specs.Prelude.{◌≡◌, ℕ, ◌≤◌, Bool, false, List, [], ◌∷◌, None, ⊤}
-use Rattle.std.specs.List.{AllByRecursion}
-use Rattle.mail_records.specs.Edits.{AllFit}
-use Rattle.mail_records.specs.Histories.{History, IsFounded, blobs_of, edits_of, content_of}
+use Rattle.std.specs.Prelude.{◌≡◌, ℕ, ◌≤◌, Bool, false, List, [], ◌∷◌, None}
+use Rattle.blob_store.specs.Blobs.{AreBlobsFew}
+use Rattle.mail_records.specs.Histories.{History, IsFounded, IsSound, blobs_of, edits_of, content_of}
 use Rattle.mail_records.specs.declared.records.Mailbox.{Mailbox}
-use Rattle.mail_records.specs.declared.edits.Edit.{Edit}
 use Rattle.mail_records.specs.declared.edits.Edit.TheVariants.{PutMailbox}
 use Rattle.record_codec.specs.Sizes.{edit_bytes}
 use Rattle.account_book.specs.declared.limits.TheConstants.{MAX_EDIT_BYTES}
@@ -50,16 +48,10 @@ plan_with _ _ n = idle
 abbrev pub adding_plan : History → Call → Plan
 adding_plan h call = plan_with call.ask call.read_only (content_of h).next_mailbox
 
--- the edit puts a mailbox
-abbrev pub PutsMailbox : Edit → Type 0
-PutsMailbox (PutMailbox item was counts) = ⊤
-PutsMailbox _ = ⊥
-
--- the history is founded, there are no emails and no blobs, and all edits put mailboxes, and fit
+-- the history is founded and sound, it ends without emails, and it is within the limits
 pub record IsAdded (h : History) : Type 0 where
-  pub no_emails : h.base.emails ≡ []
-  pub no_blobs : blobs_of h ≡ []
   pub founded : IsFounded h
-  pub fits : AllFit h.base (edits_of h)
-  pub puts : AllByRecursion PutsMailbox (edits_of h)
+  pub sound : IsSound h
+  pub no_emails : (content_of h).emails ≡ []
+  pub few : AreBlobsFew (blobs_of h)
   pub within : edit_bytes (edits_of h) ≤ MAX_EDIT_BYTES

@@ -1,28 +1,28 @@
 -- The rules by which tests perform calls keep what rules promise.
-use Rattle.std.proofs.Common.{◌≡◌, ◌↔◌, ℕ, ◌<◌, ◌≤◌, ◌^◌, Bool, true, false, List, [], ◌∷◌, ◌++◌, eqb, ne_eqb, is_some, None, refl, sym, ap, ap₂, ◌∙◌, subst, arith}
+use Rattle.std.proofs.Common.{◌≡◌, ◌↔◌, ℕ, ◌<◌, ◌≤◌, ◌^◌, Bool, true, false, List, [], ◌∷◌, ◌++◌, eqb, ne_eqb, is_some, None, refl, sym, ap, ◌∙◌, subst, arith}
 use Rattle.std.specs.List.{AllByRecursion}
+use Rattle.std.proofs.lemmas.List.{append-nil}
+use Rattle.blob_store.specs.Blobs.{AreBlobsFew}
 use Rattle.mail_records.specs.Tables.{lookup}
 use Rattle.mail_records.specs.Contents.{Content, AreNumbered, mailbox_number}
 use Rattle.mail_records.specs.Commits.{IsFormed}
-use Rattle.mail_records.specs.Edits.{AllFit, IsSmall, after_edit, after_edits}
+use Rattle.mail_records.specs.Edits.{AllFit, AllKeepThread, IsSmall, after_edits}
 use Rattle.mail_records.specs.FloorMoves.{moved_up}
-use Rattle.mail_records.specs.Histories.{History, Committed, IsFounded, IsSound, NamesThread, account_after, blobs_of, edits_of, end_after, content_of, grown, empty_history, max_floor}
+use Rattle.mail_records.specs.Histories.{History, Entry, Committed, IsFounded, IsSound, NamesThread, blobs_of, edits_of, end_after, content_of, grown, empty_history, max_floor}
 use Rattle.mail_records.specs.declared.records.Email.{Email}
 use Rattle.mail_records.specs.declared.edits.Edit.{Edit}
-use Rattle.mail_records.specs.declared.edits.Edit.TheVariants.{PutMailbox, DropMailbox, PutEmail, DropEmail, PutThread, DropThread}
 use Rattle.mail_records.specs.declared.edits.Stamp.{Stamp}
-use Rattle.mail_records.proofs.Growth.{AreNumbered-after_edits, AllFit-append}
-use Rattle.mail_records.proofs.Prefixes.{IsFounded-empty, IsFounded-grown_by, all_front, content_at-end_after, edits_of-grown, blobs_of-grown}
-use Rattle.mail_records.proofs.Moved.{IsFounded-moved_up, IsSound-moved_up, all_rest, blobs_of-moved_up, edits_of-moved_up}
+use Rattle.mail_records.proofs.Growth.{AreNumbered-after_edits}
+use Rattle.mail_records.proofs.Prefixes.{IsFounded-empty, IsFounded-grown_by, IsSound-committed, IsSound-empty, edits_of-grown, blobs_of-grown, content_of-grown}
+use Rattle.mail_records.proofs.Moved.{IsFounded-moved_up, IsSound-moved_up, blobs_of-moved_up, content_of-moved_up}
 use Rattle.record_codec.specs.Sizes.{edit_bytes}
 use Rattle.record_codec.proofs.Lengths.{edit_bytes-append}
 use Rattle.account_book.specs.declared.limits.TheConstants.{MAX_EDIT_BYTES}
-use Rattle.blob_store.specs.Blobs.{AreBlobsFew}
 use Rattle.account_book.specs.Accounts.{without_refusals}
 use Rattle.account_book.specs.Plans.{IsPlanFor}
 use Rattle.account_book.specs.Replies.{IsWithin, commit_of}
-use Rattle.account_book.specs.Laws.{IsFounded-without_refusals, IsFounded-with_refusals, edits_of-without_refusals, blobs_of-without_refusals, edit_bytes-moved_up}
-use Rattle.account_book.specs.TestRules.{IsAdded, PutsMailbox, adding_plan, plan_with, add}
+use Rattle.account_book.specs.Laws.{IsFounded-without_refusals, IsFounded-with_refusals, edits_of-without_refusals, blobs_of-without_refusals, content_of-without_refusals, edit_bytes-moved_up}
+use Rattle.account_book.specs.TestRules.{IsAdded, adding_plan, plan_with, add}
 use Rattle.account_book.specs.declared.asks.Ask.{Ask}
 use Rattle.account_book.specs.declared.asks.Ask.TheVariants.{Method, Upload, Blob, Fetch, Place, States}
 use Rattle.account_book.specs.declared.asks.Call.{Call}
@@ -55,7 +55,8 @@ AllFit-add c numbered name =
     ((sym (ap is_some none), λ _. refl), tt)
 
 numbered_now : (h : History) → IsAdded h → AreNumbered (content_of h)
-numbered_now h whole = AreNumbered-after_edits (edits_of h) h.base whole.fits whole.founded.numbered
+numbered_now h whole = AreNumbered-after_edits (edits_of h) h.base whole.sound.fits
+    whole.founded.numbered
 
 pub adding_fits : (h : History) (call : Call) → IsAdded h
     → AllFit (content_of h) (adding_plan h call).edits
@@ -74,8 +75,8 @@ adding_formed h call stamp = by_plan (λ p. IsFormed (commit_of p stamp)) call.a
 pub adding_reads : (h : History) (call : Call) → IsPlanFor call.ask (adding_plan h call)
 adding_reads h call = each call.ask call.read_only
   where
-    each : (ask : Ask) (reads : Bool) → IsPlanFor ask
-        (plan_with ask reads (content_of h).next_mailbox)
+    each : (ask : Ask) (reads : Bool) → IsPlanFor ask (plan_with ask reads
+        (content_of h).next_mailbox)
     each (Method c) reads = tt
     each (Upload bytes) reads = refl
     each (Blob name) reads = (refl, refl)
@@ -83,14 +84,15 @@ adding_reads h call = each call.ask call.read_only
     each (Place c carried) reads = tt
     each States reads = (refl, refl)
 
-All-append : {A : Type 0} (P : A → Type 0) (xs ys : List A) → AllByRecursion P xs
-    → AllByRecursion P ys → AllByRecursion P (xs ++ ys)
-All-append P [] ys a b = b
-All-append P (x ∷ xs) ys a b = (a.0, All-append P xs ys a.1 b)
-
-adding_puts : (h : History) (call : Call) → AllByRecursion PutsMailbox (adding_plan h call).edits
-adding_puts h call = by_plan (λ p. AllByRecursion PutsMailbox p.edits) call.ask call.read_only
+adding_threads : (h : History) (call : Call) → AllKeepThread (content_of h)
+    (adding_plan h call).edits
+adding_threads h call = by_plan (λ p. AllKeepThread (content_of h) p.edits) call.ask call.read_only
     (content_of h).next_mailbox (λ name. (tt, tt)) tt
+
+adding_emails : (h : History) (call : Call) → (after_edits (content_of h)
+    (adding_plan h call).edits).emails ≡ (content_of h).emails
+adding_emails h call = by_plan (λ p. (after_edits (content_of h) p.edits).emails
+    ≡ (content_of h).emails) call.ask call.read_only (content_of h).next_mailbox (λ name. refl) refl
 
 adding_blobs : (h : History) (call : Call) → (adding_plan h call).blobs ≡ []
 adding_blobs h call = by_plan (λ p. p.blobs ≡ []) call.ask call.read_only
@@ -101,103 +103,75 @@ pub adding_keeps : (h : History) (call : Call) (stamp : Stamp) → IsAdded h
     → IsAdded (grown h (Committed (commit_of (adding_plan h call) stamp)))
 adding_keeps h call stamp whole within =
     let p = adding_plan h call in
-    let all = edits_of-grown h (Committed (commit_of p stamp)) in
+    let e : Entry = Committed (commit_of p stamp) in
+    let all = edits_of-grown h e in
     record {
-      no_emails = whole.no_emails;
-      no_blobs = blobs_of-grown h (Committed (commit_of p stamp)) ∙ ap₂ (λ xs ys. xs ++ ys)
-          whole.no_blobs (adding_blobs h call);
-      founded = IsFounded-grown_by h (Committed (commit_of p stamp) ∷ []) whole.founded;
-      fits = subst (AllFit h.base) (sym all) (AllFit-append (edits_of h) p.edits h.base whole.fits
-          (adding_fits h call whole));
-      puts = subst (AllByRecursion PutsMailbox) (sym all)
-          (All-append PutsMailbox (edits_of h) p.edits whole.puts (adding_puts h call));
-      within = subst (λ n. n ≤ MAX_EDIT_BYTES)
-          (sym (ap edit_bytes all ∙ edit_bytes-append (edits_of h) p.edits)) within;
+      founded = IsFounded-grown_by h (e ∷ []) whole.founded;
+      sound = IsSound-committed h (commit_of p stamp) whole.founded whole.sound
+          (adding_fits h call whole) (adding_threads h call);
+      no_emails = ap (λ (c : Content). c.emails) (content_of-grown h e) ∙
+          (adding_emails h call ∙ whole.no_emails);
+      few = subst AreBlobsFew (sym (blobs_of-grown h e ∙ (ap (λ bs. blobs_of h ++ bs)
+          (adding_blobs h call) ∙ append-nil (blobs_of h)))) whole.few;
+      within = subst (λ n. n ≤ MAX_EDIT_BYTES) (sym (ap edit_bytes all ∙ edit_bytes-append
+          (edits_of h) p.edits)) within;
     }
 
-pub adding_few : (h : History) → IsAdded h → AreBlobsFew (blobs_of h)
-adding_few h whole =
-    subst AreBlobsFew (sym whole.no_blobs) (record { count = omega arith; bytes = omega arith })
-
-names_none : (es : List Edit) → AllByRecursion PutsMailbox es
-    → AllByRecursion (NamesThread (λ _. 0)) es
-names_none [] all = tt
-names_none (PutMailbox item was counts ∷ es) all = (tt, names_none es all.1)
-names_none (DropMailbox number ∷ es) all = absurd all.0
-names_none (PutEmail item was ∷ es) all = absurd all.0
-names_none (DropEmail number thread ∷ es) all = absurd all.0
-names_none (PutThread item was ∷ es) all = absurd all.0
-names_none (DropThread number ∷ es) all = absurd all.0
-
-pub adding_sound : (h : History) → IsAdded h → IsSound h
-adding_sound h whole = record {
-  fits = whole.fits;
-  one_thread = (
-    (λ _. 0),
+sound_with : (h k : History) → k.base ≡ h.base → edits_of k ≡ edits_of h → IsSound h → IsSound k
+sound_with h k base edits sound =
+    let one = sound.one_thread in
     record {
-      in_base = subst (AllByRecursion (λ (x : Email). 0 ≡ x.thread)) (sym whole.no_emails) tt;
-      in_edits = names_none (edits_of h) whole.puts;
-    },
-  );
-}
+      fits = subst (λ c. AllFit c (edits_of k)) (sym base) (subst (AllFit h.base)
+          (sym edits) sound.fits);
+      one_thread = (
+        one.0,
+        record {
+          in_base = subst (λ (c : Content). AllByRecursion (λ (x : Email). one.0 x.number
+              ≡ x.thread) c.emails) (sym base) one.1.in_base;
+          in_edits = subst (λ (es : List Edit). AllByRecursion (NamesThread one.0) es)
+              (sym edits) one.1.in_edits;
+        },
+      );
+    }
 
 with_edits : (h k : History) → IsFounded k → k.base ≡ h.base → edits_of k ≡ edits_of h → blobs_of k
-    ≡ blobs_of h → IsAdded h → IsAdded k
-with_edits h k founded base edits blobs whole = record {
-  no_emails = ap (λ (c : Content). c.emails) base ∙ whole.no_emails;
-  no_blobs = blobs ∙ whole.no_blobs;
+    ≡ blobs_of h → content_of k ≡ content_of h → IsAdded h → IsAdded k
+with_edits h k founded base edits blobs content whole = record {
   founded = founded;
-  fits =
-      subst (λ c. AllFit c (edits_of k)) (sym base) (subst (AllFit h.base) (sym edits) whole.fits);
-  puts = subst (AllByRecursion PutsMailbox) (sym edits) whole.puts;
+  sound = sound_with h k base edits whole.sound;
+  no_emails = ap (λ (c : Content). c.emails) content ∙ whole.no_emails;
+  few = subst AreBlobsFew (sym blobs) whole.few;
   within = subst (λ es. edit_bytes es ≤ MAX_EDIT_BYTES) (sym edits) whole.within;
 }
 
 pub adding_ignores : (h : History) → IsAdded (without_refusals h) ↔ IsAdded h
 adding_ignores h = (
-  λ whole. with_edits (without_refusals h) h (IsFounded-with_refusals h whole.founded) refl
-      (sym (edits_of-without_refusals h)) (sym (blobs_of-without_refusals h)) whole,
+  λ whole. with_edits (without_refusals h) h (IsFounded-with_refusals h whole.founded) refl (sym
+      (edits_of-without_refusals h)) (sym (blobs_of-without_refusals h)) (sym
+      (content_of-without_refusals h)) whole,
   λ whole. with_edits h (without_refusals h) (IsFounded-without_refusals h whole.founded) refl
-      (edits_of-without_refusals h) (blobs_of-without_refusals h) whole,
+      (edits_of-without_refusals h) (blobs_of-without_refusals h)
+      (content_of-without_refusals h) whole,
 )
-
--- edits that put mailboxes leave the emails
-emails_stay : (es : List Edit) (c : Content) → AllByRecursion PutsMailbox es
-    → (after_edits c es).emails ≡ c.emails
-emails_stay [] c all = refl
-emails_stay (PutMailbox item was counts ∷ es) c all =
-    emails_stay es (after_edit c (PutMailbox item was counts)) all.1
-emails_stay (DropMailbox number ∷ es) c all = absurd all.0
-emails_stay (PutEmail item was ∷ es) c all = absurd all.0
-emails_stay (DropEmail number thread ∷ es) c all = absurd all.0
-emails_stay (PutThread item was ∷ es) c all = absurd all.0
-emails_stay (DropThread number ∷ es) c all = absurd all.0
 
 pub adding_moves : (h : History) (c : ℕ) → end_after h c ≤ max_floor → IsAdded h
     → IsAdded (moved_up h c)
 adding_moves h c low whole =
-    let first = edits_of (account_after h c) in
-    let rest = edits_of (moved_up h c) in
-    let puts = subst (AllByRecursion PutsMailbox) (edits_of-moved_up h c) whole.puts in
-    let sound = adding_sound h whole in
     let bytes = edit_bytes-moved_up h c in
     let within = whole.within in
     record {
-      no_emails = ap (λ (b : Content). b.emails) (content_at-end_after h c) ∙
-          (emails_stay first h.base (all_front PutsMailbox first rest puts) ∙ whole.no_emails);
-      no_blobs = blobs_of-moved_up h c ∙ whole.no_blobs;
-      founded = IsFounded-moved_up h c low whole.founded sound;
-      fits = (IsSound-moved_up h c sound).fits;
-      puts = all_rest PutsMailbox first rest puts;
+      founded = IsFounded-moved_up h c low whole.founded whole.sound;
+      sound = IsSound-moved_up h c whole.sound;
+      no_emails = ap (λ (k : Content). k.emails) (content_of-moved_up h c) ∙ whole.no_emails;
+      few = subst AreBlobsFew (sym (blobs_of-moved_up h c)) whole.few;
       within = omega (arith, bytes, within);
     }
 
 pub adding_empty : IsAdded empty_history
 adding_empty = record {
-  no_emails = refl;
-  no_blobs = refl;
   founded = IsFounded-empty;
-  fits = tt;
-  puts = tt;
+  sound = IsSound-empty;
+  no_emails = refl;
+  few = record { count = omega arith; bytes = omega arith };
   within = omega arith;
 }

@@ -1,4 +1,4 @@
--- What contracts see of an account and of a book.
+-- What contracts see of an account.
 use Rattle.std.specs.Prelude.{ℕ}
 use Rattle.mail_records.specs.Histories.{History}
 
@@ -8,8 +8,3 @@ pub record Ledger : Type 0 where
   pub spare : ℕ
   pub entry_spare : ℕ
   pub blob_spare : ℕ
-
--- a book: its rules, and its account's history
-pub record Parts (R : Type 0) : Type 0 where
-  pub rules : R
-  pub history : History

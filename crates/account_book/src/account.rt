@@ -1,20 +1,23 @@
 // An account: what it began with, its entries, and what they make of it.
-ghost use Rattle.std.specs.Prelude.{◌≡◌, ◌+◌, ◌≤◌, ◌++◌, OnOk, MatchOption, length, map, ⊤};
+ghost use Rattle.std.specs.Prelude.{◌≡◌, ◌↔◌, ◌+◌, ◌-◌, ◌^◌, ◌≤◌, ◌++◌, IfOk, IsTrue, OnOk, MatchOption, length, map, ⊤};
 ghost use Rattle.std.specs.List.{AllByRecursion};
-ghost use Rattle.mail_records.specs.Contents.{AreNumbered, AreTables};
+ghost use Rattle.mail_records.specs.Contents.{AreNumbered, AreTables, NextAtMost};
 ghost use Rattle.mail_records.specs.Edits.{AllFit, IsSmall};
-ghost use Rattle.mail_records.specs.Histories.{Committed, blobs_of, content_of, edits_of, empty_history, grown};
+ghost use Rattle.mail_records.specs.Histories.{Committed, IsFounded, IsSound, Refused, blobs_of, content_of, edits_of, empty_history, end_of, grown};
 ghost use Rattle.blob_store.specs.Blobs.{AreBlobsFew};
 ghost use Rattle.state_log.specs.Logs.{IsLogOf};
 ghost use Rattle.record_codec.specs.Sizes.{edit_bytes};
-ghost use Rattle.account_book.specs.Accounts.{IsBounded, kept_entry};
+ghost use Rattle.account_book.specs.Accounts.{IsBounded, IsAccountOf, history_of, kept_entry};
+ghost use Rattle.account_book.specs.Opening.{IsTaken};
 ghost use Rattle.account_book.specs.Replies.{IsWithin};
 
 use crate::blobs::push_all_ready;
+use crate::growing::{Grown, Noted, grow, note_more};
+use crate::loading::Loading;
 use crate::{Entry, MAX_EDIT_BYTES};
 use blob_store::BlobList;
 use jm_base::{Bytes, NoMemory};
-use mail_records::{Commit, Content, Edit, Edits, apply_all_ready};
+use mail_records::{Commit, Content, Edit, Edits, Stamp, apply_all_ready};
 use record_codec::edit_bytes;
 use state_log::{Log, note_all_ready};
 use std::alloc::Global;
@@ -32,13 +35,15 @@ pub struct Account {
     blobs: BlobList,
     // How many of the blobs are the base's.
     base_blobs: u64,
-    // How many bytes the encoded edits of all entries take.
+    // How many bytes the encoded edits of all entries take. A sum stops at 2^64 - 1.
     edit_bytes: u64,
+    // Whether each edit keeps the thread of its email.
+    keeps_threads: bool,
 }
 
 impl Model for Account {
     ghost use Rattle.std.specs.Prelude.{min, ◌-◌, vec_len, vec_capacity};
-    ghost use Rattle.account_book.specs.Accounts.{Stands, history_of};
+    ghost use Rattle.account_book.specs.Accounts.{IsAccountOf, history_of};
     ghost use Rattle.account_book.specs.Views.{Ledger};
 
     ghost Value = { Ledger };
@@ -50,9 +55,10 @@ impl Model for Account {
       blob_spare = a.blobs.spare;
     } };
 
-    ghost invariant = { λ a. Stands (history_of a.log a.base.content a.base_blobs a.entries.items
-        a.blobs.blobs)
-        a.content.content a.log a.entries.items a.blobs.blobs a.base_blobs a.edit_bytes };
+    ghost invariant = { λ a. IsAccountOf (history_of a.log a.base.content a.base_blobs
+        a.entries.items a.blobs.blobs)
+        a.content.content a.log a.entries.items a.blobs.blobs a.base_blobs a.edit_bytes
+        a.keeps_threads };
 }
 
 impl Account {
@@ -68,6 +74,7 @@ impl Account {
             blobs: BlobList::new(alloc),
             base_blobs: 0,
             edit_bytes: 0,
+            keeps_threads: true,
         }
     }
 
@@ -119,9 +126,33 @@ impl Account {
 
     /// How many entries there are.
     pub fn count(&self) -> u64
-        ensures { result ≡ length self.now.history.entries }
+        ensures count { result ≡ length self.now.history.entries }
+        ensures fits { length self.now.history.entries ≤ 2 ^ 64 - 1 }
     {
         self.entries.len() as u64
+    }
+
+    /// Returns whether its history is sound. Whatever its history is: it is founded, its edits fit
+    /// one after the other, and each next number is at most the last position plus 1.
+    pub fn is_sound(&self) -> bool
+        ensures sound { IsTrue result ↔ IsSound self.now.history }
+        ensures founded { IsFounded self.now.history }
+        ensures fits { AllFit self.now.history.base (edits_of self.now.history) }
+        ensures next { NextAtMost (end_of self.now.history + 1) (content_of self.now.history) }
+    {
+        self.keeps_threads
+    }
+
+    /// Returns whether its edits take no more bytes than an account may have. Its last position and
+    /// next numbers are then in bounds.
+    pub fn is_within_limit(&self) -> bool
+        ensures within { IsTrue result ↔ (edit_bytes (edits_of self.now.history) ≤ MAX_EDIT_BYTES) }
+        ensures bounded { IsTrue result → IsBounded self.now.history }
+    {
+        if self.edit_bytes > MAX_EDIT_BYTES {
+            return false;
+        }
+        true
     }
 
     // It does nothing: its clause says that where the edits are within the limit, the last position
@@ -170,6 +201,7 @@ impl Account {
         requires entry_spare { 1 ≤ self.old.entry_spare }
         requires blob_spare { length commit.blobs ≤ self.old.blob_spare }
         requires few { AreBlobsFew (blobs_of self.old.history ++ commit.blobs) }
+        requires sound { IsSound (grown self.old.history (Committed commit)) }
         requires copy { copy ≡ commit.edits }
         requires fits { AllFit (content_of self.old.history) commit.edits }
         requires small { AllByRecursion IsSmall commit.edits }
@@ -195,4 +227,106 @@ impl Account {
             refused: false,
         });
     }
+
+    // Enters the mark of a change that was refused, for which memory is reserved. It takes no
+    // memory.
+    pub(crate) fn refuse_ready(&mut self, alloc: Global, stamp: Stamp)
+        requires entry_spare { 1 ≤ self.old.entry_spare }
+        ensures { self.new.history ≡ grown self.old.history (Refused stamp) }
+    {
+        self.entries.push_reserved(Entry {
+            stamp,
+            edits: Edits::new(alloc),
+            blobs: 0,
+            refused: true,
+        });
+    }
+
+    // Returns the account with a commit more, or its content alone where its blobs are then past
+    // the limits, or None where the commit's edits don't fit.
+    pub(crate) fn with_commit(
+        self,
+        alloc: Global,
+        commit: Commit,
+    ) -> Result<Option<Loading>, NoMemory>
+        ensures { IfOk result (IsTaken self.history commit) }
+    {
+        let Account {
+            base,
+            content,
+            log,
+            entries,
+            blobs,
+            base_blobs,
+            edit_bytes: bytes,
+            keeps_threads,
+        } = self;
+        let Commit {
+            blobs: more,
+            edits,
+            stamp,
+        } = commit;
+        let end = log.end();
+        let count = more.len() as u64;
+        let grown = grow(alloc, content, end, edits.as_slice(), blobs, more)?;
+        match grown {
+            Grown::Misfit => Ok(None),
+            Grown::Overfull(content) => Ok(Some(Loading::Overfull(content))),
+            Grown::Fitting(applied, blobs) => {
+                let entry = Entry {
+                    stamp,
+                    edits,
+                    blobs: count,
+                    refused: false,
+                };
+                let before = Noted {
+                    log,
+                    entries,
+                    bytes,
+                };
+                let noted = note_more(before, entry)?;
+                let threads = are_both(keeps_threads, applied.keeps_threads);
+                let account = held(base, applied.content, noted, blobs, base_blobs, threads);
+                Ok(Some(Loading::Fitting(account)))
+            }
+        }
+    }
+}
+
+// The account of what it holds.
+fn held(
+    base: Content,
+    content: Content,
+    noted: Noted,
+    blobs: BlobList,
+    base_blobs: u64,
+    keeps_threads: bool,
+) -> Account
+    requires { IsAccountOf (history_of noted.log base.content base_blobs noted.entries.items
+        blobs.blobs) content.content noted.log noted.entries.items blobs.blobs base_blobs
+        noted.bytes keeps_threads }
+    ensures { result.history ≡ history_of noted.log base.content base_blobs noted.entries.items
+        blobs.blobs }
+{
+    let Noted {
+        log,
+        entries,
+        bytes,
+    } = noted;
+    Account {
+        base,
+        content,
+        log,
+        entries,
+        blobs,
+        base_blobs,
+        edit_bytes: bytes,
+        keeps_threads,
+    }
+}
+
+fn are_both(one: bool, other: bool) -> bool
+    ensures { IsTrue result ↔ (IsTrue one × IsTrue other) }
+{
+    one && other
 }

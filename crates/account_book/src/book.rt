@@ -1,50 +1,164 @@
-// The book of an account: its rules and its history.
-ghost use Rattle.std.specs.Prelude.{◌≡◌, ◌≤◌, ◌+◌, ◌∷◌, ◌++◌, [], ℕ, IfOk, OnOk, OnErr, length};
+// The book of an account: its rules, its keeper and its history.
+ghost use Rattle.std.specs.Prelude.{◌≡◌, ◌≤◌, ◌+◌, ◌++◌, ◌⊎◌, if◌then◌else◌, [], ℕ, Some, IfOk, IfErr, OnErr, drop, length};
 ghost use Rattle.std.specs.List.{AllByRecursion};
+ghost use Rattle.blob_store.specs.Blobs.{AreBlobsFew};
+ghost use Rattle.jm_edge.specs.Causes.{Rose};
+ghost use Rattle.keep_port.specs.declared.kept.Kept.{Kept as TheKept};
+ghost use Rattle.mail_records.specs.Commits.{IsFormed};
 ghost use Rattle.mail_records.specs.Edits.{AllFit, IsSmall};
-ghost use Rattle.mail_records.specs.Histories.{Committed, account_after, blobs_of, content_of, edits_of, empty_history, grown};
+ghost use Rattle.mail_records.specs.Histories.{Committed, History, IsSound, Refused, account_after, blobs_of, content_of, edits_of, grown, grown_by};
 ghost use Rattle.mail_records.specs.declared.edits.Stamp.{Stamp as TheStamp};
 ghost use Rattle.record_codec.specs.Sizes.{edit_bytes};
-ghost use Rattle.blob_store.specs.Blobs.{AreBlobsFew};
 ghost use Rattle.account_book.specs.Accounts.{IsBounded};
+ghost use Rattle.account_book.specs.Books.{IsEntered, IsFaultCounted, refusals_in};
+ghost use Rattle.account_book.specs.Keeping.{IsKept, IsReady, no_base_encoding};
+ghost use Rattle.account_book.specs.Opening.{IsAsBefore, IsContentFault, IsOpened, IsStartFault, MakesHistory};
 ghost use Rattle.account_book.specs.Plans.{last_moment};
 ghost use Rattle.account_book.specs.Replies.{IsReply, IsWithin, NoneRefused, commit_of};
 
+use crate::commits::keep_commit;
 use crate::plans::refusal;
-use crate::{Account, Call, Done, Plan, Rules};
+use crate::start::load_content;
+use crate::{Account, Call, Done, Out, Plan, Rules, StartFault};
 use jm_base::NoMemory;
-use mail_records::{Commit, Stamp, copy_edits};
+use jm_edge::EdgeFault;
+use keep_port::{Keeper, Kept};
+use mail_records::{Commit, Stamp};
 use std::alloc::Global;
 use std::marker::Model;
 
-/// The book of an account, which performs its calls by rules. Contracts see the rules and the
-/// account's history. The account is always valid by the rules.
+/// The book of an account, which performs its calls by rules and keeps what they change. Contracts
+/// see the rules, the keeper, the account's history, and of it what the book was opened with and
+/// the entries since.
+///
+/// The account is always valid by the rules. If the keeper knows its content, whatever a crash
+/// leaves of it holds every commit of the account, complete and in order, and at most one commit
+/// more, with which the account is valid too ([`Book::keeps`]).
 #[derive(Drop)]
-pub struct Book<R: Rules> {
+pub struct Book<K: Keeper, R: Rules> {
     rules: R,
+    keeper: K,
     account: Account,
+    // How many entries the account had when the book was opened.
+    before: u64,
 }
 
-impl<R: Rules> Model for Book<R> {
-    ghost use Rattle.account_book.specs.Views.{Parts};
+impl<K: Keeper, R: Rules> Model for Book<K, R> {
+    ghost use Rattle.std.specs.Prelude.{drop};
+    ghost use Rattle.mail_records.specs.Histories.{account_after};
+    ghost use Rattle.account_book.specs.Books.{BookView, IsBook};
 
-    ghost Value = { Parts R };
+    ghost Value = { BookView K R };
 
-    ghost view = { λ b. record { rules = b.rules; history = b.account.history } };
+    ghost view = { λ b. record {
+      rules = b.rules;
+      keeper = b.keeper;
+      history = b.account.history;
+      opened = account_after b.account.history b.before;
+      before = b.before;
+      since = drop b.before b.account.history.entries;
+    } };
 
-    ghost invariant = { λ b. R.is_whole b.rules b.account.history };
+    ghost invariant = { λ b. IsBook (R.is_whole b.rules) (K.kept b.keeper) (K.image b.keeper)
+        (K.append_faults b.keeper) b.before b.account.history };
 }
 
-impl<R: Rules> Book<R> {
-    /// Returns a book of an account in which nothing has been yet.
-    pub fn begin(alloc: Global, rules: R) -> Result<Book<R>, NoMemory>
+// The answer to a change, by whether it was kept.
+fn answer_of(kept: bool, out: Out, refused: Out) -> Out
+    ensures { result ≡ (if kept then out else refused) }
+{
+    if kept { out } else { refused }
+}
+
+impl<K: Keeper, R: Rules> Book<K, R> {
+    /// Opens an account over its keeper, which is loaded once. Requires that a crash would leave
+    /// nothing but what the keeper's content is, or that with one commit more (`ready`).
+    ///
+    /// Fails with `KeeperFault` only if the keeper's count of faults of `load` rose, and with
+    /// `Damaged` if and only if what was loaded is no valid account: the row is the first one,
+    /// counted from 0, that is no commit or doesn't fit; if there is none, the last row. Fails with
+    /// `NoMemory` if memory runs out. The keeper comes back with what it keeps.
+    pub fn start(alloc: Global, mut keeper: K, rules: R) -> Result<Book<K, R>, (StartFault, K)>
+        requires ready { IsReady no_base_encoding (R.is_whole rules) (K.kept keeper)
+            (K.image keeper) }
         ensures rules { IfOk result (λ b. b.rules ≡ rules) }
-        ensures history { IfOk result (λ b. b.history ≡ empty_history) }
+        ensures opened { IfOk result (λ b. IsOpened (K.kept keeper) (K.kept b.keeper) b.history) }
+        ensures all { IfOk result (λ b. b.opened ≡ b.history) }
+        ensures since { IfOk result (λ b. b.since ≡ []) }
+        ensures appends { IfOk result (λ b. K.append_faults b.keeper ≡ K.append_faults keeper) }
+        ensures cause { IfErr result (λ e. IsStartFault (R.is_whole rules) (K.kept keeper)
+            (K.kept e.1) (K.load_faults keeper) (K.load_faults e.1) e.0) }
+        ensures same { IfErr result (λ e. IsAsBefore (K.kept keeper) (K.kept e.1)) }
+        ensures image { IfErr result (λ e. (k : TheKept) → K.image e.1 k → K.image keeper k
+            ⊎ (K.kept e.1 ≡ Some k)) }
+        ensures counts { IfErr result (λ e. (K.append_faults e.1 ≡ K.append_faults keeper)
+            × (K.replace_faults e.1 ≡ K.replace_faults keeper)) }
     {
-        Ok(Book {
-            rules,
-            account: Account::new(alloc),
-        })
+        match keeper.load(alloc) {
+            Ok(content) => Book::over(alloc, keeper, rules, content),
+            Err(EdgeFault::Failed) => Err((StartFault::KeeperFault, keeper)),
+            Err(EdgeFault::NoMemory) => Err((StartFault::NoMemory, keeper)),
+        }
+    }
+
+    // Opens an account over a keeper whose content was loaded.
+    fn over(
+        alloc: Global,
+        keeper: K,
+        rules: R,
+        content: Kept,
+    ) -> Result<Book<K, R>, (StartFault, K)>
+        requires kept { (h : History) → R.is_whole rules h → MakesHistory content h
+            → IsKept no_base_encoding (R.is_whole rules) (K.kept keeper) (K.image keeper) h }
+        ensures rules { IfOk result (λ b. b.rules ≡ rules) }
+        ensures keeper { IfOk result (λ b. b.keeper ≡ keeper) }
+        ensures makes { IfOk result (λ b. MakesHistory content b.history) }
+        ensures all { IfOk result (λ b. b.opened ≡ b.history) }
+        ensures since { IfOk result (λ b. b.since ≡ []) }
+        ensures fault { IfErr result (λ e. IsContentFault (R.is_whole rules) content e.0) }
+        ensures same { IfErr result (λ e. e.1 ≡ keeper) }
+    {
+        match load_content(alloc, &rules, content) {
+            Ok(account) => {
+                let before = account.count();
+                let book = Book {
+                    rules,
+                    keeper,
+                    account,
+                    before,
+                };
+                Ok(book)
+            }
+            Err(fault) => Err((fault, keeper)),
+        }
+    }
+
+    /// Closes the book, and returns its keeper, which keeps the account's history. The refusals
+    /// since the book was opened are at most the faults of its `append`. If the keeper knows its
+    /// content, a book can be opened over it again.
+    pub fn end(self) -> K
+        ensures keeper { result ≡ self.keeper }
+        ensures valid { R.is_whole self.rules self.history }
+        ensures kept { IsKept no_base_encoding (R.is_whole self.rules) (K.kept result)
+            (K.image result) self.history }
+        ensures ready { (k : TheKept) → K.kept result ≡ Some k
+            → IsReady no_base_encoding (R.is_whole self.rules) (K.kept result) (K.image result) }
+        ensures refusals { refusals_in self.since ≤ K.append_faults result }
+    {
+        let Book { keeper, .. } = self;
+        keeper
+    }
+
+    /// Does nothing. Its clauses say what holds of each book.
+    pub fn keeps(&self)
+        ensures valid { R.is_whole self.now.rules self.now.history }
+        ensures kept { IsKept no_base_encoding (R.is_whole self.now.rules) (K.kept self.now.keeper)
+            (K.image self.now.keeper) self.now.history }
+        ensures parts { self.now.history ≡ grown_by self.now.opened self.now.since }
+        ensures before { self.now.before ≡ length self.now.opened.entries }
+        ensures refusals { refusals_in self.now.since ≤ K.append_faults self.now.keeper }
+    {
+        let _keeper = &self.keeper;
     }
 
     /// Lends the account, which is valid.
@@ -59,9 +173,13 @@ impl<R: Rules> Book<R> {
 
     /// Performs a call at a timestamp, in seconds since the beginning of 1970. The call is answered
     /// as its plan says, or, if the plan's edits would pass the limit of 64 MiB, with
-    /// `serverUnavailable`. The history grows by the plan's commit under the stamp, if the plan
-    /// changes something and is within the limit, and by nothing else: a book in memory keeps every
-    /// commit, so none is refused. If an allocation fails, the history stays as it was.
+    /// `serverUnavailable`. A plan that changes something and is within the limit is kept first, as
+    /// a commit under the stamp, and then entered. If the keeper refuses it, the call is answered
+    /// with `serverFail`, or an upload with `Failed`: the mark of a refusal is then entered under
+    /// the stamp, and content and states are as before. The history grows by nothing else. If
+    /// memory runs out, the history stays as it was; what was to be kept may then still be there
+    /// after a crash, as one commit more.
+    #[tactic(auto, using(crate::proofs::Parts::since_idle, crate::proofs::Parts::cause_idle))]
     pub fn perform(
         &mut self,
         alloc: Global,
@@ -71,20 +189,25 @@ impl<R: Rules> Book<R> {
     ) -> Result<Done, NoMemory>
         requires moment { moment ≤ last_moment }
         ensures rules { self.new.rules ≡ self.old.rules }
+        ensures opened { self.new.opened ≡ self.old.opened }
         ensures reply { IfOk result (λ done. (account : ℕ)
             → IsReply (R.plan_of self.old.rules) edit_bytes self.new.history
             (record {
               account = account;
               before = done.before;
               after = done.after;
-              moment =
-                  moment;
+              moment = moment;
             }) call.now stamp done.out) }
         ensures before { IfOk result (λ done. done.before ≡ length self.old.history.entries) }
         ensures after { IfOk result (λ done. done.after ≡ length self.new.history.entries) }
         ensures begins { IfOk result (λ done. account_after self.new.history done.before
             ≡ self.old.history) }
-        ensures kept { IfOk result (λ _. NoneRefused self.old.history self.new.history) }
+        ensures since { self.new.since ≡ self.old.since ++ drop
+            (length self.old.history.entries) self.new.history.entries }
+        ensures kept { IfOk result (λ _. NoneRefused self.old.history self.new.history
+            ⊎ Rose (K.append_faults self.old.keeper) (K.append_faults self.new.keeper)) }
+        ensures cause { self.new.history ≡ grown self.old.history (Refused stamp)
+            → Rose (K.append_faults self.old.keeper) (K.append_faults self.new.keeper) }
         ensures no_memory { OnErr result (self.new.history ≡ self.old.history) }
     {
         let before = self.account.count();
@@ -103,18 +226,17 @@ impl<R: Rules> Book<R> {
                 after: before,
             });
         };
+        // Once the keeper was asked, there may be no memory for this answer.
+        let refused = refusal(alloc, "serverFail", &call.ask)?;
         let Plan { out, blobs, edits } = plan;
-        self.enter(
-            alloc,
-            Commit {
-                blobs,
-                edits,
-                stamp,
-            },
-            bytes,
-        )?;
+        let commit = Commit {
+            blobs,
+            edits,
+            stamp,
+        };
+        let kept = self.enter(alloc, commit, bytes)?;
         Ok(Done {
-            out,
+            out: answer_of(kept, out, refused),
             before,
             after: self.account.count(),
         })
@@ -127,34 +249,49 @@ impl<R: Rules> Book<R> {
             moment) }
         ensures fits { IfOk result (λ p. AllFit (content_of self.now.history) p.edits) }
         ensures small { IfOk result (λ p. AllByRecursion IsSmall p.edits) }
+        ensures formed { IfOk result (λ p. (stamp : TheStamp) → IsFormed (commit_of p stamp)) }
         ensures bounded { IsBounded self.now.history }
         ensures few { IfOk result (λ p. IsWithin edit_bytes self.now.history p.edits
             → AreBlobsFew (blobs_of self.now.history ++ p.blobs)) }
         ensures keeps { IfOk result (λ p. IsWithin edit_bytes self.now.history p.edits
-            → (stamp : TheStamp) → R.is_whole self.now.rules
-            (grown self.now.history (Committed (commit_of p stamp)))) }
+            → (stamp : TheStamp) → R.is_whole self.now.rules (grown self.now.history (Committed
+            (commit_of p stamp)))) }
+        ensures sound { IfOk result (λ p. IsWithin edit_bytes self.now.history p.edits
+            → (stamp : TheStamp) → IsSound (grown self.now.history (Committed
+            (commit_of p stamp)))) }
     {
         self.rules.plan(alloc, self.account(), call, moment)
     }
 
-    // Enters a commit, with which the edits take so many bytes. All memory that it needs is taken
-    // first.
-    fn enter(&mut self, alloc: Global, commit: Commit, bytes: u64) -> Result<(), NoMemory>
+    // Keeps a commit, with which the edits take so many bytes, and enters it; or enters the mark of
+    // its refusal.
+    fn enter(&mut self, alloc: Global, commit: Commit, bytes: u64) -> Result<bool, NoMemory>
         requires fits { AllFit (content_of self.old.history) commit.edits }
         requires small { AllByRecursion IsSmall commit.edits }
+        requires formed { IsFormed commit }
         requires bounded { IsBounded self.old.history }
         requires within { IsWithin edit_bytes self.old.history commit.edits }
         requires bytes { bytes ≡ edit_bytes (edits_of self.old.history) + edit_bytes commit.edits }
         requires few { AreBlobsFew (blobs_of self.old.history ++ commit.blobs) }
+        requires sound { IsSound (grown self.old.history (Committed commit)) }
         requires keeps { R.is_whole self.old.rules (grown self.old.history (Committed commit)) }
         ensures rules { self.new.rules ≡ self.old.rules }
-        ensures ok { OnOk result (self.new.history ≡ grown self.old.history (Committed commit)) }
-        ensures err { OnErr result (self.new.history ≡ self.old.history) }
+        ensures entered { IsEntered result self.old.history self.new.history commit }
+        ensures opened { self.new.opened ≡ self.old.opened }
+        ensures since { self.new.since ≡ self.old.since ++ drop
+            (length self.old.history.entries) self.new.history.entries }
+        ensures cause { IsFaultCounted result (K.append_faults self.old.keeper)
+            (K.append_faults self.new.keeper) }
     {
-        let copy = copy_edits(alloc, commit.edits.as_slice())?;
-        self.account
-            .reserve(commit.edits.as_slice(), commit.blobs.as_slice())?;
-        self.account.commit_ready(commit, copy, bytes);
-        Ok(())
+        let kept = keep_commit(
+            alloc,
+            &mut self.keeper,
+            &self.rules,
+            &mut self.account,
+            commit,
+            bytes,
+        );
+        let _count = self.account.count();
+        kept
     }
 }

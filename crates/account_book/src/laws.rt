@@ -1,16 +1,23 @@
 // What holds of every account, whatever its rules.
-ghost use Rattle.std.specs.Prelude.{◌≡◌, ◌≤◌, ◌^◌, ℕ, List, length};
+ghost use Rattle.std.specs.Prelude.{◌≡◌, ◌≤◌, ◌^◌, ◌⊎◌, ℕ, List, length};
 ghost use Rattle.mail_records.specs.Histories.{History, Entry, IsFounded, IsSound, blobs_of, content_at, content_of, end_after, end_of, grown_by, max_floor};
 ghost use Rattle.mail_records.specs.FloorMoves.{moved_up};
 ghost use Rattle.mail_records.specs.States.{state_at, state_of};
 ghost use Rattle.mail_records.specs.declared.edits.Edit.{Edit};
 ghost use Rattle.mail_records.specs.declared.edits.Stamp.{Stamp};
 ghost use Rattle.jm_base.specs.declared.identifiers.Kind.{Kind};
+ghost use Rattle.keep_port.specs.declared.kept.Kept.{Kept};
+ghost use Rattle.account_book.specs.Accounts.{without_refusals};
+ghost use Rattle.account_book.specs.Keeping.{IsOneMore, KeepsHistory, no_base_encoding};
+ghost use Rattle.account_book.specs.Opening.{IsDamaged, MakesHistory};
 ghost use Rattle.account_book.specs.Replies.{IsReply};
+ghost use Rattle.account_book.specs.declared.faults.Reason.{Reason};
 ghost use Rattle.account_book.specs.declared.asks.Call.{Call};
 ghost use Rattle.account_book.specs.declared.plans.Out.{Out};
 ghost use Rattle.account_book.specs.declared.plans.Plan.{Plan};
 ghost use Rattle.account_book.specs.declared.plans.Point.{Point};
+
+use crate::Rules;
 
 /// What was the reply to a call at a point of a history is so at the same point of each history
 /// that the history grows to.
@@ -39,3 +46,18 @@ pub fn history_outlasts_floor()
         → IsFounded (moved_up h c) }
     ensures sound { (h : History) (c : ℕ) → IsSound h → IsSound (moved_up h c) }
 {}
+
+/// What a valid account is kept as is not damaged, whichever row and reason are named, and neither
+/// is it with one commit more, with which the account is valid. So nothing that a crash may leave
+/// of a book is damaged. What is opened over what an account is kept as is the account without its
+/// refusals, which are not kept.
+pub fn kept_accounts_open_again<R: Rules>(rules: &R)
+    ensures undamaged { (k : Kept) (h : History) (row : ℕ) (why : Reason)
+        → R.is_whole rules.now h → KeepsHistory no_base_encoding k h
+        ⊎ IsOneMore no_base_encoding (R.is_whole rules.now) k h
+        → ¬ IsDamaged (R.is_whole rules.now) k row why }
+    ensures same { (k : Kept) (h g : History) → KeepsHistory no_base_encoding k h → MakesHistory k g
+        → g ≡ without_refusals h }
+{
+    let _rules = rules;
+}

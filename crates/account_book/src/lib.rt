@@ -1,18 +1,27 @@
 //! The account: its history of commits and refusals, with the content and the log that the history
-//! makes.
+//! makes, and the book that opens it over its keeper and performs its calls by rules.
 //!
-//! Contracts see an [`Account`] as its history (`Rattle.mail_records.specs.Histories`).
+//! Contracts see an [`Account`] as its history (`Rattle.mail_records.specs.Histories`). What
+//! opening makes of a keeper's rows is in `specs/Opening.antt`, and what a crash may leave in
+//! `specs/Keeping.antt`.
 #![tactic(auto)]
 
 mod account;
 mod asks;
 mod blobs;
 mod book;
+mod commits;
 mod entry;
+mod faults;
+mod growing;
 mod laws;
 mod limits;
+mod loading;
 mod plans;
 mod rules;
+mod start;
+#[cfg(test)]
+mod start_tests;
 #[cfg(test)]
 mod tests;
 
@@ -20,7 +29,8 @@ pub use account::Account;
 pub use asks::{Ask, Call, Carried};
 pub use book::Book;
 pub use entry::Entry;
-pub use laws::{history_outlasts_floor, reply_lasts};
+pub use faults::{Reason, StartFault};
+pub use laws::{history_outlasts_floor, kept_accounts_open_again, reply_lasts};
 pub use limits::MAX_EDIT_BYTES;
 pub use plans::{Done, Out, Plan, Point};
 pub use rules::Rules;

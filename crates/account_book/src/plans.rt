@@ -49,7 +49,7 @@ impl Plan {
     }
 }
 
-/// Where in an account's history a call stands: how many entries there were before it and after it,
+/// Where in an account's history a call is: how many entries there were before it and after it,
 /// and its timestamp, in seconds since the beginning of 1970 in UTC.
 #[derive(Clone, Copy, Debug, PartialEq, Eq)]
 pub struct Point {

@@ -1,5 +1,5 @@
 // The rules of an account: what its calls plan, and when it is valid.
-ghost use Rattle.std.specs.Prelude.{◌≡◌, ◌≤◌, ◌↔◌, ◌^◌, ℕ, IfOk};
+ghost use Rattle.std.specs.Prelude.{◌≡◌, ◌≤◌, ◌↔◌, ◌^◌, ℕ, IfOk, IsTrue};
 ghost use Rattle.std.specs.List.{AllByRecursion};
 ghost use Rattle.mail_records.specs.Commits.{IsFormed};
 ghost use Rattle.mail_records.specs.Edits.{AllFit, IsSmall};
@@ -43,6 +43,10 @@ pub trait Rules: Drop + Send + Sync {
         requires bounded { IsBounded account.now.history }
         requires moment { moment ≤ last_moment }
         ensures { IfOk result (λ p. p ≡ plan_of self.now account.now.history call.now moment) };
+
+    /// Returns whether an account is valid. It is asked once for each account that is opened.
+    fn whole(&self, alloc: Global, account: &Account) -> Result<bool, NoMemory>
+        ensures { IfOk result (λ b. IsTrue b ↔ is_whole self.now account.now.history) };
 
     /// From a valid account the edits of a plan fit, one after the other.
     ghost fits: { (r : Self) (h : History) (call : TheCall) (moment : ℕ) → moment ≤ last_moment

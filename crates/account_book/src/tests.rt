@@ -1,10 +1,13 @@
 // Calls on a book whose rules add mailboxes, each named as the method is.
-ghost use Rattle.std.specs.Prelude.{◌≡◌, IfOk};
-ghost use Rattle.account_book.specs.TestRules.{add, idle};
+ghost use Rattle.std.specs.Prelude.{◌≡◌, ◌↔◌, IfOk, IsTrue, Some};
+ghost use Rattle.keep_port.specs.Keeping.{LeavesContent};
+ghost use Rattle.keep_port.specs.Memory.{may_be_left};
+ghost use Rattle.account_book.specs.TestRules.{IsAdded, add, idle};
 
-use crate::{Account, Ask, Book, Call, Done, Out, Plan, Rules};
-use jm_base::{Blobs, Bytes, Kind, NoMemory, Text};
+use crate::{Account, Ask, Book, Call, Done, Out, Plan, Rules, StartFault};
+use jm_base::{Blobs, Bytes, Kind, NoMemory, Numbers, Rows, Text};
 use jm_json::{Invocation, Json, Made, write};
+use keep_port::{Kept, MemoryKeeper};
 use mail_records::{Edit, Edits, Mailbox, Stamp};
 use std::alloc::Global;
 use std::test::Fail;
@@ -12,7 +15,7 @@ use std::test::Fail;
 // A method of a user who may write adds a mailbox that has the method's name, and is answered with
 // its number. Nothing else changes anything.
 #[derive(Drop)]
-struct Adding;
+pub(crate) struct Adding;
 
 fn add(alloc: Global, number: u64, name: &Text) -> Result<Plan, NoMemory>
     ensures { IfOk result (λ p. p ≡ add number name.now) }
@@ -52,9 +55,23 @@ fn idle(alloc: Global) -> Plan
     }
 }
 
+fn is_added(account: &Account) -> bool
+    ensures { IsTrue result ↔ IsAdded account.now.history }
+{
+    let _blobs = account.blobs();
+    if !account.is_sound() {
+        return false;
+    }
+    let emails = account.content().emails().len();
+    if emails > 0 {
+        return false;
+    }
+    account.is_within_limit()
+}
+
 impl Rules for Adding {
     ghost use Rattle.account_book.specs.TestRules.{adding_plan, IsAdded};
-    ghost use Rattle.account_book.specs.TestRulesLaws.{adding_fits, adding_small, adding_formed, adding_keeps, adding_reads, adding_sound, adding_few, adding_ignores, adding_moves, adding_empty};
+    ghost use Rattle.account_book.specs.TestRulesLaws.{adding_fits, adding_small, adding_formed, adding_keeps, adding_reads, adding_ignores, adding_moves, adding_empty};
 
     ghost plan_of = { λ r h call moment. adding_plan h call };
 
@@ -79,6 +96,10 @@ impl Rules for Adding {
         }
     }
 
+    fn whole(&self, _alloc: Global, account: &Account) -> Result<bool, NoMemory> {
+        Ok(is_added(account))
+    }
+
     ghost fits = { λ r h call moment early whole. adding_fits h call whole };
 
     ghost small = { λ r h call moment early whole. adding_small h call };
@@ -89,13 +110,13 @@ impl Rules for Adding {
 
     ghost reads = { λ r h call moment early whole. adding_reads h call };
 
-    ghost sound = { λ r h whole. adding_sound h whole };
+    ghost sound = { λ r h whole. whole.sound };
 
     ghost founded = { λ r h whole. whole.founded };
 
     ghost limits = { λ r h whole. whole.within };
 
-    ghost blobs = { λ r h whole. adding_few h whole };
+    ghost blobs = { λ r h whole. whole.few };
 
     ghost ignores = { λ r h. adding_ignores h };
 
@@ -126,10 +147,56 @@ fn numbers(done: &Done) -> (u64, u64, u64) {
     (number, done.before, done.after)
 }
 
-// Performs a method under the pass 5.
-fn perform(
+// A list of these numbers.
+fn numbers_of(alloc: Global, list: &[u64]) -> Result<Numbers, NoMemory> {
+    let mut numbers = Numbers::new(alloc);
+    for number in list {
+        numbers.push(*number)?;
+    }
+    Ok(numbers)
+}
+
+// A keeper of these rows, which fails at the listed calls of `load` and `append`.
+pub(crate) fn keeper(
     alloc: Global,
-    book: &mut Book<Adding>,
+    rows: Rows,
+    loads: &[u64],
+    appends: &[u64],
+) -> Result<MemoryKeeper, NoMemory>
+    ensures { IfOk result (λ m. LeavesContent (Some m.kept) (may_be_left m)) }
+{
+    let kept = Kept { base: None, rows };
+    let loads = numbers_of(alloc, loads)?;
+    let appends = numbers_of(alloc, appends)?;
+    Ok(MemoryKeeper::failing(alloc, kept, loads, appends, Numbers::new(alloc)))
+}
+
+// A book over such a keeper, or why it is not opened.
+#[tactic(auto, using(crate::proofs::Ready::ready_clean))]
+pub(crate) fn opened(
+    alloc: Global,
+    rows: Rows,
+    loads: &[u64],
+    appends: &[u64],
+) -> Result<Book<MemoryKeeper, Adding>, StartFault> {
+    let Ok(keeper) = keeper(alloc, rows, loads, appends) else {
+        return Err(StartFault::NoMemory);
+    };
+    match Book::start(alloc, keeper, Adding) {
+        Ok(book) => Ok(book),
+        Err((fault, _)) => Err(fault),
+    }
+}
+
+// A book of nothing, over a keeper that never fails.
+fn begun(alloc: Global) -> Result<Book<MemoryKeeper, Adding>, StartFault> {
+    opened(alloc, Rows::new(alloc), &[], &[])
+}
+
+// Performs a method under the pass 5.
+pub(crate) fn performed(
+    alloc: Global,
+    book: &mut Book<MemoryKeeper, Adding>,
     name: &str,
     read_only: bool,
     serial: u64,
@@ -142,14 +209,14 @@ fn perform(
 #[test]
 fn a_change_is_entered_and_what_changes_nothing_is_not(rt: HostRuntime) -> Result<(), Fail> {
     let alloc = rt.alloc();
-    let mut book = Book::begin(alloc, Adding)?;
+    let mut book = begun(alloc)?;
     let calls = [
         (false, (1u64, 0u64, 1u64)),
         (true, (0, 1, 1)),
         (false, (2, 1, 2)),
     ];
     for (read_only, expected) in calls {
-        assert!(rt; perform(alloc, &mut book, "", read_only, 9)? == expected);
+        assert!(rt; performed(alloc, &mut book, "", read_only, 9)? == expected);
     }
     let account = book.account();
     assert_eq!(rt; account.content().next(Kind::Mailbox), 3);
@@ -160,9 +227,9 @@ fn a_change_is_entered_and_what_changes_nothing_is_not(rt: HostRuntime) -> Resul
 #[test]
 fn an_entry_has_the_stamp_of_its_call(rt: HostRuntime) -> Result<(), Fail> {
     let alloc = rt.alloc();
-    let mut book = Book::begin(alloc, Adding)?;
+    let mut book = begun(alloc)?;
     for serial in [3u64, 8] {
-        let _ = perform(alloc, &mut book, "", false, serial)?;
+        let _ = performed(alloc, &mut book, "", false, serial)?;
     }
     let entries = book.account().entries();
     assert_eq!(rt; entries.len(), 2);
@@ -196,11 +263,11 @@ fn long_name(alloc: Global, more: u8) -> Result<String, NoMemory> {
 #[test]
 fn past_64_mebibytes_of_edits_an_account_is_unavailable(rt: HostRuntime) -> Result<(), Fail> {
     let alloc = rt.alloc();
-    let mut book = Book::begin(alloc, Adding)?;
+    let mut book = begun(alloc)?;
     let rows = [(1u8, (0u64, 0u64, 0u64)), (0, (1, 0, 1)), (0, (0, 1, 1))];
     for (more, expected) in rows {
         let name = long_name(alloc, more)?;
-        assert!(rt; perform(alloc, &mut book, name.as_str(), false, 9)? == expected);
+        assert!(rt; performed(alloc, &mut book, name.as_str(), false, 9)? == expected);
     }
     Ok(())
 }
@@ -217,7 +284,11 @@ fn shown(alloc: Global, out: Out) -> Result<Bytes, NoMemory> {
 }
 
 // The arguments of the response to a method of this name.
-fn answer(alloc: Global, book: &mut Book<Adding>, name: &str) -> Result<Bytes, NoMemory> {
+fn answer(
+    alloc: Global,
+    book: &mut Book<MemoryKeeper, Adding>,
+    name: &str,
+) -> Result<Bytes, NoMemory> {
     let call = call(alloc, name, false)?;
     let done = book.perform(alloc, &call, Stamp { pass: 5, serial: 1 }, 0)?;
     shown(alloc, done.out)
@@ -226,7 +297,7 @@ fn answer(alloc: Global, book: &mut Book<Adding>, name: &str) -> Result<Bytes, N
 #[test]
 fn a_call_past_the_limit_is_answered_with_server_unavailable(rt: HostRuntime) -> Result<(), Fail> {
     let alloc = rt.alloc();
-    let mut book = Book::begin(alloc, Adding)?;
+    let mut book = begun(alloc)?;
     let name = long_name(alloc, 1)?;
     let args = answer(alloc, &mut book, name.as_str())?;
     assert!(rt; args.as_slice() == b"{\"type\":\"serverUnavailable\"}".as_slice());

@@ -9,4 +9,4 @@ use Rattle.account_book.proofs.account.Account.bounds.Goals as goal
 pub returns : goal.returns
 returns c =
     subst (λ v. IsBounded v.history) c.self.view_is
-    (IsBounded-within _ _ _ _ _ _ _ c.self.invariant (subst (λ v. edit_bytes (edits_of v.history) ≤ MAX_EDIT_BYTES) (sym c.self.view_is) c.requires))
+    (IsBounded-within _ _ _ _ _ _ _ _ c.self.invariant (subst (λ v. edit_bytes (edits_of v.history) ≤ MAX_EDIT_BYTES) (sym c.self.view_is) c.requires))

@@ -1,8 +1,9 @@
-use Rattle.std.proofs.Common.{rules, ◌≡◌, length}
-use Rattle.mail_records.specs.Histories.{Committed, grown}
+use Rattle.std.proofs.Common.{rules, ◌≡◌, inl, length}
+use Rattle.jm_base.specs.declared.memory.NoMemory.{NoMemory}
 use Rattle.record_codec.specs.Sizes.{edit_bytes}
 use Rattle.account_book.specs.Replies.{IsIdle, IsWithin, commit_of}
-use Rattle.account_book.proofs.Answering.{IsReply-unavailable, IsReply-committed, none_of_same, none_of_commit}
+use Rattle.account_book.proofs.Answering.{IsReply-entered, IsReply-unavailable, kept_entered, none_of_same}
+use Rattle.account_book.proofs.Parts.{begins_entered, cause_entered}
 use Rattle.account_book.proofs.book.Book.perform.Goals as goal
 
 pub returns-in_default-clause-reply : goal.returns-in_default-clause-reply
@@ -23,13 +24,30 @@ returns-clause-reply g c =
     let more : c.count.result ≡ length c.enter.new.self.history.entries = search rules in
     let some : ¬ IsIdle p = search rules in
     let within : IsWithin edit_bytes h p.edits = search rules in
-    let grows : c.enter.new.self.history ≡ grown h (Committed (commit_of p c.args.stamp)) = c.in_ok-enter.ensures.ok in
-    IsReply-committed (g.R.Rules.plan_of c.args.self.now.rules) h c.enter.new.self.history p c.count-before.result c.count.result c.args.moment c.args.call.now c.args.stamp
-    count more c.in_ok-plan.ensures.plan some within grows
+    IsReply-entered NoMemory (g.R.Rules.plan_of c.args.self.now.rules) h c.enter.new.self.history p c.count-before.result c.count.result c.args.moment c.args.call.now c.args.stamp c.in_ok-kept.kept c.answer_of.result c.in_ok-refused.refused
+    count more c.in_ok-plan.ensures.plan some within c.in_ok-kept.ensures.entered c.answer_of.ensures c.in_ok-refused.ensures
+
+pub returns-clause-begins : goal.returns-clause-begins
+returns-clause-begins g c =
+    let h = c.args.self.now.history in
+    let count : c.count-before.result ≡ length h.entries = search rules in
+    begins_entered c.enter.result h c.enter.new.self.history (commit_of c.in_ok-plan.plan c.args.stamp) c.count-before.result count c.enter.ensures.entered
+
+pub returns-clause-cause : goal.returns-clause-cause
+returns-clause-cause g c same =
+    cause_entered c.enter.result c.args.self.now.history c.enter.new.self.history (commit_of c.in_ok-plan.plan c.args.stamp) _ _ c.enter.ensures.entered c.enter.ensures.cause same
+
+pub enter-requires-clause-formed : goal.enter-requires-clause-formed
+enter-requires-clause-formed g c = λ κs lives. c.in_ok-plan.ensures.formed c.args.stamp
+
+pub enter-requires-clause-sound : goal.enter-requires-clause-sound
+enter-requires-clause-sound g c =
+    let within : IsWithin edit_bytes c.args.self.now.history c.in_ok-plan.plan.edits = search rules in
+    λ κs lives. c.in_ok-plan.ensures.sound within c.args.stamp
 
 pub returns-in_default-clause-kept : goal.returns-in_default-clause-kept
-returns-in_default-clause-kept g c = none_of_same c.args.self.now.history
+returns-in_default-clause-kept g c = inl (none_of_same c.args.self.now.history)
 
 pub returns-clause-kept : goal.returns-clause-kept
 returns-clause-kept g c =
-    none_of_commit c.args.self.now.history c.enter.new.self.history (commit_of c.in_ok-plan.plan c.args.stamp) c.in_ok-enter.ensures.ok
+    kept_entered c.enter.result c.args.self.now.history c.enter.new.self.history (commit_of c.in_ok-plan.plan c.args.stamp) _ _ c.enter.ensures.entered c.enter.ensures.cause

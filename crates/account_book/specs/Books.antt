@@ -1,0 +1,44 @@
+-- What contracts see of a book, and what holds of each.
+use Rattle.std.specs.Prelude.{◌≡◌, ℕ, ◌≤◌, Bool, true, false, List, drop, filter, length, Option, Result, Ok, Err}
+use Rattle.jm_edge.specs.Causes.{Rose}
+use Rattle.keep_port.specs.declared.kept.Kept.{Kept}
+use Rattle.mail_records.specs.Histories.{History, Entry, Committed, Refused, grown, is_refused}
+use Rattle.mail_records.specs.declared.edits.Commit.{Commit}
+use Rattle.account_book.specs.Keeping.{IsKept, no_base_encoding}
+
+-- A book: its rules, its keeper, and its account's history. `opened` is the history that the book
+-- was opened with, which has `before` entries, and `since` has the entries since. So the history is
+-- `opened` grown by `since`.
+pub record BookView (K R : Type 0) : Type 0 where
+  pub rules : R
+  pub keeper : K
+  pub history : History
+  pub opened : History
+  pub before : ℕ
+  pub since : List Entry
+
+-- how many of the entries are refusals
+abbrev pub refusals_in : List Entry → ℕ
+refusals_in entries = length (filter is_refused entries)
+
+-- The account is valid, the keeper keeps its history, and the refusals since it was opened
+-- are at most the faults of the keeper's `append`.
+pub record IsBook (whole : History → Type 0) (known : Option Kept) (image : Kept
+    → Type 0) (faults before : ℕ) (h : History) : Type 0 where
+  pub valid : whole h
+  pub kept : IsKept no_base_encoding whole known image h
+  pub count : before ≤ length h.entries
+  pub refusals : refusals_in (drop before h.entries) ≤ faults
+
+-- what a commit makes of the history: it is entered where it was kept (true), the mark of a refusal
+-- is where the keeper refused it (false), and nothing is if memory ran out
+abbrev pub IsEntered : {E : Type 0} → Result Bool E → History → History → Commit → Type 0
+IsEntered (Ok true) before after commit = after ≡ grown before (Committed commit)
+IsEntered (Ok false) before after commit = after ≡ grown before (Refused commit.stamp)
+IsEntered (Err e) before after commit = after ≡ before
+
+-- the keeper's count of faults rose if it refused the commit, and else it is as it was
+abbrev pub IsFaultCounted : {E : Type 0} → Result Bool E → ℕ → ℕ → Type 0
+IsFaultCounted (Ok true) before now = now ≡ before
+IsFaultCounted (Ok false) before now = Rose before now
+IsFaultCounted (Err e) before now = now ≡ before

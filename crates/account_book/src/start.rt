@@ -1,0 +1,75 @@
+// What a keeper keeps is read as an account.
+ghost use Rattle.std.specs.Prelude.{◌≡◌, IfOk, IfErr};
+ghost use Rattle.mail_records.specs.Histories.{History};
+ghost use Rattle.account_book.specs.Opening.{IsContentFault, IsEndFault, IsLoading, MakesHistory};
+
+use crate::loading::{Loading, load_rows};
+use crate::{Account, Reason, Rules, StartFault};
+use keep_port::Kept;
+use std::alloc::Global;
+
+// Returns the account, if it is valid.
+fn valid_account<R: Rules>(
+    alloc: Global,
+    rules: &R,
+    account: Account,
+    last: u64,
+) -> Result<Account, StartFault>
+    ensures same { IfOk result (λ a. a.history ≡ account.history) }
+    ensures valid { IfOk result (λ a. R.is_whole rules.now a.history) }
+    ensures err { IfErr result (IsEndFault (R.is_whole rules.now) account.history last) }
+{
+    match rules.whole(alloc, &account) {
+        Ok(true) => Ok(account),
+        Ok(false) => Err(StartFault::Damaged {
+            row: last,
+            reason: Reason::NotWhole,
+        }),
+        Err(_) => Err(StartFault::NoMemory),
+    }
+}
+
+// Returns the account that the rows make, if it is valid. The last row has this index.
+fn loaded_account<R: Rules>(
+    alloc: Global,
+    rules: &R,
+    loading: Loading,
+    last: u64,
+) -> Result<Account, StartFault>
+    ensures same { IfOk result (λ a. (h : History) → IsLoading loading h → a.history ≡ h) }
+    ensures valid { IfOk result (λ a. R.is_whole rules.now a.history) }
+    ensures err { IfErr result (λ e. (h : History) → IsLoading loading h
+        → IsEndFault (R.is_whole rules.now) h last e) }
+{
+    match loading {
+        Loading::Fitting(account) => valid_account(alloc, rules, account, last),
+        Loading::Overfull(_) => Err(StartFault::Damaged {
+            row: last,
+            reason: Reason::NotWhole,
+        }),
+    }
+}
+
+/// Returns the account that a content makes, if it is valid.
+pub(crate) fn load_content<R: Rules>(
+    alloc: Global,
+    rules: &R,
+    content: Kept,
+) -> Result<Account, StartFault>
+    ensures makes { IfOk result (λ a. MakesHistory content a.history) }
+    ensures valid { IfOk result (λ a. R.is_whole rules.now a.history) }
+    ensures err { IfErr result (IsContentFault (R.is_whole rules.now) content) }
+{
+    let Kept { base, rows } = content;
+    if base.is_some() {
+        return Err(StartFault::Damaged {
+            row: 0,
+            reason: Reason::NotACommit(0),
+        });
+    }
+    let last = (rows.len() as u64).saturating_sub(1);
+    match load_rows(alloc, rows) {
+        Ok(loading) => loaded_account(alloc, rules, loading, last),
+        Err(fault) => Err(fault),
+    }
+}

@@ -1,0 +1,4 @@
+pub mod Tested
+pub mod Climbing
+pub mod Siblings
+pub mod Passing
