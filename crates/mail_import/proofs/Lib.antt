@@ -1,0 +1,9 @@
+pub mod Parts
+pub mod Dates
+pub mod Sent
+pub mod Joining
+pub mod NewThreads
+pub mod Accepting
+pub mod Following
+pub mod Planning
+pub mod Promising

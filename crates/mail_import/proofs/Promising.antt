@@ -1,0 +1,413 @@
+-- What the plan of an import promises.
+use Rattle.std.proofs.Common.{◌≡◌, ◌≢◌, ℕ, zero, suc, ◌+◌, ◌-◌, ◌<◌, ◌≤◌, Bool, true, false, not, cond, ◌||◌, eqb, List, [], ◌∷◌, ◌++◌, length, nat_lt, if◌then◌else◌, Option, Some, None, is_some, unwrap_or, refl, sym, ap, ◌∙◌, subst, arith, true≢false, eqb-true, eq-eqb, length-append, ⊎_elim, ◌⊎◌, inl, inr}
+use Rattle.std.specs.List.{AllByRecursion}
+use Rattle.std.proofs.lemmas.Option.{none-some, same_Some}
+use Rattle.jm_base.specs.declared.identifiers.Kind.TheVariants.{Email as OfEmail}
+use Rattle.jm_json.specs.Tree.{Tree}
+use Rattle.jm_json.specs.Find.{as_object}
+use Rattle.jm_json.specs.Order.{put as put_member}
+use Rattle.jm_json.specs.declared.invocation.Created.{Created}
+use Rattle.mail_records.specs.Contents.{Content, AreNumbered, AreTables, email_at, email_number, thread_at, thread_number}
+use Rattle.mail_records.specs.Edits.{AllFit, AllKeepThread, after_edit, after_edits}
+use Rattle.mail_records.specs.Tables.{lookup}
+use Rattle.mail_records.specs.declared.edits.Edit.{Edit}
+use Rattle.mail_records.specs.declared.edits.Edit.TheVariants.{PutMailbox, DropMailbox, PutEmail, DropEmail, PutThread, DropThread}
+use Rattle.mail_records.specs.declared.records.Email.{Email}
+use Rattle.mail_records.specs.declared.records.Mailbox.{Mailbox}
+use Rattle.mail_records.specs.declared.records.Thread.{Thread}
+use Rattle.mail_records.proofs.Growth.{AllFit-append, AreTables-after_edits, after_edits-append, all_map}
+use Rattle.mail_records.proofs.Growth.{AreTables-after_edit}
+use Rattle.account_book.specs.Plans.{last_moment}
+use Rattle.mail_counts.specs.CountsFlag.{AreCountsFlagsRight}
+use Rattle.mail_counts.specs.Derived.{AllKeepCounts, LeavesEmails}
+use Rattle.mail_counts.specs.DerivedEdits.{derived_edits}
+use Rattle.mail_counts.specs.Plans.{Ground, present_state}
+use Rattle.mail_counts.specs.Tidy.{IsTidy, IsTidyEmail, IsThere, ancestor, parent_of}
+use Rattle.mail_counts.specs.TidyBut.{AreMailboxesTidyButCounts, IsPlacedBelow, IsTidyButThreadsAndCounts, LeaveTidyButThreadsAndCounts, LeavesThreads}
+use Rattle.mail_counts.specs.Touched.{is_one_of, threads_named, touched_threads}
+use Rattle.mail_counts.proofs.Growth.{lookup-above}
+use Rattle.mail_counts.proofs.Followed.{derived_flags, derived_leaves}
+use Rattle.mail_counts.proofs.TidyAgain.{made_tidy}
+use Rattle.method_args.specs.declared.TheConstants.{MAX_OBJECTS_PER_CALL}
+use Rattle.mailbox_set.specs.Arguments.{account_in, if_in_state}
+use Rattle.mailbox_set.specs.Creates.{Create}
+use Rattle.mailbox_set.specs.Plans.{Outcome, Plan, invalid, is_other_state, planned, state_mismatch, too_large}
+use Rattle.mail_summary.specs.Summaries.{summary}
+use Rattle.thread_assign.specs.Threads.{joined_thread}
+use Rattle.plan_promises.specs.Planned.{AllKeepMessages, HaveOneMessage, IsDelivered, IsFiled, IsPlanned, KeepsMessage, PutsEmail, PutsNewEmail}
+use Rattle.plan_promises.proofs.Planned.{planned_mailboxes, threads_kept}
+use Rattle.mail_import.specs.Arguments.{imports_in, invalid_argument}
+use Rattle.mail_import.specs.Imports.{Progress, after_check, after_import, after_imports, after_made, email_of, next_after, no_source, refusal_of, thread_for}
+use Rattle.mail_import.specs.Plans.{HasNewState, all_edits, beginning, import_outcome, outcome_of_arguments, outcome_of_imports, outcome_of_members, plan_after}
+use Rattle.mail_import.specs.Properties.{sent_in}
+use Rattle.mail_import.specs.declared.refusal.Refusal.{Refusal}
+use Rattle.mail_import.proofs.Accepting.{IsNewEmail, new_email}
+use Rattle.mail_import.proofs.Following.{Fits-new_email, emails-new, not_there, numbered-new}
+use Rattle.mail_import.proofs.Joining.{joined_known}
+use Rattle.mail_import.proofs.NewThreads.{AreNamed, named_push, one_push, threads_next}
+use Rattle.mail_import.proofs.Parts.{all_append, all_push}
+
+-- ---- what each edit of an import is
+
+abbrev IsImport : List (List ℕ) → Edit → Type 0
+IsImport blobs (PutEmail e false) = IsDelivered summary blobs e × IsFiled e
+IsImport blobs (PutEmail e true) = ⊥
+IsImport blobs (PutMailbox item was counts) = ⊥
+IsImport blobs (DropMailbox number) = ⊥
+IsImport blobs (DropEmail number thread) = ⊥
+IsImport blobs (PutThread item was) = ⊥
+IsImport blobs (DropThread number) = ⊥
+
+delivered : (blobs : List (List ℕ)) (e : Edit) → IsImport blobs e → PutsNewEmail (IsDelivered summary blobs) e
+delivered blobs (PutEmail e false) is = is.0
+delivered blobs (PutEmail e true) is = absurd is
+delivered blobs (PutMailbox item was counts) is = absurd is
+delivered blobs (DropMailbox number) is = absurd is
+delivered blobs (DropEmail number thread) is = absurd is
+delivered blobs (PutThread item was) is = absurd is
+delivered blobs (DropThread number) is = absurd is
+
+filed : (blobs : List (List ℕ)) (e : Edit) → IsImport blobs e → PutsEmail IsFiled e
+filed blobs (PutEmail e false) is = is.1
+filed blobs (PutEmail e true) is = absurd is
+filed blobs (PutMailbox item was counts) is = absurd is
+filed blobs (DropMailbox number) is = absurd is
+filed blobs (DropEmail number thread) is = absurd is
+filed blobs (PutThread item was) is = absurd is
+filed blobs (DropThread number) is = absurd is
+
+leaves_threads : (blobs : List (List ℕ)) (e : Edit) → IsImport blobs e → LeavesThreads e
+leaves_threads blobs (PutEmail e was) is = refl
+leaves_threads blobs (PutMailbox item was counts) is = refl
+leaves_threads blobs (DropMailbox number) is = refl
+leaves_threads blobs (DropEmail number thread) is = refl
+leaves_threads blobs (PutThread item was) is = absurd is
+leaves_threads blobs (DropThread number) is = absurd is
+
+counts_kept : (blobs : List (List ℕ)) (es : List Edit) (c : Content) → AllByRecursion (IsImport blobs) es → AllKeepCounts c es
+counts_kept blobs [] c all = tt
+counts_kept blobs (PutEmail e was ∷ es) c all = (tt, counts_kept blobs es (after_edit c (PutEmail e was)) all.1)
+counts_kept blobs (PutMailbox item was counts ∷ es) c all = absurd all.0
+counts_kept blobs (DropMailbox number ∷ es) c all = absurd all.0
+counts_kept blobs (DropEmail number thread ∷ es) c all = absurd all.0
+counts_kept blobs (PutThread item was ∷ es) c all = absurd all.0
+counts_kept blobs (DropThread number ∷ es) c all = absurd all.0
+
+flags_right : (blobs : List (List ℕ)) (es : List Edit) (c : Content) → AllByRecursion (IsImport blobs) es → AreCountsFlagsRight c es
+flags_right blobs [] c all = tt
+flags_right blobs (PutEmail e was ∷ es) c all = (tt, flags_right blobs es (after_edit c (PutEmail e was)) all.1)
+flags_right blobs (PutMailbox item was counts ∷ es) c all = absurd all.0
+flags_right blobs (DropMailbox number ∷ es) c all = absurd all.0
+flags_right blobs (DropEmail number thread ∷ es) c all = absurd all.0
+flags_right blobs (PutThread item was ∷ es) c all = absurd all.0
+flags_right blobs (DropThread number ∷ es) c all = absurd all.0
+
+pub flags_append : (es more : List Edit) (c : Content) → AreCountsFlagsRight c es → AreCountsFlagsRight (after_edits c es) more → AreCountsFlagsRight c (es ++ more)
+flags_append [] more c first rest = rest
+flags_append (e ∷ es) more c first rest = (first.0, flags_append es more (after_edit c e) first.1 rest)
+
+kept_append : (es more : List Edit) (c : Content) → AllKeepMessages c es → AllKeepMessages (after_edits c es) more → AllKeepMessages c (es ++ more)
+kept_append [] more c first rest = rest
+kept_append (e ∷ es) more c first rest = (first.0, kept_append es more (after_edit c e) first.1 rest)
+
+-- ---- a content with one email more
+
+ancestor_same : (k : ℕ) (c : Content) (e : Email) (o : Option ℕ) → ancestor k (after_edit c (PutEmail e false)) o ≡ ancestor k c o
+ancestor_same zero c e o = refl
+ancestor_same (suc k) c e None = refl
+ancestor_same (suc k) c e (Some n) = ancestor_same k c e (parent_of c n)
+
+placed_same : (c : Content) (e : Email) (m : Mailbox) → IsPlacedBelow c m → IsPlacedBelow (after_edit c (PutEmail e false)) m
+placed_same c e m p = record { parent = p.parent; root = ancestor_same (length c.mailboxes) c e m.parent ∙ p.root }
+
+tidy_same : (c : Content) (e x : Email) → IsTidyEmail c x → IsTidyEmail (after_edit c (PutEmail e false)) x
+tidy_same c e x t = record {
+  mailboxes = t.mailboxes;
+  some_mailbox = t.some_mailbox;
+  few_mailboxes = t.few_mailboxes;
+  mailboxes_rise = t.mailboxes_rise;
+  keywords = t.keywords;
+  few_keywords = t.few_keywords;
+  keywords_rise = t.keywords_rise;
+  received = t.received;
+  sent = t.sent;
+}
+
+tidy_with_email : (blobs : List (List ℕ)) (c : Content) (e : Email) → IsTidyButThreadsAndCounts c → IsNewEmail blobs c e → IsTidyButThreadsAndCounts (after_edit c (PutEmail e false))
+tidy_with_email blobs c e tidy new =
+    let d : Content = after_edit c (PutEmail e false) in
+    let rows = emails-new c e tidy.numbered new.number in
+    let count = ap length rows ∙ length-append c.emails (e ∷ []) in
+    let room = new.room in
+    record {
+      tables = AreTables-after_edit c (PutEmail e false) tidy.tables;
+      numbered = numbered-new c e tidy.numbered new.number;
+      mailboxes = record {
+        forms = tidy.mailboxes.forms;
+        placed = all_map (IsPlacedBelow c) (IsPlacedBelow d) c.mailboxes (placed_same c e) tidy.mailboxes.placed;
+        names = tidy.mailboxes.names;
+        roles = tidy.mailboxes.roles;
+      };
+      emails = record {
+        few = omega (arith, count, room);
+        each = subst (AllByRecursion (IsTidyEmail d)) (sym rows) (all_push (IsTidyEmail d) c.emails e (all_map (IsTidyEmail c) (IsTidyEmail d) c.emails (tidy_same c e) tidy.emails.each) (tidy_same c e e new.tidy));
+      };
+    }
+
+-- ---- imports one after the other
+
+-- a thread that is there, or a new one below b
+abbrev IsKnown : Content → ℕ → ℕ → Type 0
+IsKnown c b t = (is_some (thread_at c t) ≡ true) ⊎ ((c.next_thread ≤ t) × (t < b))
+
+known_more : (c : Content) (a b t : ℕ) → a ≤ b → IsKnown c a t → IsKnown c b t
+known_more c a b t le known =
+    ⊎_elim (λ (there : is_some (thread_at c t) ≡ true). inl there)
+    (λ (r : (c.next_thread ≤ t) × (t < a)). inr (r.0, omega (arith, le, r.1))) known
+
+pub record Led (blobs : List (List ℕ)) (c : Content) (s : Progress) : Type 0 where
+  pub content : s.content ≡ after_edits c s.edits
+  pub imports : AllByRecursion (IsImport blobs) s.edits
+  pub fits : AllFit c s.edits
+  pub kept : AllKeepMessages c s.edits
+  pub tidy : IsTidyButThreadsAndCounts s.content
+  pub low : c.next_thread ≤ s.next_thread
+  pub known : AllByRecursion (λ (e : Email). IsKnown c s.next_thread e.thread) s.content.emails
+  pub named : AreNamed c s.edits s.next_thread
+
+-- the thread that is taken and the next one after it
+thread_taken : (c : Content) (o : Option ℕ) (next : ℕ) → c.next_thread ≤ next → ((t : ℕ) → o ≡ Some t → IsKnown c next t)
+    → (next ≤ next_after o next) × IsKnown c (next_after o next) (unwrap_or o next)
+thread_taken c None next low known = (omega arith, inr (low, omega arith))
+thread_taken c (Some t) next low known = (omega arith, known t refl)
+
+new_is_taken : (o : Option ℕ) (next n : ℕ) → next ≤ n → n < next_after o next → unwrap_or o next ≡ n
+new_is_taken None next n le lt = omega arith
+new_is_taken (Some t) next n le lt = absurd (omega arith)
+
+low_or : (n next : ℕ) → (n < next) ⊎ (next ≤ n)
+low_or n next = step (nat_lt n next) refl
+  where
+    step : (b : Bool) → nat_lt n next ≡ b → (n < next) ⊎ (next ≤ n)
+    step true e = inl (grind arith)
+    step false e = inr (grind arith)
+
+or_cases : (a b : Bool) → (a || b) ≡ true → (a ≡ true) ⊎ (b ≡ true)
+or_cases true b e = inl refl
+or_cases false b e = inr e
+
+or_true : (a b : Bool) → (a ≡ true) ⊎ (b ≡ true) → (a || b) ≡ true
+or_true true b e = refl
+or_true false b e = ⊎_elim (λ (f : false ≡ true). absurd (true≢false (sym f))) (λ (f : b ≡ true). f) e
+
+named_more : (c : Content) (edits : List Edit) (e : Email) (o : Option ℕ) (next : ℕ) → e.thread ≡ unwrap_or o next → next ≤ next_after o next → IsKnown c (next_after o next) (unwrap_or o next)
+    → AreNamed c edits next → AreNamed c (edits ++ PutEmail e false ∷ []) (next_after o next)
+named_more c edits e o next is up taken named =
+    let split = λ (n : ℕ). ap (λ ts. is_one_of ts n) (named_push edits e) ∙ one_push (threads_named edits) e.thread n in
+    record {
+      from = λ n h.
+          ⊎_elim
+          (λ (old : is_one_of (threads_named edits) n ≡ true). known_more c next (next_after o next) n up (named.from n old))
+          (λ (own : eqb e.thread n ≡ true). subst (IsKnown c (next_after o next)) (sym is ∙ eqb-true e.thread n own) taken)
+          (or_cases (is_one_of (threads_named edits) n) (eqb e.thread n) (sym (split n) ∙ h));
+      to = λ n le lt.
+          split n
+          ∙ or_true (is_one_of (threads_named edits) n) (eqb e.thread n)
+          (⊎_elim (λ (less : n < next). inl (named.to n le less))
+          (λ (more : next ≤ n). inr (eq-eqb e.thread n (is ∙ new_is_taken o next n more lt)))
+          (low_or n next));
+    }
+
+led_made : (blobs : List (List ℕ)) (c : Content) (s : Progress) (creation : List ℕ) (e : Email) → Led blobs c s → IsNewEmail blobs s.content e → e.thread ≡ thread_for s e.summary → Led blobs c (after_made s creation e)
+led_made blobs c s creation e led new is =
+    let o : Option ℕ = joined_thread s.content.emails e.summary in
+    let numbered = led.tidy.numbered in
+    let taken = thread_taken c o s.next_thread led.low (λ t joined. joined_known (IsKnown c s.next_thread) e.summary t s.content.emails led.known joined) in
+    let fit = Fits-new_email s.content e numbered new.number in
+    let none = not_there s.content e numbered new.number in
+    let keeps : KeepsMessage s.content (PutEmail e false) = λ (old : Email) there. absurd (none-some old (sym none ∙ there)) in
+    let up = taken.0 in
+    let low = led.low in
+    record {
+      content = ap (λ d. after_edit d (PutEmail e false)) led.content ∙ sym (after_edits-append s.edits (PutEmail e false ∷ []) c);
+      imports = all_push (IsImport blobs) s.edits (PutEmail e false) led.imports (new.delivered, new.filed);
+      fits = AllFit-append s.edits (PutEmail e false ∷ []) c led.fits (subst (λ d. AllFit d (PutEmail e false ∷ [])) led.content (fit, tt));
+      kept = kept_append s.edits (PutEmail e false ∷ []) c led.kept (subst (λ d. AllKeepMessages d (PutEmail e false ∷ [])) led.content (keeps, tt));
+      tidy = tidy_with_email blobs s.content e led.tidy new;
+      low = omega (arith, up, low);
+      known =
+          subst (AllByRecursion (λ (x : Email). IsKnown c (next_after o s.next_thread) x.thread)) (sym (emails-new s.content e numbered new.number))
+          (all_push (λ (x : Email). IsKnown c (next_after o s.next_thread) x.thread) s.content.emails e
+          (all_map (λ (x : Email). IsKnown c s.next_thread x.thread) (λ (x : Email). IsKnown c (next_after o s.next_thread) x.thread) s.content.emails
+          (λ (x : Email) k. known_more c s.next_thread (next_after o s.next_thread) x.thread up k) led.known)
+          (subst (IsKnown c (next_after o s.next_thread)) (sym is) taken.1));
+      named = named_more c s.edits e o s.next_thread is up taken.1 led.named;
+    }
+
+led_check : (blobs : List (List ℕ)) (c : Content) (s : Progress) (creation : List ℕ) (e : Email) (o : Option Refusal) → Led blobs c s → (o ≡ None → IsNewEmail blobs s.content e) → e.thread ≡ thread_for s e.summary
+    → Led blobs c (after_check s creation e o)
+led_check blobs c s creation e None led new is = led_made blobs c s creation e led (new refl) is
+led_check blobs c s creation e (Some r) led new is = record {
+  content = led.content;
+  imports = led.imports;
+  fits = led.fits;
+  kept = led.kept;
+  tidy = led.tidy;
+  low = led.low;
+  known = led.known;
+  named = led.named;
+}
+
+led_imports : (blobs : List (List ℕ)) (moment : ℕ) (c : Content) (xs : List Create) (s : Progress) → moment ≤ last_moment → Led blobs c s → Led blobs c (after_imports blobs moment s xs)
+led_imports blobs moment c [] s le led = led
+led_imports blobs moment c (x ∷ xs) s le led =
+    let a = sent_in blobs s.content s.made x.members in
+    led_imports blobs moment c xs (after_import blobs moment s x) le
+    (led_check blobs c s x.creation (email_of s moment a (unwrap_or a.source no_source)) (refusal_of (length s.content.emails) a) led
+    (λ none. new_email blobs moment s x.members le none) refl)
+
+-- ---- where they begin
+
+tidy_but : (c : Content) → IsTidy c → IsTidyButThreadsAndCounts c
+tidy_but c t = record {
+  tables = t.tables;
+  numbered = t.numbered;
+  mailboxes = record {
+    forms = t.mailboxes.forms;
+    placed = all_map _ (IsPlacedBelow c) c.mailboxes (λ (m : Mailbox) p. record { parent = p.parent; root = p.root }) t.mailboxes.placed;
+    names = t.mailboxes.names;
+    roles = t.mailboxes.roles;
+  };
+  emails = t.emails;
+}
+
+led_first : (blobs : List (List ℕ)) (c : Content) (made : List Created) → IsTidy c → Led blobs c (beginning c made)
+led_first blobs c made t = record {
+  content = refl;
+  imports = tt;
+  fits = tt;
+  kept = tt;
+  tidy = tidy_but c t;
+  low = omega arith;
+  known = all_map (λ (e : Email). is_some (thread_at c e.thread) ≡ true) (λ (e : Email). IsKnown c c.next_thread e.thread) c.emails (λ (e : Email) there. inl there) t.threads.named;
+  named = record { from = λ n h. absurd (true≢false (sym h)); to = λ n le lt. absurd (omega (arith, le, lt)) };
+}
+
+no_thread : (c : Content) (n : ℕ) → AreNumbered c → c.next_thread ≤ n → is_some (thread_at c n) ≡ false
+no_thread c n numbered le =
+    ap is_some (lookup-above thread_number n c.threads (all_map (λ (t : Thread). t.number < c.next_thread) (λ (t : Thread). t.number < n) c.threads (λ (t : Thread) (lt : t.number < c.next_thread). omega (arith, le, lt)) numbered.threads.below_next))
+
+-- ---- flags
+
+-- every edit of the imports puts a new email, also of a content that isn't tidy
+abbrev puts_email : Edit → Type 0
+puts_email (PutEmail e was) = was ≡ false
+puts_email (PutMailbox item was counts) = ⊥
+puts_email (DropMailbox number) = ⊥
+puts_email (DropEmail number thread) = ⊥
+puts_email (PutThread item was) = ⊥
+puts_email (DropThread number) = ⊥
+
+flags_of : (es : List Edit) (c : Content) → AllByRecursion puts_email es → AreCountsFlagsRight c es
+flags_of [] c all = tt
+flags_of (PutEmail e was ∷ es) c all = (tt, flags_of es (after_edit c (PutEmail e was)) all.1)
+flags_of (PutMailbox item was counts ∷ es) c all = absurd all.0
+flags_of (DropMailbox number ∷ es) c all = absurd all.0
+flags_of (DropEmail number thread ∷ es) c all = absurd all.0
+flags_of (PutThread item was ∷ es) c all = absurd all.0
+flags_of (DropThread number ∷ es) c all = absurd all.0
+
+-- ---- the plan
+
+promised_edits : (blobs : List (List ℕ)) (c : Content) (s : Progress) → IsTidy c → AllByRecursion puts_email s.edits → Led blobs c s → IsPlanned summary blobs c (all_edits c s)
+promised_edits blobs c s tidy puts led =
+    let more = derived_edits c s.edits in
+    let leave : LeaveTidyButThreadsAndCounts c s.edits = record {
+      fit = led.fits;
+      keep_threads = threads_kept s.edits c led.kept;
+      keep_counts = counts_kept blobs s.edits c led.imports;
+      leave_threads = all_map (IsImport blobs) LeavesThreads s.edits (leaves_threads blobs) led.imports;
+      new_threads = threads_next c s.edits s.next_thread (λ n le. no_thread c n tidy.numbered le) led.named;
+      after = subst IsTidyButThreadsAndCounts led.content led.tidy;
+    } in
+    let made = made_tidy c s.edits tidy leave in
+    let leaves : AllByRecursion LeavesEmails more = derived_leaves c (after_edits c s.edits) (touched_threads s.edits) in
+    let flags : AreCountsFlagsRight (after_edits c s.edits) more =
+    derived_flags c (after_edits c s.edits) (touched_threads s.edits) (AreTables-after_edits s.edits c tidy.tables).mailboxes in
+    let rest : IsPlanned summary blobs (after_edits c s.edits) more =
+    planned_mailboxes summary blobs (after_edits c s.edits) more (fit_rest s.edits more c made.0) leaves (subst IsTidy (after_edits-append s.edits more c) made.1) flags in
+    record {
+      fits = made.0;
+      kept = kept_append s.edits more c led.kept rest.kept;
+      delivered = all_append (PutsNewEmail (IsDelivered summary blobs)) s.edits more (all_map (IsImport blobs) (PutsNewEmail (IsDelivered summary blobs)) s.edits (delivered blobs) led.imports) rest.delivered;
+      filed = all_append (PutsEmail IsFiled) s.edits more (all_map (IsImport blobs) (PutsEmail IsFiled) s.edits (filed blobs) led.imports) rest.filed;
+      tidy = made.1;
+      flags = flags_append s.edits more c (flags_of s.edits c puts) flags;
+    }
+  where
+    fit_rest : (es more : List Edit) (d : Content) → AllFit d (es ++ more) → AllFit (after_edits d es) more
+    fit_rest [] more d fit = fit
+    fit_rest (e ∷ es) more d fit = fit_rest es more (after_edit d e) fit.1
+
+puts_check : (s : Progress) (creation : List ℕ) (e : Email) (o : Option Refusal) → AllByRecursion puts_email s.edits → AllByRecursion puts_email (after_check s creation e o).edits
+puts_check s creation e None all = all_push puts_email s.edits (PutEmail e false) all refl
+puts_check s creation e (Some r) all = all
+
+puts_imports : (blobs : List (List ℕ)) (moment : ℕ) (xs : List Create) (s : Progress) → AllByRecursion puts_email s.edits → AllByRecursion puts_email (after_imports blobs moment s xs).edits
+puts_imports blobs moment [] s all = all
+puts_imports blobs moment (x ∷ xs) s all =
+    puts_imports blobs moment xs (after_import blobs moment s x) (puts_check s x.creation _ (refusal_of (length s.content.emails) (sent_in blobs s.content s.made x.members)) all)
+
+-- what a plan is promised to be
+pub record Promised (g : Ground) (blobs : List (List ℕ)) (moment : ℕ) (p : Plan) : Type 0 where
+  pub planned : moment ≤ last_moment → IsTidy g.content → IsPlanned summary blobs g.content p.edits
+  pub new_state : HasNewState g p.reply p.edits
+  pub flags : AreTables g.content → AreCountsFlagsRight g.content p.edits
+
+promised_imports : (g : Ground) (blobs : List (List ℕ)) (made : List Created) (moment : ℕ) (account : List ℕ) (xs : List Create) → Promised g blobs moment (plan_after g account (after_imports blobs moment (beginning g.content made) xs))
+promised_imports g blobs made moment account xs =
+    let c = g.content in
+    let s : Progress = after_imports blobs moment (beginning c made) xs in
+    record {
+      planned = λ le tidy. promised_edits blobs c s tidy (puts_imports blobs moment xs (beginning c made) tt) (led_imports blobs moment c xs (beginning c made) le (led_first blobs c made tidy));
+      new_state = refl;
+      flags = λ tables.
+          flags_append s.edits (derived_edits c s.edits) c (flags_of s.edits c (puts_imports blobs moment xs (beginning c made) tt))
+          (derived_flags c (after_edits c s.edits) (touched_threads s.edits) (AreTables-after_edits s.edits c tables).mailboxes);
+    }
+
+planned_same : (p q : Plan) → planned p ≡ planned q → p ≡ q
+planned_same p q e = cc
+
+not_large : (p : Plan) → too_large ≢ planned p
+not_large p e = cc
+
+not_mismatch : (p : Plan) → state_mismatch ≢ planned p
+not_mismatch p e = cc
+
+not_invalid : (k : List ℕ) (p : Plan) → invalid k ≢ planned p
+not_invalid k p e = cc
+
+promised_at : (g : Ground) (blobs : List (List ℕ)) (moment : ℕ) (a b : Bool) (p q : Plan) → Promised g blobs moment p → (if a then too_large else (if b then state_mismatch else planned p)) ≡ planned q → Promised g blobs moment q
+promised_at g blobs moment true b p q h e = absurd (not_large q e)
+promised_at g blobs moment false true p q h e = absurd (not_mismatch q e)
+promised_at g blobs moment false false p q h e = subst (Promised g blobs moment) (planned_same p q e) h
+
+promised_arguments : (g : Ground) (blobs : List (List ℕ)) (made : List Created) (moment : ℕ) (ms : List (List ℕ × Tree)) (o : Option (List ℕ)) (q : Plan) → outcome_of_arguments g blobs made moment ms o ≡ planned q → Promised g blobs moment q
+promised_arguments g blobs made moment ms (Some k) q e = absurd (not_invalid k q e)
+promised_arguments g blobs made moment ms None q e =
+    let xs = imports_in ms in
+    promised_at g blobs moment (nat_lt MAX_OBJECTS_PER_CALL (length xs)) (is_other_state (present_state OfEmail g) (if_in_state ms)) (plan_after g (account_in ms) (after_imports blobs moment (beginning g.content made) xs)) q
+    (promised_imports g blobs made moment (account_in ms) xs) e
+
+promised_members : (g : Ground) (blobs : List (List ℕ)) (made : List Created) (moment : ℕ) (o : Option (List (List ℕ × Tree))) (q : Plan) → outcome_of_members g blobs made moment o ≡ planned q → Promised g blobs moment q
+promised_members g blobs made moment None q e = absurd (not_invalid [] q e)
+promised_members g blobs made moment (Some ms) q e = promised_arguments g blobs made moment ms (invalid_argument ms) q e
+
+pub promised : (g : Ground) (blobs : List (List ℕ)) (args : Tree) (made : List Created) (moment : ℕ) (q : Plan) → import_outcome g blobs args made moment ≡ planned q → Promised g blobs moment q
+promised g blobs args made moment q e = promised_members g blobs made moment (as_object args) q e
+
+-- a plan promises what plans do, at each moment up to the end of the year 9999
+pub planned_import : (g : Ground) (blobs : List (List ℕ)) (args : Tree) (made : List Created) (moment : ℕ) (p : Plan) → moment ≤ last_moment → IsTidy g.content → import_outcome g blobs args made moment ≡ planned p
+    → IsPlanned summary blobs g.content p.edits
+planned_import g blobs args made moment p le tidy e = (promised g blobs args made moment p e).planned le tidy

@@ -1,0 +1,14 @@
+use Rattle.std.proofs.Common.{◌≡◌, sym, ap, subst}
+use Rattle.std.specs.Prelude.{MatchResult}
+use Rattle.jm_json.specs.Json.{tree_of}
+use Rattle.mailbox_set.specs.Plans.{ExplainsSet, Outcome, plan_of, planned}
+use Rattle.mail_counts.specs.declared.plan.SetPlan.{SetPlan}
+use Rattle.mail_counts.specs.declared.plan.SetFault.{SetFault}
+use Rattle.mail_import.proofs.Planning.{same_outcome}
+use Rattle.mail_import.proofs.plan.plan_over.Goals as goal
+
+pub returns : goal.returns
+returns c =
+    subst (λ (o : Outcome). MatchResult c.import_emails.result (λ (p : SetPlan). o ≡ planned (plan_of p)) (λ (e : SetFault). ExplainsSet e o))
+    (same_outcome c.args.account.now.history c.content.result.now.content c.log.result.now c.blobs.result.now.blobs (tree_of c.args.args.now) c.args.made.now c.args.moment c.content.ensures.content c.log.ensures c.blobs.ensures.blobs)
+    c.import_emails.ensures

@@ -1,0 +1,177 @@
+-- One import: why it is refused, the email that it creates, and what is reported of it (RFC 8621,
+-- 4.8; RFC 8620, 5.3).
+use Rattle.std.specs.Prelude.{ℕ, pos, ◌+◌, List, [], ◌∷◌, ◌++◌, length, Bool, false, not, ◌||◌, nat_lt, nat_le, Option, Some, None, is_some, unwrap_or, if◌then◌else◌, codes}
+use Rattle.jm_base.specs.Ids.{id_text}
+use Rattle.jm_base.specs.declared.identifiers.UtcDate.{UtcDate}
+use Rattle.jm_base.specs.declared.identifiers.Kind.TheVariants.{Email as OfEmail, Thread as OfThread}
+use Rattle.jm_json.specs.Tree.{Tree, number, text, list, object, trees_of, fields_of}
+use Rattle.jm_json.specs.Order.{put}
+use Rattle.jm_json.specs.declared.invocation.Created.{Created}
+use Rattle.blob_ids.specs.BlobIds.{blob_id_text}
+use Rattle.mail_records.specs.Contents.{Content}
+use Rattle.mail_records.specs.Edits.{after_edit}
+use Rattle.mail_counts.specs.declared.limits.TheConstants.{MAX_EMAILS_PER_ACCOUNT, MAX_KEYWORDS_PER_EMAIL}
+use Rattle.mail_records.specs.declared.limits.TheConstants.{MAX_MAILBOXES_PER_EMAIL}
+use Rattle.mail_records.specs.declared.records.Email.{Email}
+use Rattle.mail_records.specs.declared.records.Summary.{Summary}
+use Rattle.mail_records.specs.declared.edits.Edit.{Edit}
+use Rattle.mail_records.specs.declared.edits.Edit.TheVariants.{PutEmail}
+use Rattle.mail_summary.specs.Received.{received as received_moment}
+use Rattle.mail_summary.specs.Summaries.{summary}
+use Rattle.thread_assign.specs.Threads.{joined_thread}
+use Rattle.mailbox_set.specs.Creates.{Create}
+use Rattle.mail_import.specs.Properties.{Sent, Source, date_of, sent_in}
+use Rattle.mail_import.specs.declared.refusal.Faults.{Faults}
+use Rattle.mail_import.specs.declared.refusal.Refusal.{Refusal}
+use Rattle.mail_import.specs.declared.refusal.Refusal.TheVariants.{Invalid, TooManyKeywords, TooManyMailboxes, OverQuota}
+
+-- ---- refusals
+
+-- which properties are invalid
+abbrev pub faults_of : Sent → Faults
+faults_of a = record {
+  blob = not (is_some a.source);
+  keywords = not (is_some a.keywords);
+  mailboxes = not (is_some a.mailboxes);
+  received = not (is_some a.received);
+}
+
+abbrev pub is_faulty : Faults → Bool
+is_faulty f = f.blob || f.keywords || f.mailboxes || f.received
+
+-- Why an import is refused that would be one more of so many emails: the first reason in this
+-- order. None if it creates its email.
+abbrev pub refusal_of : ℕ → Sent → Option Refusal
+refusal_of emails a =
+    if is_faulty (faults_of a) then Some (Invalid (faults_of a))
+    else (if nat_lt MAX_KEYWORDS_PER_EMAIL (length (unwrap_or a.keywords []))
+    then Some TooManyKeywords
+    else (if nat_lt MAX_MAILBOXES_PER_EMAIL (length (unwrap_or a.mailboxes []))
+    then Some TooManyMailboxes
+    else (if nat_le MAX_EMAILS_PER_ACCOUNT emails then Some OverQuota
+    else None)))
+
+-- the name of a property, if it is invalid
+abbrev pub name_if : Bool → List ℕ → List Tree
+name_if invalid name = if invalid then text name ∷ [] else []
+
+-- the names of the invalid properties, in byte order
+abbrev pub invalid_names : Faults → List Tree
+invalid_names f =
+    ((name_if f.blob (codes "blobId")
+    ++ name_if f.keywords (codes "keywords"))
+    ++ name_if f.mailboxes (codes "mailboxIds"))
+    ++ name_if f.received (codes "receivedAt")
+
+-- a SetError of this type, with nothing else
+abbrev pub error_of_type : List ℕ → Tree
+error_of_type name = object (fields_of ((codes "type", text name) ∷ []))
+
+-- the SetError of a refusal (RFC 8620, 5.3; RFC 8621, 4.6 and 4.8)
+abbrev pub error_tree : Refusal → Tree
+error_tree (Invalid f) =
+    object (fields_of
+    ((codes "properties", list (trees_of (invalid_names f)))
+    ∷ (codes "type", text (codes "invalidProperties")) ∷ []))
+error_tree TooManyKeywords = error_of_type (codes "tooManyKeywords")
+error_tree TooManyMailboxes = error_of_type (codes "tooManyMailboxes")
+error_tree OverQuota = error_of_type (codes "overQuota")
+
+-- ---- the email
+
+-- When the email was received: the date that is sent, else that of the newest Received field of the
+-- message, which is its first, else the moment of the call, in seconds since the beginning of 1970
+-- (RFC 8621, 4.8: receivedAt).
+abbrev pub received_at : ℕ → List ℕ → Option UtcDate → UtcDate
+received_at moment bytes (Some date) = date
+received_at moment bytes None = unwrap_or (received_moment bytes) (date_of (pos moment))
+
+abbrev pub no_source : Source
+no_source = record { number = 0; bytes = [] }
+
+-- How far the imports of a call have come: the content with the emails that they created, the next
+-- number of a thread, what the request has created up to here and what this call has created of it,
+-- the edits, and what is reported of each import that is done.
+pub record Progress : Type 0 where
+  pub content : Content
+  pub next_thread : ℕ
+  pub made : List Created
+  pub fresh : List Created
+  pub edits : List Edit
+  pub created : List (List ℕ × Tree)
+  pub refused : List (List ℕ × Tree)
+
+-- The thread of a new email with this summary: the one that it joins, also one that an email of the
+-- same call began, else the next one (RFC 8621, 3).
+abbrev pub thread_for : Progress → Summary → ℕ
+thread_for s summary = unwrap_or (joined_thread s.content.emails summary) s.next_thread
+
+-- the next number of a thread, after a new email that joins a thread or begins one
+abbrev pub next_after : Option ℕ → ℕ → ℕ
+next_after joined next = if is_some joined then next else next + 1
+
+-- the email of a message that is imported with these properties
+abbrev pub email_of : Progress → ℕ → Sent → Source → Email
+email_of s moment a message = record {
+  number = s.content.next_email;
+  thread = thread_for s (summary message.bytes);
+  blob = message.number;
+  mailboxes = unwrap_or a.mailboxes [];
+  keywords = unwrap_or a.keywords [];
+  size = length message.bytes;
+  received = received_at moment message.bytes (unwrap_or a.received None);
+  summary = summary message.bytes;
+}
+
+-- ---- what is reported
+
+abbrev pub email_id : ℕ → List ℕ
+email_id n = id_text (record { kind = OfEmail; number = n })
+
+abbrev pub thread_id : ℕ → List ℕ
+thread_id n = id_text (record { kind = OfThread; number = n })
+
+-- what is reported of a new email (RFC 8621, 4.8: created)
+abbrev pub created_tree : Email → Tree
+created_tree e =
+    object (fields_of
+    ((codes "blobId", text (blob_id_text (record { blob = e.blob; leaf = None })))
+    ∷ (codes "id", text (email_id e.number))
+    ∷ (codes "size", number (pos e.size))
+    ∷ (codes "threadId", text (thread_id e.thread))
+    ∷ []))
+
+abbrev pub made_under : List ℕ → Email → Created
+made_under creation e = record { creation = creation; id = email_id e.number }
+
+-- ---- an import after those before it
+
+-- after an import that created an email
+abbrev pub after_made : Progress → List ℕ → Email → Progress
+after_made s creation e = record s {
+  content = after_edit s.content (PutEmail e false);
+  next_thread = next_after (joined_thread s.content.emails e.summary) s.next_thread;
+  made = s.made ++ made_under creation e ∷ [];
+  fresh = s.fresh ++ made_under creation e ∷ [];
+  edits = s.edits ++ PutEmail e false ∷ [];
+  created = put creation (created_tree e) s.created;
+}
+
+-- after an import that is refused, or else creates this email
+abbrev pub after_check : Progress → List ℕ → Email → Option Refusal → Progress
+after_check s creation e None = after_made s creation e
+after_check s creation e (Some refusal) =
+    record s { refused = put creation (error_tree refusal) s.refused }
+
+-- After an import, in an account with these blobs, at this moment.
+abbrev pub after_import : List (List ℕ) → ℕ → Progress → Create → Progress
+after_import blobs moment s x =
+    let a = sent_in blobs s.content s.made x.members in
+    after_check s x.creation (email_of s moment a (unwrap_or a.source no_source))
+    (refusal_of (length s.content.emails) a)
+
+-- after imports, one after the other
+abbrev pub after_imports : List (List ℕ) → ℕ → Progress → List Create → Progress
+after_imports blobs moment s [] = s
+after_imports blobs moment s (x ∷ xs) =
+    after_imports blobs moment (after_import blobs moment s x) xs

@@ -1,0 +1,6 @@
+pub mod Properties
+pub mod Imports
+pub mod Arguments
+pub mod Plans
+pub mod News
+pub mod Views

@@ -1,0 +1,62 @@
+// How far the imports of a call have come, and where they begin.
+ghost use Rattle.std.specs.Prelude.{◌≡◌, ◌≤◌, ◌<◌, ◌+◌, ◌^◌, IfOk, ℕ};
+ghost use Rattle.mail_records.specs.Contents.{AreNumbered};
+ghost use Rattle.mail_import.specs.Plans.{beginning};
+ghost use Rattle.mail_import.specs.Views.{Follows, HasNumbersFor};
+
+use crate::creation_ids::{CreatedIds, collect_ids};
+use blob_store::BlobList;
+use jm_base::{Kind, NoMemory};
+use jm_json::{Created, Members};
+use mail_records::{Content, Edit};
+use std::alloc::Global;
+
+/// What imports are performed on: the content of the account before the call, its blobs, and the
+/// moment of the call, in seconds since the beginning of 1970.
+#[derive(Clone, Copy)]
+pub struct Setting<'a> {
+    pub content: &'a Content,
+    pub blobs: &'a BlobList,
+    pub moment: u64,
+}
+
+/// How far the imports of a call have come: the next numbers of an email and of a thread, the
+/// emails that were created, by their links, and what creation ids mean; what was created, the
+/// edits, and what is reported of the imports that are done.
+#[derive(Drop)]
+pub struct Planner<'a> {
+    pub next_email: u64,
+    pub next_thread: u64,
+    pub news: Content,
+    pub ids: CreatedIds<'a>,
+    pub fresh: Vec<Created>,
+    pub edits: Vec<Edit>,
+    pub created: Members,
+    pub refused: Members,
+}
+
+/// Returns a planner before the first import.
+pub fn start_planner<'a>(
+    alloc: Global,
+    content: &Content,
+    made: &'a [Created],
+) -> Result<Planner<'a>, NoMemory>
+    requires numbered { AreNumbered content.now.content }
+    ensures follows { IfOk result
+        (λ p. Follows content.now.content p (beginning content.now.content made.now)) }
+    ensures numbers { IfOk result
+        (λ p. (n : ℕ) → content.now.content.next_email + n < 2 ^ 53
+        → content.now.content.next_thread + n < 2 ^ 53 → HasNumbersFor n p) }
+{
+    let ids = collect_ids(alloc, made)?;
+    Ok(Planner {
+        next_email: content.next(Kind::Email),
+        next_thread: content.next(Kind::Thread),
+        news: Content::new(alloc),
+        ids,
+        fresh: Vec::new(alloc),
+        edits: Vec::new(alloc),
+        created: Members::new(alloc),
+        refused: Members::new(alloc),
+    })
+}
