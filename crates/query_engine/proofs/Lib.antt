@@ -1,0 +1,12 @@
+pub mod Anchors
+pub mod Replied
+pub mod Results
+pub mod Collapsed
+pub mod Pages
+pub mod RowLists
+pub mod Walked
+pub mod Within
+pub mod Local
+pub mod Sorting
+pub mod Ran
+pub mod Walking

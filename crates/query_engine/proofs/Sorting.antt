@@ -1,0 +1,104 @@
+-- The numbers that match, sorted, are the list of matches.
+use Rattle.std.proofs.Common.{◌≡◌, ℕ, ◌+◌, ◌<◌, Bool, true, false, ◌&&◌, eqb, ltb, lt-ltb, List, [], ◌∷◌, get_or, map, filter, Option, Some, None, option_map, refl, sym, ap, ◌∙◌, subst, arith, Ordering, Less, Equal, Greater, is_lt, ne_eqb, nat_cmp, IsPermutation, ⊎_elim}
+use Rattle.std.specs.Cmp.{IsTotalOrder}
+use Rattle.std.specs.Ordering.{ordering_reverse}
+use Rattle.std.specs.List.{AllByRecursion, IsDistinct}
+use Rattle.std.specs.List.Sorted.{IsSortedBy, IsStrictlySortedBy, IsStrictlyIncreasing}
+use Rattle.std.proofs.lemmas.Bool.{cases_Bool, false≢true, eqb-false}
+use Rattle.std.proofs.lemmas.List.Kept.{AllPairs-from_increasing, IsStrictlyIncreasing-filter}
+use Rattle.std.proofs.lemmas.List.Sorted.{list_any-IsPermutation}
+use Rattle.std.proofs.lemmas.Map.Keys.{IsStrictlyIncreasing-from_sorted, sorted_from_all_adjacent, apart_from_distinct, IsDistinct-from_apart, IsDistinct-IsPermutation}
+use Rattle.jm_base.specs.Splices.{has}
+use Rattle.jm_base.specs.declared.identifiers.Kind.{Kind}
+use Rattle.jm_base.specs.declared.identifiers.Kind.TheVariants.{Mailbox as OfMailboxes, Email as OfEmails, Thread as OfThreads}
+use Rattle.jm_base.proofs.Spliced.{has-filter}
+use Rattle.mail_records.specs.Contents.{Content, email_at, email_number, mailbox_at, mailbox_number}
+use Rattle.mail_records.specs.Tables.{IsTable, lookup}
+use Rattle.mail_records.specs.declared.records.Email.{Email}
+use Rattle.mail_records.specs.declared.records.Mailbox.{Mailbox}
+use Rattle.method_args.specs.Arguments.{passes}
+use Rattle.filter_terms.specs.Filters.{holds}
+use Rattle.filter_terms.specs.Targets.{AMailbox, AnEmail, seen_in}
+use Rattle.filter_terms.specs.Texts.{MessageTexts}
+use Rattle.filter_terms.proofs.Lists.{In, in_found}
+use Rattle.query_engine.specs.Queries.{numbers_of, order_of, sorted_by}
+use Rattle.query_engine.specs.Views.{QueryTree}
+use Rattle.query_engine.specs.Walks.{is_match, kept_emails, kept_mailboxes, matches_list}
+use Rattle.query_engine.proofs.Results.{apart, one_list, sorted_is, total}
+use Rattle.query_engine.proofs.Walked.{all_of_in}
+
+less_from : (o p : Ordering) → p ≡ ordering_reverse o → is_lt p ≡ false → (o ≡ Equal → ⊥) → o ≡ Less
+less_from Less p e f n = refl
+less_from Equal p e f n = absurd (n refl)
+less_from Greater p e f n = absurd (false≢true (sym f ∙ ap is_lt e))
+
+strictly : {R : ℕ → ℕ → Ordering} → IsTotalOrder R → ((a b : ℕ) → R a b ≡ Equal → a ≡ b) → (ks : List ℕ) → IsSortedBy (λ a b. is_lt (R a b)) ks → IsDistinct eqb ks → IsStrictlySortedBy R ks
+strictly {R} total apart ks up distinct =
+    sorted_from_all_adjacent total ks 0 (λ k lt.
+    let a = get_or ks k 0 in
+    let b = get_or ks (k + 1) 0 in
+    let ne : eqb a b ≡ false = apart_from_distinct eqb ks k (k + 1) 0 distinct (omega arith) lt in
+    less_from (R a b) (R b a) (total.antisymm b a) (up k 0 (omega arith) lt) (λ e. eqb-false a b ne (apart a b e)))
+
+distinct_increasing : (ks : List ℕ) → IsStrictlyIncreasing ks → IsDistinct eqb ks
+distinct_increasing ks up =
+    IsDistinct-from_apart eqb ks (λ i j d lt in'.
+    let less = AllPairs-from_increasing ks up i j d lt in' in ne_eqb (get_or ks i d) (get_or ks j d) (λ e. omega arith))
+
+eqb_turns : (x y : ℕ) → eqb x y ≡ eqb y x
+eqb_turns x y = grind arith
+
+less_all : {X : Type 0} (number : X → ℕ) (n : ℕ) (xs : List X) → AllByRecursion (λ x. n < number x) xs → AllByRecursion (λ m. nat_cmp n m ≡ Less) (map number xs)
+less_all number n [] all = tt
+less_all number n (x ∷ xs) all =
+    ((let k : ltb n (number x) ≡ true = lt-ltb n (number x) all.0 in rw k refl), less_all number n xs all.1)
+
+numbers_sorted : {X : Type 0} (number : X → ℕ) (xs : List X) → IsTable number xs → IsStrictlySortedBy nat_cmp (map number xs)
+unfolding IsStrictlySortedBy
+numbers_sorted number [] table = tt
+numbers_sorted number (x ∷ xs) table = (less_all number (number x) xs table.0, numbers_sorted number xs table.1)
+
+numbers_rise : (kind : Kind) (c : Content) → IsTable mailbox_number c.mailboxes → IsTable email_number c.emails → IsStrictlyIncreasing (numbers_of kind c)
+unfolding IsStrictlySortedBy
+numbers_rise OfMailboxes c m e = IsStrictlyIncreasing-from_sorted (map mailbox_number c.mailboxes) (numbers_sorted mailbox_number c.mailboxes m)
+numbers_rise OfEmails c m e = IsStrictlyIncreasing-from_sorted (map email_number c.emails) (numbers_sorted email_number c.emails e)
+numbers_rise OfThreads c m e = IsStrictlyIncreasing-from_sorted [] tt
+
+-- what matches, sorted, is the list of matches
+pub sorted_matches : (q : QueryTree) (c : Content) (texts : ℕ → MessageTexts) (shown sorted : List ℕ) → IsTable mailbox_number c.mailboxes → IsTable email_number c.emails
+    → shown ≡ filter (is_match q c texts) (numbers_of q.kind c) → IsPermutation shown sorted → IsSortedBy (λ a b. is_lt (order_of q c a b)) sorted → sorted ≡ matches_list q c texts
+sorted_matches q c texts shown sorted m e is moved ordered =
+    let keep : ℕ → Bool = is_match q c texts in
+    let one : IsDistinct eqb (filter keep (numbers_of q.kind c)) = distinct_increasing (filter keep (numbers_of q.kind c)) (IsStrictlyIncreasing-filter keep (numbers_of q.kind c) (numbers_rise q.kind c m e)) in
+    let two : IsDistinct eqb sorted = IsDistinct-IsPermutation eqb eqb_turns shown sorted moved (subst (λ zs. IsDistinct eqb zs) (sym is) one) in
+    sorted_is (total q c) (apart q c) sorted (filter keep (numbers_of q.kind c)) (strictly (total q c) (apart q c) sorted ordered two)
+    (λ n. sym (list_any-IsPermutation (λ x. eqb x n) shown sorted moved) ∙ ap (λ zs. has zs n) is)
+
+-- ---- the numbers of what matches
+
+map_filter : {X : Type 0} (f : X → ℕ) (p : X → Bool) (m : ℕ → Bool) (xs : List X) → AllByRecursion (λ x. m (f x) ≡ p x) xs → map f (filter p xs) ≡ filter m (map f xs)
+map_filter f p m [] all = refl
+map_filter f p m (x ∷ xs) all =
+    ⊎_elim
+    (λ (k : p x ≡ true). rw (k, all.0 ∙ k) (ap (λ zs. f x ∷ zs) (map_filter f p m xs all.1)))
+    (λ (k : p x ≡ false). rw (k, all.0 ∙ k) (map_filter f p m xs all.1))
+    (cases_Bool (p x))
+
+pub matched_emails : (q : QueryTree) (c : Content) (texts : ℕ → MessageTexts) → IsTable email_number c.emails → q.kind ≡ OfEmails
+    → kept_emails q c texts c.emails ≡ filter (is_match q c texts) (numbers_of q.kind c)
+matched_emails q c texts table k =
+    subst (λ kind. kept_emails (record q { kind = kind }) c texts c.emails ≡ filter (is_match (record q { kind = kind }) c texts) (numbers_of kind c)) (sym k)
+    (map_filter email_number (λ e. holds OfEmails (AnEmail texts (seen_in c.emails e)) q.filter) (is_match (record q { kind = OfEmails }) c texts) c.emails
+    (all_of_in (λ e. is_match (record q { kind = OfEmails }) c texts e.number ≡ holds OfEmails (AnEmail texts (seen_in c.emails e)) q.filter) c.emails
+    (λ e i. ap (λ o. passes (λ s. holds OfEmails (AnEmail texts s) q.filter) (option_map (seen_in c.emails) o)) (in_found email_number c.emails e table i))))
+
+pub matched_mailboxes : (q : QueryTree) (c : Content) (texts : ℕ → MessageTexts) → IsTable mailbox_number c.mailboxes → q.kind ≡ OfMailboxes
+    → kept_mailboxes q c.mailboxes ≡ filter (is_match q c texts) (numbers_of q.kind c)
+matched_mailboxes q c texts table k =
+    subst (λ kind. kept_mailboxes (record q { kind = kind }) c.mailboxes ≡ filter (is_match (record q { kind = kind }) c texts) (numbers_of kind c)) (sym k)
+    (map_filter mailbox_number (λ m. holds OfMailboxes (AMailbox m) q.filter) (is_match (record q { kind = OfMailboxes }) c texts) c.mailboxes
+    (all_of_in (λ m. is_match (record q { kind = OfMailboxes }) c texts m.number ≡ holds OfMailboxes (AMailbox m) q.filter) c.mailboxes
+    (λ m i. ap (passes (λ x. holds OfMailboxes (AMailbox x) q.filter)) (in_found mailbox_number c.mailboxes m table i))))
+
+pub matched_threads : (q : QueryTree) (c : Content) (texts : ℕ → MessageTexts) → q.kind ≡ OfThreads → [] ≡ filter (is_match q c texts) (numbers_of q.kind c)
+matched_threads q c texts k = ap (λ kind. filter (is_match q c texts) (numbers_of kind c)) (sym k)

@@ -1,0 +1,53 @@
+// Why a call has no query, and why it has no response (RFC 8620, section 5.5).
+use jm_base::{NoMemory, Text};
+
+/// The arguments of a call have no query.
+#[derive(Debug, Drop)]
+pub enum QueryFault {
+    /// The argument, the condition or the member of a comparator with this name is missing or of a
+    /// wrong kind; with an empty name a whole tree is: `invalidArguments`.
+    Invalid(Text),
+    /// No filter has a condition or member of this name: `unsupportedFilter`.
+    UnsupportedFilter(Text),
+    /// No sort has this member of a comparator: `unsupportedSort`.
+    UnsupportedSort(Text),
+    /// An allocation failed.
+    NoMemory,
+}
+
+/// A call of a /query method has no response of its own.
+#[derive(Debug, Drop)]
+pub enum QueryCallFault {
+    /// As for a query, or the argument of this name does not have its form: `invalidArguments`.
+    Invalid(Text),
+    /// As for a query, or `filterAsTree` is true: `unsupportedFilter`.
+    UnsupportedFilter(Text),
+    /// As for a query, or `sortAsTree` is true: `unsupportedSort`.
+    UnsupportedSort(Text),
+    /// The anchor is not in the result list: `anchorNotFound`.
+    AnchorNotFound,
+    /// An allocation failed.
+    NoMemory,
+}
+
+impl From<NoMemory> for QueryFault {
+    ghost use Rattle.std.specs.Prelude.{◌≡◌};
+    ghost use Rattle.query_engine.specs.declared.faults.QueryFault.TheVariants.{NoMemory};
+
+    ghost from_gives = { λ _ e. e ≡ NoMemory };
+
+    fn from(_refused: NoMemory) -> QueryFault {
+        QueryFault::NoMemory
+    }
+}
+
+impl From<NoMemory> for QueryCallFault {
+    ghost use Rattle.std.specs.Prelude.{◌≡◌};
+    ghost use Rattle.query_engine.specs.declared.faults.QueryCallFault.TheVariants.{NoMemory};
+
+    ghost from_gives = { λ _ e. e ≡ NoMemory };
+
+    fn from(_refused: NoMemory) -> QueryCallFault {
+        QueryCallFault::NoMemory
+    }
+}
