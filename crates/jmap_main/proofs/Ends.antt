@@ -6,12 +6,12 @@ use Rattle.batch_lines.specs.Input.{Seen, HasAnsweredInput}
 use Rattle.batch_lines.specs.Faults.{ExplainsFault}
 use Rattle.batch_lines.specs.declared.fault.LinesFault.{LinesFault}
 use Rattle.batch_lines.specs.declared.fault.LinesFault.TheVariants as lines
-use Rattle.jmap_main.specs.Served.{account_answers, account_uploads}
+use Rattle.jmap_main.specs.AccountAnswers.{account_answers, account_uploads}
 use Rattle.jmap_main.specs.Run.{HasAnsweredBy, HasAnsweredBeforeFaultBy, HasAnsweredBeforeLimitBy}
 use Rattle.jmap_main.specs.Status.{status_of}
-use Rattle.jmap_main.specs.Ended.{Explains, ExplainsBy, ending_of, ending_of_fault}
-use Rattle.jmap_main.specs.declared.words.Command.{Command}
-use Rattle.jmap_main.specs.declared.words.Command.TheVariants.{Batch}
+use Rattle.jmap_main.specs.Endings.{Explains, ExplainsBy, ending_of, ending_of_fault}
+use Rattle.jmap_main.specs.declared.arguments.Command.{Command}
+use Rattle.jmap_main.specs.declared.arguments.Command.TheVariants.{Batch}
 use Rattle.jmap_main.specs.declared.ending.Ending.{Ending}
 use Rattle.jmap_main.specs.declared.ending.Ending.TheVariants.{Done, Usage, ReadFault, WriteFault, NoMemory, TooLong}
 

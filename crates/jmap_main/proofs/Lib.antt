@@ -3,3 +3,5 @@ pub mod Messages
 pub mod Performed
 pub mod Unstamped
 pub mod OneOutput
+pub mod Beginning
+pub mod Unfailing

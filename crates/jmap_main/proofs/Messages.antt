@@ -6,8 +6,8 @@ use Rattle.jm_edge.proofs.Known.{appends_none}
 use Rattle.jmap_main.specs.Read.{read_out}
 use Rattle.batch_lines.specs.Input.{Seen}
 use Rattle.jmap_main.specs.Run.{HasBegunMessage}
-use Rattle.jmap_main.specs.Ended.{Explains, Unread, Written}
-use Rattle.jmap_main.specs.declared.words.Command.TheVariants.{Read}
+use Rattle.jmap_main.specs.Endings.{Explains, Unread, Written}
+use Rattle.jmap_main.specs.declared.arguments.Command.TheVariants.{Read}
 use Rattle.jmap_main.specs.declared.ending.Ending.{Ending}
 use Rattle.jmap_main.specs.declared.ending.Ending.TheVariants.{Done, Usage, ReadFault, WriteFault, NoMemory, TooLong}
 

@@ -32,18 +32,18 @@ use Rattle.account_book.specs.declared.plans.Out.{Out}
 use Rattle.account_book.specs.declared.plans.Plan.{Plan}
 use Rattle.account_book.specs.declared.plans.Point.{Point}
 use Rattle.mail_calls.specs.BlobPlans.{has_room, upload_if, upload_plan}
-use Rattle.mail_calls.specs.Plans.{call_plan, changes_plan, get_plan, method_plan, plan_by}
+use Rattle.mail_calls.specs.Plans.{call_plan, changes_plan, get_plan, method_plan, plan_by, set_plan, query_plan}
 use Rattle.mail_calls.specs.Methods.{method_named}
 use Rattle.mail_calls.specs.declared.methods.Method.{Method as MailMethod}
-use Rattle.mail_calls.specs.declared.methods.Method.TheVariants.{Get, Changes, MailboxSet, EmailParse}
+use Rattle.mail_calls.specs.declared.methods.Method.TheVariants.{Get, Changes, MailboxSet, EmailImport, EmailParse, Query}
 use Rattle.batch_lines.specs.Lines.{lines_of}
 use Rattle.batch_lines.specs.Replies.{AreReplies, IsLineReply, IsRequestReply, IsUploadReply, line_text}
 use Rattle.batch_lines.specs.Uploads.{IsAnswerToBytes, IsRejected, IsUploaded, base64_bytes, limit_tree, upload_tree}
 use Rattle.batch_lines.specs.declared.upload.Uploaded.{Uploaded}
-use Rattle.jmap_main.specs.Served.{AnswersUnless, IsAccountAnswer, error_alone, account_answers, account_error, account_uploads, asked, asked_upload, point_between, replied_of, uploaded_of}
+use Rattle.jmap_main.specs.AccountAnswers.{AnswersUnless, IsAccountAnswer, error_alone, account_answers, account_error, account_uploads, asked, asked_upload, point_between, replied_of, uploaded_of}
 use Rattle.jmap_main.specs.Stamps.{AreAlike, unstamped, unstamped_entry}
 use Rattle.jmap_main.proofs.Performed.{at_ends, unchanged}
-use Rattle.jmap_main.proofs.Unstamped.{blobs_unstamped, changes_unstamped, edits_unstamped, get_unstamped, parse_unstamped}
+use Rattle.jmap_main.proofs.Unstamped.{blobs_unstamped, changes_unstamped, edits_unstamped, get_unstamped, import_unstamped, parse_unstamped, queried_unstamped}
 
 module _ {S : Type 0} (answers : S → Call → List Created → Replied → S → Type 0) (uploads : S → List ℕ → Uploaded → S → Type 0) (Alike : S → S → Type 0)
     (one : (s t : S) (c : Call) (made : List Created) (r q : Replied) (s' t' : S) → Alike s t → answers s c made r s' → answers t c made q t' → (q ≡ r) × Alike s' t')
@@ -80,14 +80,14 @@ module _ {S : Type 0} (answers : S → Call → List Created → Replied → S �
   call_one (refused response) made s t m n first other r q alike h k runs ran = alone_one response s t m n first other r q alike h k runs ran
   call_one (ready c) made s t m n first other r q alike h k runs ran = echo_one (is_echo c) c made s t m n first other r q alike h k runs ran
 
-  calls_one : (core mail : Bool) (cs : List Call) (p : Progress) (s t m n : S) (asked other : List Asked) (after final : Progress) → Alike s t → Runs answers s asked m → Runs answers t other n
-      → Answers core mail cs p asked after → Answers core mail cs p other final → (final ≡ after) × Alike m n
-  calls_one core mail [] p s t m n asked other after final alike runs ran h k = (k.1 ∙ sym h.1, alike_same s t m n alike (runs_none s m asked h.0 runs) (runs_none t n other k.0 ran))
-  calls_one core mail (c ∷ cs) p s t m n asked other after final alike runs ran (first, more, r, e, did, rest) (first', more', q, f, did', rest') =
+  calls_one : (core mail : Bool) (cs : List Call) (p : Progress) (s t m n : S) (asked other : List Asked) (after final : Progress) (taken took : ℕ) → Alike s t → Runs answers s asked m → Runs answers t other n
+      → Answers core mail cs p asked after taken → Answers core mail cs p other final took → (final ≡ after) × Alike m n
+  calls_one core mail [] p s t m n asked other after final taken took alike runs ran h k = (k.1 ∙ sym h.1, alike_same s t m n alike (runs_none s m asked h.0 runs) (runs_none t n other k.0 ran))
+  calls_one core mail (c ∷ cs) p s t m n asked other after final taken took alike runs ran (first, more, r, left, e, did, sum, rest) (first', more', q, left', f, did', sum', rest') =
       let a = runs_parts s first more m (subst (λ (xs : List Asked). Runs answers s xs m) e runs) in
       let b = runs_parts t first' more' n (subst (λ (xs : List Asked). Runs answers t xs n) f ran) in
       let both = call_one (preparation core mail c p.responses) p.made s t a.0 b.0 first first' r q alike did did' a.1 b.1 in
-      calls_one core mail cs (after_reply p r) a.0 b.0 m n more more' after final both.1 a.2 b.2 rest (subst (λ (x : Replied). Answers core mail cs (after_reply p x) more' final) both.0 rest')
+      calls_one core mail cs (after_reply p r) a.0 b.0 m n more more' after final left left' both.1 a.2 b.2 rest (subst (λ (x : Replied). Answers core mail cs (after_reply p x) more' final left') both.0 rest')
 
   abbrev OneAnswer : S → S → Outcome → Outcome → Type 0
   OneAnswer m n o p = (tree_of p.tree ≡ tree_of o.tree) × Alike m n
@@ -96,8 +96,8 @@ module _ {S : Type 0} (answers : S → Call → List Created → Replied → S �
   refused_one problem s t m n o p alike h k = (k.1.1 ∙ sym h.1.1, alike_same s t m n alike h.0 k.0)
 
   unless_one : (r : Request) (problem : Option Problem) (s t m n : S) (o p : Outcome) → Alike s t → IsOutcomeUnless answers s m r problem o → IsOutcomeUnless answers t n r problem p → OneAnswer m n o p
-  unless_one r None s t m n o p alike (asked, after, runs, did, is) (other, final, ran, did', is') =
-      let both = calls_one (uses core_capability r.using) (uses mail_capability r.using) r.calls (beginning r.created) s t m n asked other after final alike runs ran did did' in
+  unless_one r None s t m n o p alike (asked, after, taken, runs, did, few, is) (other, final, took, ran, did', few', is') =
+      let both = calls_one (uses core_capability r.using) (uses mail_capability r.using) r.calls (beginning r.created) s t m n asked other after final taken took alike runs ran did did' in
       (is'.1 ∙ ap (response_tree (is_some r.created)) both.0 ∙ sym is.1, both.1)
   unless_one r (Some problem) s t m n o p alike h k = refused_one problem s t m n o p alike h k
 
@@ -163,7 +163,9 @@ plan_by_unstamped : (h : History) (c : Call) (made : List Created) (read_only : 
 plan_by_unstamped h c made read_only None = refl
 plan_by_unstamped h c made read_only (Some (Get kind)) = ap (get_plan c) (get_unstamped h c.args read_only kind)
 plan_by_unstamped h c made read_only (Some (Changes kind)) = ap (changes_plan c) (changes_unstamped h kind c.args)
+plan_by_unstamped h c made read_only (Some (Query kind)) = ap (query_plan c) (queried_unstamped h kind c.args)
 plan_by_unstamped h c made read_only (Some MailboxSet) = rw (edits_unstamped h.entries) refl
+plan_by_unstamped h c made read_only (Some EmailImport) = ap (set_plan c) (import_unstamped h c.args made 0)
 plan_by_unstamped h c made read_only (Some EmailParse) = ap (get_plan c) (parse_unstamped h c.args)
 
 plan_unstamped : (h : History) (c : Call) (made : List Created) (read_only : Bool) → method_plan (unstamped h) c made read_only 0 ≡ method_plan h c made read_only 0

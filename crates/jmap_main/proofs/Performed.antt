@@ -15,9 +15,9 @@ use Rattle.account_book.specs.declared.asks.Ask.TheVariants.{Method}
 use Rattle.account_book.specs.declared.plans.Out.{Out}
 use Rattle.account_book.specs.declared.plans.Point.{Point}
 use Rattle.mail_calls.specs.Plans.{call_plan}
-use Rattle.mail_calls.specs.Keeping.{IsWholeMail}
-use Rattle.mail_calls.specs.Promises.{plan_keeps}
-use Rattle.jmap_main.specs.Served.{IsAccountAnswer, AnswersUnless, IsMailReply, account_answers, account_error, account_uploads, asked, asked_upload, point_between}
+use Rattle.mail_calls.specs.ValidAfterCommits.{IsWholeMail}
+use Rattle.mail_calls.specs.RuleLaws.{plan_keeps}
+use Rattle.jmap_main.specs.AccountAnswers.{IsAccountAnswer, AnswersUnless, IsMailReply, account_answers, account_error, account_uploads, asked, asked_upload, point_between}
 use Rattle.batch_lines.specs.declared.upload.Uploaded.{Uploaded}
 use Rattle.account_book.specs.declared.asks.Call.{Call as TheCall}
 
@@ -55,7 +55,7 @@ valid_after : (h k : History) (call : TheCall) (stamp : Stamp) (point : Point) (
 valid_after h k call stamp point out whole kept stays (inl answered) = subst IsWholeMail (sym (stays answered.same)) whole
 valid_after h k call stamp point out whole kept stays (inr (inl past)) = subst IsWholeMail (sym (stays past.same)) whole
 valid_after h k call stamp point out whole kept stays (inr (inr (inl refused))) = absurd (refused_shows h k stamp refused.grows kept)
-valid_after h k call stamp point out whole kept stays (inr (inr (inr entered))) = subst IsWholeMail (sym entered.grows) (plan_keeps h call 0 stamp whole entered.within)
+valid_after h k call stamp point out whole kept stays (inr (inr (inr entered))) = subst IsWholeMail (sym entered.grows) (plan_keeps h call 0 stamp (omega arith) whole entered.within)
 
 valid_answer : (h k : History) (call : TheCall) (out : Out) → IsWholeMail h → IsAccountAnswer h call out k → IsWholeMail k
 valid_answer h k call out whole did =

@@ -4,14 +4,20 @@ use Rattle.jm_base.specs.declared.identifiers.Kind.{Kind}
 use Rattle.jm_base.specs.declared.identifiers.Kind.TheVariants.{Mailbox, Email, Thread}
 use Rattle.jm_json.specs.Find.{as_object}
 use Rattle.jm_json.specs.Tree.{Tree}
+use Rattle.jm_json.specs.declared.invocation.Created.{Created}
 use Rattle.mail_records.specs.Histories.{History, Entry, Committed, Refused, blobs_in, blobs_of, content_of, edits_in, end_of, entry_blobs, entry_edits}
-use Rattle.mail_records.specs.States.{state_of}
+use Rattle.mail_records.specs.States.{state_of, last_position}
+use Rattle.mail_records.specs.Edits.{after_edits, id_of}
 use Rattle.mail_records.specs.declared.edits.Edit.{Edit}
+use Rattle.mail_import.specs.Plans.{import_in, import_outcome}
 use Rattle.mail_view.specs.Gets.{get_emails, get_of_kind}
 use Rattle.mail_view.specs.Parses.{parse_emails, parse_in}
 use Rattle.change_calls.specs.Changes.{answered, answer_since, answer_within, greatest_upto, is_state_of, may_end, maximum_of, page_of, page_end, reached_state}
 use Rattle.change_calls.specs.declared.page.ChangePage.{ChangePage}
 use Rattle.change_calls.specs.Responses.{changes_outcome, invalid_argument, max_in, outcome_by, outcome_of_members, outcome_with, string_in}
+use Rattle.message_texts.specs.Texts.{texts_of_blobs}
+use Rattle.query_engine.specs.Responses.{query_outcome}
+use Rattle.mail_calls.specs.Plans.{queried}
 use Rattle.jmap_main.specs.Stamps.{unstamped, unstamped_entry}
 
 edits_of_entry : (e : Entry) → entry_edits (unstamped_entry e) ≡ entry_edits e
@@ -82,3 +88,17 @@ members_unstamped h kind (Some ms) = with_unstamped h kind ms (invalid_argument 
 
 pub changes_unstamped : (h : History) (kind : Kind) (args : Tree) → changes_outcome (unstamped h) kind args ≡ changes_outcome h kind args
 changes_unstamped h kind args = members_unstamped h kind (as_object args)
+
+-- ---- imports
+
+pub import_unstamped : (h : History) (args : Tree) (made : List Created) (moment : ℕ) → import_in (unstamped h) args made moment ≡ import_in h args made moment
+import_unstamped h args made moment =
+    ap₂ (λ (es : List Edit) (bs : List (List ℕ)). import_outcome (record { content = after_edits h.base es; floor = h.floor; floors = h.floors; ids = map id_of es }) (h.base_blobs ++ bs) args made moment) (edits_unstamped h.entries)
+    (blobs_unstamped h.entries)
+
+-- ---- queries
+
+pub queried_unstamped : (h : History) (kind : Kind) (args : Tree) → queried (unstamped h) kind args ≡ queried h kind args
+queried_unstamped h kind args =
+    ap (λ (bs : List (List ℕ)). query_outcome kind (state_of (unstamped h) kind) (content_of (unstamped h)) (texts_of_blobs (h.base_blobs ++ bs)) args) (blobs_unstamped h.entries)
+    ∙ ap (λ (es : List Edit). query_outcome kind (last_position kind h.floor h.floors (map id_of es)) (after_edits h.base es) (texts_of_blobs (blobs_of h)) args) (edits_unstamped h.entries)

@@ -1,7 +1,7 @@
-pub mod Served
+pub mod AccountAnswers
 pub mod Stamps
 pub mod Read
-pub mod Words
+pub mod Arguments
 pub mod Status
 pub mod Run
-pub mod Ended
+pub mod Endings

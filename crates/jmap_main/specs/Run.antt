@@ -3,10 +3,10 @@ use Rattle.std.specs.Prelude.{◌≡◌, ◌⊎◌, ℕ, ◌<◌, ◌≤◌, Lis
 use Rattle.mail_records.specs.Histories.{History, empty_history}
 use Rattle.batch_lines.specs.Input.{Seen, HasRead, HasWritten, HasReadAll, HasAnsweredInput, HasAnsweredEnded, HasAnsweredWithin, HasBegunInput}
 use Rattle.jmap_main.specs.Read.{read_out}
-use Rattle.jmap_main.specs.Served.{account_answers, account_halts, account_stops, account_uploads}
+use Rattle.jmap_main.specs.AccountAnswers.{account_answers, account_halts, account_stops, account_uploads}
 use Rattle.jmap_main.specs.declared.read.TheConstants.{MAX_MESSAGE_BYTES}
-use Rattle.jmap_main.specs.declared.words.Command.{Command}
-use Rattle.jmap_main.specs.declared.words.Command.TheVariants.{Batch, Read}
+use Rattle.jmap_main.specs.declared.arguments.Command.{Command}
+use Rattle.jmap_main.specs.declared.arguments.Command.TheVariants.{Batch, Read}
 
 -- ---- of `read`
 

@@ -4,11 +4,11 @@ ghost use Rattle.jm_json.specs.Call.{Call};
 ghost use Rattle.jm_json.specs.declared.invocation.Created.{Created};
 ghost use Rattle.jm_json.specs.declared.invocation.Replied.{Replied};
 ghost use Rattle.mail_records.specs.Histories.{History, empty_history};
-ghost use Rattle.mail_calls.specs.Keeping.{IsWholeMail};
+ghost use Rattle.mail_calls.specs.ValidAfterCommits.{IsWholeMail};
 ghost use Rattle.batch_lines.specs.Lines.{lines_of};
 ghost use Rattle.batch_lines.specs.Replies.{AreReplies};
 ghost use Rattle.batch_lines.specs.declared.upload.Uploaded.{Uploaded};
-ghost use Rattle.jmap_main.specs.Served.{account_answers, account_uploads};
+ghost use Rattle.jmap_main.specs.AccountAnswers.{account_answers, account_uploads};
 ghost use Rattle.jmap_main.specs.Stamps.{AreAlike};
 
 /// What `batch` writes is one function of the bytes of its input. From accounts that differ in the

@@ -1,15 +1,16 @@
 //! The program `jmap`: a JMAP mail server and a synchronising client.
 #![tactic(auto)]
 
+mod account_port;
+mod arguments;
 mod ending;
 mod laws;
+mod memory_book;
+mod message_line;
 mod read;
 mod run;
-mod served;
-mod shown;
 #[cfg(test)]
 mod tests;
-mod words;
 
 use crate::ending::Ending;
 use crate::run::{NoWorld, run};

@@ -4,11 +4,11 @@ ghost use Rattle.std.specs.Io.KnownBytes.{Consumes, IsAtEnd};
 ghost use Rattle.batch_lines.specs.Input.{seen};
 ghost use Rattle.jmap_main.specs.Read.{read_out};
 ghost use Rattle.jmap_main.specs.Run.{HasBegun};
-ghost use Rattle.jmap_main.specs.Ended.{Explains, Unread, Written};
+ghost use Rattle.jmap_main.specs.Endings.{Explains, Unread, Written};
 
+use crate::arguments::Command;
 use crate::ending::Ending;
-use crate::shown::message_line;
-use crate::words::Command;
+use crate::message_line::message_line;
 use jm_base::Bytes;
 use jm_edge::{Sink, Source, put_all};
 use std::alloc::Global;

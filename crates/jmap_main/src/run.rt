@@ -1,16 +1,16 @@
 // The top call: all that the program does.
 ghost use Rattle.std.specs.Prelude.{◌≡◌, ◌↔◌, None, map, string_bytes};
 ghost use Rattle.jm_edge.specs.Causes.{Rose};
-ghost use Rattle.jmap_main.specs.Words.{command_of};
+ghost use Rattle.jmap_main.specs.Arguments.{command_of};
 ghost use Rattle.batch_lines.specs.Input.{seen};
 ghost use Rattle.jmap_main.specs.Run.{HasBegun, HasAnsweredBy, HasAnsweredBeforeFaultBy, HasAnsweredBeforeLimitBy, HasBegunBy};
 ghost use Rattle.jmap_main.specs.Status.{Says};
-ghost use Rattle.jmap_main.specs.Ended.{Explains, ExplainsBy, ending_of};
+ghost use Rattle.jmap_main.specs.Endings.{Explains, ExplainsBy, ending_of};
 
+use crate::account_port::AccountPort;
+use crate::arguments::Command;
 use crate::ending::{Ending, Status};
 use crate::read::read_message;
-use crate::served::AccountPort;
-use crate::words::Command;
 use batch_lines::{LinesFault, answer_lines};
 use jm_edge::{Sink, Source};
 use std::alloc::Global;
@@ -83,7 +83,7 @@ fn perform<S: Source, O: Sink>(
     ensures begun { HasBegunBy (command_of (map string_bytes words.now))
         (seen S.left S.faults source.old source.new O.held O.faults out.old out.new) }
 {
-    match Command::of_words(words) {
+    match Command::of_arguments(words) {
         Some(command) => perform_command(alloc, command, source, out),
         None => Ending::Usage,
     }

@@ -1,3 +1,5 @@
 pub mod Sets
 pub mod Rooms
 pub mod Changes
+pub mod Queries
+pub mod ValidityTested

@@ -4,26 +4,27 @@ use Rattle.std.proofs.lemmas.Bool.{false≢true, ltb-false, leb-false}
 use Rattle.mail_records.specs.Histories.{History, blobs_of}
 use Rattle.blob_ids.specs.BlobIds.{blob_id_in}
 use Rattle.blob_ids.specs.declared.ids.BlobId.{BlobId}
+use Rattle.blob_store.specs.declared.limits.TheConstants.{MAX_BLOB_BYTES_PER_ACCOUNT, MAX_BLOBS_PER_ACCOUNT}
 use Rattle.blob_store.specs.Blobs.{HasRoomFor, byte_count}
 use Rattle.mail_calls.specs.BlobPlans.{bytes_by, bytes_named, has_room, upload_if, upload_plan}
 
 -- what a list of blobs says of its room
 pub room_is : (full : Bool) (size : ℕ) (blobs : List (List ℕ)) → (IsTrue full ↔ ¬ (HasRoomFor size blobs)) → not full ≡ has_room size blobs
-room_is full size blobs told = by_tests full (nat_lt (length blobs) 1000000) (nat_le (byte_count blobs + size) 134217728) refl refl told
+room_is full size blobs told = by_tests full (nat_lt (length blobs) MAX_BLOBS_PER_ACCOUNT) (nat_le (byte_count blobs + size) MAX_BLOB_BYTES_PER_ACCOUNT) refl refl told
   where
-    some_room : nat_lt (length blobs) 1000000 ≡ true → nat_le (byte_count blobs + size) 134217728 ≡ true → HasRoomFor size blobs
+    some_room : nat_lt (length blobs) MAX_BLOBS_PER_ACCOUNT ≡ true → nat_le (byte_count blobs + size) MAX_BLOB_BYTES_PER_ACCOUNT ≡ true → HasRoomFor size blobs
     some_room p q =
-        let less = ltb-true (length blobs) 1000000 p in
-        let most = leb-true (byte_count blobs + size) 134217728 q in
+        let less = ltb-true (length blobs) MAX_BLOBS_PER_ACCOUNT p in
+        let most = leb-true (byte_count blobs + size) MAX_BLOB_BYTES_PER_ACCOUNT q in
         record { count = omega arith; bytes = omega arith }
 
-    many : nat_lt (length blobs) 1000000 ≡ false → HasRoomFor size blobs → ⊥
-    many p room = let past = ltb-false (length blobs) 1000000 p in let count = room.count in omega arith
+    many : nat_lt (length blobs) MAX_BLOBS_PER_ACCOUNT ≡ false → HasRoomFor size blobs → ⊥
+    many p room = let past = ltb-false (length blobs) MAX_BLOBS_PER_ACCOUNT p in let count = room.count in omega arith
 
-    big : nat_le (byte_count blobs + size) 134217728 ≡ false → HasRoomFor size blobs → ⊥
-    big q room = let past = leb-false (byte_count blobs + size) 134217728 q in let bytes = room.bytes in omega arith
+    big : nat_le (byte_count blobs + size) MAX_BLOB_BYTES_PER_ACCOUNT ≡ false → HasRoomFor size blobs → ⊥
+    big q room = let past = leb-false (byte_count blobs + size) MAX_BLOB_BYTES_PER_ACCOUNT q in let bytes = room.bytes in omega arith
 
-    by_tests : (f a b : Bool) → nat_lt (length blobs) 1000000 ≡ a → nat_le (byte_count blobs + size) 134217728 ≡ b → (IsTrue f ↔ ¬ (HasRoomFor size blobs)) → not f ≡ (a && b)
+    by_tests : (f a b : Bool) → nat_lt (length blobs) MAX_BLOBS_PER_ACCOUNT ≡ a → nat_le (byte_count blobs + size) MAX_BLOB_BYTES_PER_ACCOUNT ≡ b → (IsTrue f ↔ ¬ (HasRoomFor size blobs)) → not f ≡ (a && b)
     by_tests true true true p q told = absurd (told.0 refl (some_room p q))
     by_tests true true false p q told = refl
     by_tests true false b p q told = refl

@@ -1,22 +1,23 @@
 -- The plan of a set, from what its outcome is over the account's content and log.
-use Rattle.std.proofs.Common.{◌≡◌, ℕ, List, [], ◌∷◌, Result, IfOk, codes, refl, sym, ap, ap₂, ◌∙◌, subst}
+use Rattle.std.proofs.Common.{◌≡◌, ℕ, List, [], ◌∷◌, Result, Ok, Err, IfOk, IfErr, codes, refl, sym, ap, ap₂, ◌∙◌, subst}
 use Rattle.jm_base.specs.declared.memory.NoMemory.{NoMemory}
 use Rattle.jm_base.specs.declared.identifiers.Id.{Id}
 use Rattle.jm_json.specs.Call.{Call as Invocation}
+use Rattle.jm_json.specs.Json.{tree_of}
 use Rattle.jm_json.specs.Tree.{Tree}
 use Rattle.jm_json.specs.declared.invocation.Created.{Created}
 use Rattle.mail_records.specs.Contents.{Content}
 use Rattle.mail_records.specs.Histories.{History, Floors, content_of, ids_of}
+use Rattle.mail_counts.specs.declared.plan.SetPlan.{SetPlan}
 use Rattle.mail_counts.specs.declared.plan.SetFault.{SetFault}
-use Rattle.mail_counts.specs.declared.plan.SetFault.TheVariants.{Invalid, TooLarge, StateMismatch}
 use Rattle.state_log.specs.Logs.{Notes, IsLogOf, ids_in}
 use Rattle.state_log.proofs.Agreement.{ids_in-log}
 use Rattle.mail_counts.specs.Plans.{Ground}
-use Rattle.mailbox_set.specs.Plans.{Outcome, ExplainsSet, ground_of, set_outcome}
+use Rattle.mailbox_set.specs.Plans.{Outcome, ExplainsSet, ground_of, plan_of, set_outcome}
 use Rattle.mailbox_set.specs.Plans as sets
 use Rattle.account_book.specs.declared.plans.Out.TheVariants.{Replies}
 use Rattle.account_book.specs.declared.plans.Plan.{Plan}
-use Rattle.mail_calls.specs.Plans.{refused, response_to, set_plan, ground_in}
+use Rattle.mail_calls.specs.Plans.{IsOutcomeOf, refused, response_to, set_plan, ground_in}
 
 same_ground : (c d : Content) (m n : ℕ) (e f : Floors) (x y : List Id) → c ≡ d → m ≡ n → e ≡ f → x ≡ y
     → (let g : Ground = record { content = c; floor = m; floors = e; ids = x } in g) ≡ record { content = d; floor = n; floors = f; ids = y }
@@ -30,13 +31,33 @@ same_outcome h c l args made content log =
     ap (λ (g : Ground). set_outcome g args made)
     (same_ground c (content_of h) l.floor h.floor l.floors h.floors (ids_in l.notes) (ids_of h) content log.floor log.floors (ids_in-log h l log))
 
--- a set that is planned is answered by its one response
-pub planned_set : (r : Result Plan NoMemory) (c : Invocation) (o : Outcome) (p : sets.Plan) (response : Invocation) → o ≡ sets.planned p → response ≡ response_to c p.reply
-    → IfOk r (λ x. x ≡ record { out = Replies (record { responses = response ∷ []; made = p.made }); blobs = []; edits = p.edits }) → IfOk r (λ x. x ≡ set_plan c o)
-planned_set r c o p response is same h =
-    subst (λ (x : Outcome). IfOk r (λ y. y ≡ set_plan c x)) (sym is)
-    (subst (λ (s : Invocation). IfOk r (λ y. y ≡ record { out = Replies (record { responses = s ∷ []; made = p.made }); blobs = []; edits = p.edits })) same h)
+-- a planner's clauses together say which outcome it returned
+pub outcome_told : (r : Result SetPlan SetFault) (o : Outcome) → IfOk r (λ p. o ≡ sets.planned (plan_of p)) → IfErr r (λ e. ExplainsSet e o) → IsOutcomeOf r o
+outcome_told (Ok p) o ok err = ok
+outcome_told (Err e) o ok err = err
 
--- a set that is refused is answered by its error
-pub refused_set : (r : Result Plan NoMemory) (c : Invocation) (o q : Outcome) (kind : List ℕ) → o ≡ q → set_plan c q ≡ refused c kind → IfOk r (λ x. x ≡ refused c kind) → IfOk r (λ x. x ≡ set_plan c o)
-refused_set r c o q kind is plan h = subst (λ (p : Plan). IfOk r (λ y. y ≡ p)) (sym (ap (set_plan c) is ∙ plan)) h
+-- what answers each outcome that was returned answers this one
+pub answer_to : (r : Result Plan NoMemory) (c : Invocation) (returned : Result SetPlan SetFault) (o : Outcome) → IsOutcomeOf returned o → IfOk r (λ p. (q : Outcome) → IsOutcomeOf returned q → p ≡ set_plan c q) → IfOk r (λ p. p ≡ set_plan c o)
+answer_to (Ok p) c returned o told all = all o told
+answer_to (Err e) c returned o told all = tt
+
+abbrev with_response : SetPlan → Invocation → Plan
+with_response x response = record { out = Replies (record { responses = response ∷ []; made = x.made }); blobs = []; edits = x.edits }
+
+-- a set that is planned is answered by its one response
+pub planned_set : (r : Result Plan NoMemory) (c : Invocation) (returned : Result SetPlan SetFault) (x : SetPlan) (response : Invocation) → returned ≡ Ok x → response ≡ response_to c (tree_of x.reply)
+    → IfOk r (λ p. p ≡ record { out = Replies (record { responses = response ∷ []; made = x.made }); blobs = []; edits = x.edits }) → IfOk r (λ p. (o : Outcome) → IsOutcomeOf returned o → p ≡ set_plan c o)
+planned_set (Ok p) c returned x response is same h = λ o told.
+    h ∙ (ap (with_response x) same ∙ sym (ap (set_plan c) (subst (λ (y : Result SetPlan SetFault). IsOutcomeOf y o) is told)))
+planned_set (Err e) c returned x response is same h = tt
+
+-- a set that is rejected is answered by its error
+pub refused_set : (r : Result Plan NoMemory) (c : Invocation) (returned : Result SetPlan SetFault) (e : SetFault) → returned ≡ Err e → IfOk r (λ p. (o : Outcome) → ExplainsSet e o → p ≡ set_plan c o)
+    → IfOk r (λ p. (o : Outcome) → IsOutcomeOf returned o → p ≡ set_plan c o)
+refused_set (Ok p) c returned e is all = λ o told. all o (subst (λ (y : Result SetPlan SetFault). IsOutcomeOf y o) is told)
+refused_set (Err x) c returned e is all = tt
+
+pub rejected_set : (r : Result Plan NoMemory) (c : Invocation) (fault e : SetFault) (kind : List ℕ) → fault ≡ e → ((o : Outcome) → ExplainsSet e o → set_plan c o ≡ refused c kind) → IfOk r (λ p. p ≡ refused c kind)
+    → IfOk r (λ p. (o : Outcome) → ExplainsSet fault o → p ≡ set_plan c o)
+rejected_set (Ok p) c fault e kind is tells h = λ o told. h ∙ sym (tells o (subst (λ (y : SetFault). ExplainsSet y o) is told))
+rejected_set (Err x) c fault e kind is tells h = tt

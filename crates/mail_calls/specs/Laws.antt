@@ -1,4 +1,4 @@
--- The summary of each message is one that can be kept: its links are at most 100 and rise, and its date is of the years 0001 to
+-- The summary of each message is one that can be kept: its links are at most `MAX_LINKS_PER_EMAIL` and rise, and its date is of the years 0001 to
 -- 9999.
 use Rattle.std.proofs.Common.{ltb-true, ◌≤ℤ◌, ◌≡◌, ℕ, ◌+◌, ◌<◌, ◌≤◌, Bool, true, false, cond, List, [], ◌∷◌, length, filter, nat_lt, Option, Some, None, Ordering, Less, Equal, Greater, refl, sym, ap, ◌∙◌, subst, arith, ℤ, pos, negsuc, ◌&&◌, int_le}
 use Rattle.std.specs.List.{AllByRecursion}
@@ -8,6 +8,8 @@ use Rattle.std.specs.Ordering.{nat_cmp, ordering_reverse}
 use Rattle.std.specs.Cmp.Lexicographic.{slice_cmp, nat_list_cmp_total}
 use Rattle.jm_base.specs.UtcDates.{IsUtcDate}
 use Rattle.jm_base.specs.declared.identifiers.UtcDate.{UtcDate}
+use Rattle.jm_base.specs.declared.utc_dates.TheConstants.{FIRST_TIMESTAMP, LAST_TIMESTAMP}
+use Rattle.mail_records.specs.declared.limits.TheConstants.{MAX_LINKS_PER_EMAIL}
 use Rattle.mail_records.specs.Commits.{TextsRise}
 use Rattle.mail_summary.specs.Links.{put, put_if_few, gathered, links, all_ids, is_short}
 use Rattle.mail_summary.specs.Summaries.{summary, sent_by, last_field_value}
@@ -60,21 +62,21 @@ put_length : (id : List ℕ) (xs : List (List ℕ)) → length (put id xs) ≤ l
 put_length id [] = omega arith
 put_length id (x ∷ xs) = length_at _ id x xs refl (put_length id xs)
 
--- at most 100 texts that rise
+-- at most `MAX_LINKS_PER_EMAIL` texts that rise
 pub record AreLinks (xs : List (List ℕ)) : Type 0 where
-  pub few : length xs ≤ 100
+  pub few : length xs ≤ MAX_LINKS_PER_EMAIL
   pub rise : TextsRise xs
 
-more_at : (b : Bool) (id : List ℕ) (kept : List (List ℕ)) → nat_lt (length kept) 100 ≡ b → AreLinks kept → AreLinks (cond b (put id kept) kept)
+more_at : (b : Bool) (id : List ℕ) (kept : List (List ℕ)) → nat_lt (length kept) MAX_LINKS_PER_EMAIL ≡ b → AreLinks kept → AreLinks (cond b (put id kept) kept)
 more_at true id kept e are =
-    let room : length kept < 100 = omega (arith, ltb-true (length kept) 100 e) in
+    let room : length kept < MAX_LINKS_PER_EMAIL = omega (arith, ltb-true (length kept) MAX_LINKS_PER_EMAIL e) in
     let one = put_length id kept in
     record { few = omega (arith, one, room); rise = put_rises id kept are.rise }
 more_at false id kept e are = are
 
 gathered_links : (kept ids : List (List ℕ)) → AreLinks kept → AreLinks (gathered kept ids)
 gathered_links kept [] are = are
-gathered_links kept (id ∷ ids) are = gathered_links (put_if_few id kept) ids (more_at (nat_lt (length kept) 100) id kept refl are)
+gathered_links kept (id ∷ ids) are = gathered_links (put_if_few id kept) ids (more_at (nat_lt (length kept) MAX_LINKS_PER_EMAIL) id kept refl are)
 
 no_links : AreLinks []
 unfolding IsStrictlySortedBy
@@ -92,11 +94,11 @@ and_both false b e = absurd (cc)
 le_of : (a b : ℤ) → int_le a b ≡ true → a ≤ℤ b
 le_of a b e = grind (arith, ints)
 
-dated_by : (b : Bool) (seconds : ℤ) → (int_le (negsuc 62135596799) seconds && int_le seconds (pos 253402300799)) ≡ b → ForSome (cond b (Some (let d : UtcDate = record { seconds = seconds } in d)) None) IsUtcDate
+dated_by : (b : Bool) (seconds : ℤ) → (int_le FIRST_TIMESTAMP seconds && int_le seconds (pos LAST_TIMESTAMP)) ≡ b → ForSome (cond b (Some (let d : UtcDate = record { seconds = seconds } in d)) None) IsUtcDate
 dated_by false seconds e = λ d is. absurd (cc)
 dated_by true seconds e =
-    let both = and_both (int_le (negsuc 62135596799) seconds) (int_le seconds (pos 253402300799)) e in
-    λ d is. subst IsUtcDate (same_Some (let x : UtcDate = record { seconds = seconds } in x) d is) (record { not_before = le_of (negsuc 62135596799) seconds both.0; not_after = le_of seconds (pos 253402300799) both.1 })
+    let both = and_both (int_le FIRST_TIMESTAMP seconds) (int_le seconds (pos LAST_TIMESTAMP)) e in
+    λ d is. subst IsUtcDate (same_Some (let x : UtcDate = record { seconds = seconds } in x) d is) (record { not_before = le_of FIRST_TIMESTAMP seconds both.0; not_after = le_of seconds (pos LAST_TIMESTAMP) both.1 })
 
 dated : (seconds : ℤ) → ForSome (if_in_range seconds) IsUtcDate
 dated seconds = dated_by _ seconds refl

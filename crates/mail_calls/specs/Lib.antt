@@ -1,8 +1,9 @@
 pub mod Methods
-pub mod Whole
+pub mod ValidAccounts
+pub mod MessageTests
 pub mod BlobPlans
 pub mod Plans
 pub mod Laws
-pub mod Keeping
-pub mod Kept
-pub mod Promises
+pub mod ValidAfterCommits
+pub mod ValidAfterCalls
+pub mod RuleLaws

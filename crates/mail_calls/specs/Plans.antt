@@ -1,20 +1,28 @@
 -- What calls on a mail account plan (RFC 8620, 6; RFC 8621). Of the methods the /get and /changes
--- of each kind, creating by Mailbox/set, and Email/parse are built.
-use Rattle.std.specs.Prelude.{ℕ, List, [], ◌∷◌, Bool, codes, Option, Some, None}
+-- of each kind, the /query of mailboxes and emails, creating by Mailbox/set, Email/import and
+-- Email/parse are built.
+use Rattle.std.specs.Prelude.{◌≡◌, ℕ, List, [], ◌∷◌, Bool, codes, Option, Some, None, Result, MatchResult}
 use Rattle.jm_json.specs.Call.{Call as Invocation, error_of}
 use Rattle.jm_json.specs.Invocations.{call_of}
 use Rattle.jm_json.specs.Tree.{Tree}
 use Rattle.jm_json.specs.declared.invocation.Created.{Created}
+use Rattle.jm_base.specs.declared.identifiers.Kind.{Kind}
 use Rattle.jm_base.specs.declared.identifiers.Kind.TheVariants.{Mailbox as OfMailbox, Email as OfEmail, Thread as OfThread}
-use Rattle.mail_records.specs.Histories.{History, blobs_of}
+use Rattle.mail_records.specs.Histories.{History, blobs_of, content_of}
 use Rattle.mail_records.specs.States.{state_of}
 use Rattle.mail_view.specs.Gets.{Got, invalid, too_large, got, get_of_kind}
 use Rattle.mail_view.specs.Parses.{parse_in}
 use Rattle.mail_counts.specs.Plans.{Ground, ground_of_history}
-use Rattle.mailbox_set.specs.Plans.{Outcome, set_outcome}
+use Rattle.mail_counts.specs.declared.plan.SetPlan.{SetPlan}
+use Rattle.mail_counts.specs.declared.plan.SetFault.{SetFault}
+use Rattle.mailbox_set.specs.Plans.{ExplainsSet, Outcome, plan_of, set_outcome}
 use Rattle.mailbox_set.specs.Plans as sets
+use Rattle.mail_import.specs.Plans.{import_in}
 use Rattle.change_calls.specs.Responses as change
 use Rattle.change_calls.specs.Responses.{changes_outcome}
+use Rattle.message_texts.specs.Texts.{texts_of_blobs}
+use Rattle.query_engine.specs.Responses as queries
+use Rattle.query_engine.specs.Responses.{query_outcome}
 use Rattle.account_book.specs.declared.asks.Ask.{Ask}
 use Rattle.account_book.specs.declared.asks.Ask.TheVariants.{Method, Upload, Blob, Fetch, Place, States}
 use Rattle.account_book.specs.declared.asks.Call.{Call}
@@ -25,7 +33,7 @@ use Rattle.account_book.specs.declared.plans.Plan.{Plan}
 use Rattle.mail_calls.specs.BlobPlans.{bytes_named, upload_plan}
 use Rattle.mail_calls.specs.Methods.{method_named}
 use Rattle.mail_calls.specs.declared.methods.Method.{Method as MailMethod}
-use Rattle.mail_calls.specs.declared.methods.Method.TheVariants.{Get, Changes, MailboxSet, EmailParse}
+use Rattle.mail_calls.specs.declared.methods.Method.TheVariants.{Get, Changes, MailboxSet, EmailImport, EmailParse, Query}
 
 -- nothing is answered, and nothing changed
 abbrev pub silent : Plan
@@ -63,7 +71,20 @@ changes_plan c (change.invalid name) = refused c (codes "invalidArguments")
 changes_plan c change.cannot_tell = refused c (codes "cannotCalculateChanges")
 changes_plan c (change.replied reply) = answered (response_to c reply)
 
--- the plan of a set
+-- the outcome of a query of a kind over the account's content, where texts are those of its blobs
+abbrev pub queried : History → Kind → Tree → queries.Outcome
+queried h kind args =
+    query_outcome kind (state_of h kind) (content_of h) (texts_of_blobs (blobs_of h)) args
+
+-- the plan of a query
+abbrev pub query_plan : Invocation → queries.Outcome → Plan
+query_plan c (queries.invalid_call name) = refused c (codes "invalidArguments")
+query_plan c (queries.unsupported_filter_call name) = refused c (codes "unsupportedFilter")
+query_plan c (queries.unsupported_sort_call name) = refused c (codes "unsupportedSort")
+query_plan c queries.no_anchor = refused c (codes "anchorNotFound")
+query_plan c (queries.replied reply) = answered (response_to c reply)
+
+-- the plan of a set or of an import
 abbrev pub set_plan : Invocation → Outcome → Plan
 set_plan c (sets.invalid name) = refused c (codes "invalidArguments")
 set_plan c sets.too_large = refused c (codes "requestTooLarge")
@@ -73,6 +94,11 @@ set_plan c (sets.planned p) = record {
   blobs = [];
   edits = p.edits;
 }
+
+-- what the planner of a set or of an import returned tells this outcome
+abbrev pub IsOutcomeOf : Result SetPlan SetFault → Outcome → Type 0
+IsOutcomeOf returned o =
+    MatchResult returned (λ p. o ≡ sets.planned (plan_of p)) (λ e. ExplainsSet e o)
 
 -- what a set of mailboxes is planned on
 abbrev pub ground_in : History → Ground
@@ -87,8 +113,11 @@ plan_by h c made read_only moment (Some (Get kind)) =
     get_plan c (get_of_kind kind h c.args read_only)
 plan_by h c made read_only moment (Some (Changes kind)) =
     changes_plan c (changes_outcome h kind c.args)
+plan_by h c made read_only moment (Some (Query kind)) = query_plan c (queried h kind c.args)
 plan_by h c made read_only moment (Some MailboxSet) =
     set_plan c (set_outcome (ground_in h) c.args made)
+plan_by h c made read_only moment (Some EmailImport) =
+    set_plan c (import_in h c.args made moment)
 plan_by h c made read_only moment (Some EmailParse) = get_plan c (parse_in h c.args)
 
 -- the plan of a method, by its name

@@ -121,8 +121,8 @@ pub(crate) fn plan_bytes(alloc: Global, account: &Account, name: &str) -> Result
     Ok(plan_reading(alloc, Out::Blob(bytes)))
 }
 
-// Returns the state of a kind of record.
-fn state_in(account: &Account, kind: Kind) -> u64
+/// Returns the state of a kind of record.
+pub(crate) fn state_in(account: &Account, kind: Kind) -> u64
     ensures { result ≡ state_of account.now.history kind }
 {
     account.log().state_of(kind)

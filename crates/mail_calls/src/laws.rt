@@ -12,11 +12,11 @@ ghost use Rattle.account_book.specs.declared.asks.Call.{Call};
 ghost use Rattle.account_book.specs.declared.plans.Plan.{Plan};
 ghost use Rattle.plan_promises.specs.Messages.{IsFormedSummary};
 ghost use Rattle.plan_promises.specs.Planned.{IsPlanned};
-ghost use Rattle.mail_calls.specs.Keeping.{IsWholeMail};
+ghost use Rattle.mail_calls.specs.ValidAfterCommits.{IsWholeMail};
 ghost use Rattle.mail_calls.specs.Plans.{call_plan};
 
-/// The summary of every message can be kept: it has at most 100 links, which rise, and its date is
-/// of the years 1 to 9999.
+/// The summary of every message can be kept: it has at most `MAX_LINKS_PER_EMAIL` links, which
+/// rise, and its date is of the years 1 to 9999.
 pub fn summaries_can_be_kept()
     ensures { (bytes : List ℕ) → IsFormedSummary (summary bytes) }
 {}

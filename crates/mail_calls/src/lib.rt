@@ -9,6 +9,7 @@ mod plans;
 mod rules;
 #[cfg(test)]
 mod tests;
+mod validity;
 
 pub use laws::{
     planned_edits_keep_accounts_valid, plans_say_which_puts_change_only_counts,

@@ -13,8 +13,12 @@ pub enum Method {
     /// The `/changes` of a kind: `Mailbox/changes`, `Thread/changes` or `Email/changes` (RFC 8621,
     /// sections 2.2, 3.2 and 4.3).
     Changes(Kind),
+    /// The `/query` of a kind: `Mailbox/query` or `Email/query` (RFC 8621, sections 2.3 and 4.4).
+    Query(Kind),
     /// `Mailbox/set` (RFC 8621, section 2.5).
     MailboxSet,
+    /// `Email/import` (RFC 8621, section 4.8).
+    EmailImport,
     /// `Email/parse` (RFC 8621, section 4.9).
     EmailParse,
 }
@@ -41,8 +45,17 @@ pub(crate) fn read_method(name: &str) -> Option<Method>
     if name == "Email/changes" {
         return Some(Method::Changes(Kind::Email));
     }
+    if name == "Mailbox/query" {
+        return Some(Method::Query(Kind::Mailbox));
+    }
+    if name == "Email/query" {
+        return Some(Method::Query(Kind::Email));
+    }
     if name == "Mailbox/set" {
         return Some(Method::MailboxSet);
+    }
+    if name == "Email/import" {
+        return Some(Method::EmailImport);
     }
     if name == "Email/parse" {
         return Some(Method::EmailParse);

@@ -1,24 +1,30 @@
 // Plans of methods, each with its one response.
-ghost use Rattle.std.specs.Prelude.{◌≡◌, ◌∷◌, [], IfErr, IfOk};
+ghost use Rattle.std.specs.Prelude.{◌≡◌, ◌≤◌, ◌∷◌, [], IfErr, IfOk};
 ghost use Rattle.jm_json.specs.Invocations.{call_of};
 ghost use Rattle.jm_json.specs.Json.{tree_of};
 ghost use Rattle.mail_view.specs.Gets.{get_of_kind};
 ghost use Rattle.mail_view.specs.Parses.{parse_in};
-ghost use Rattle.mailbox_set.specs.Plans.{set_outcome};
+ghost use Rattle.mailbox_set.specs.Plans.{ExplainsSet, Outcome, set_outcome};
+ghost use Rattle.mail_import.specs.Plans.{import_in};
 ghost use Rattle.change_calls.specs.Responses.{ExplainsCall, changes_outcome, replied};
-ghost use Rattle.mail_calls.specs.Plans.{answered, changes_plan, get_plan, ground_in, method_plan, refused, response_to, set_plan, silent};
+ghost use Rattle.mail_calls.specs.Plans.{IsOutcomeOf, answered, changes_plan, get_plan, ground_in, method_plan, refused, response_to, set_plan, silent, queried, query_plan};
+ghost use Rattle.query_engine.specs.Responses as queries;
 ghost use Rattle.account_book.specs.Accounts.{IsBounded};
+ghost use Rattle.account_book.specs.Plans.{last_moment};
 
-use crate::blobs::plan_reading;
+use crate::blobs::{plan_reading, state_in};
 use crate::methods::{Method, read_method};
 use account_book::{Account, Out, Plan};
 use change_calls::{CallFault, answer_changes};
 use get_calls::{GetFault, get, parse};
 use jm_base::{Blobs, Kind, NoMemory};
 use jm_json::{Invocation, Invocations, Json, Made, Replied};
-use mail_counts::SetFault;
+use mail_counts::{SetFault, SetPlan};
+use mail_import::plan_import;
 use mail_records::Edits;
 use mailbox_set::plan_mailbox_set;
+use message_texts::BlobTexts;
+use query_engine::{QueryCallFault, answer_query};
 use std::alloc::Global;
 
 /// Returns the plan that answers nothing and changes nothing.
@@ -150,6 +156,77 @@ fn plan_changes(
     }
 }
 
+// Returns the arguments of the response to a query of a kind.
+fn find_results(
+    alloc: Global,
+    account: &Account,
+    kind: Kind,
+    args: &Json,
+) -> Result<Json, QueryCallFault>
+    ensures reply { IfOk result (λ j. queried account.now.history kind (tree_of args.now)
+        ≡ queries.replied (tree_of j)) }
+    ensures fault { IfErr result (λ fault. queries.ExplainsCall fault
+        (queried account.now.history kind (tree_of args.now))) }
+{
+    let texts = BlobTexts {
+        alloc,
+        blobs: account.blobs(),
+    };
+    let state = state_in(account, kind);
+    answer_query(alloc, kind, state, account.content(), &texts, args)
+}
+
+// Returns the plan of a query of a kind (RFC 8620, section 5.5).
+fn plan_query(
+    alloc: Global,
+    kind: Kind,
+    account: &Account,
+    call: &Invocation,
+) -> Result<Plan, NoMemory>
+    ensures { IfOk result (λ p. p ≡ query_plan (call_of call.now)
+        (queried account.now.history kind (tree_of call.now.args))) }
+{
+    match find_results(alloc, account, kind, &call.args) {
+        Ok(args) => plan_response(alloc, call, args),
+        Err(QueryCallFault::Invalid(_)) => plan_error(alloc, call, "invalidArguments"),
+        Err(QueryCallFault::UnsupportedFilter(_)) => plan_error(alloc, call, "unsupportedFilter"),
+        Err(QueryCallFault::UnsupportedSort(_)) => plan_error(alloc, call, "unsupportedSort"),
+        Err(QueryCallFault::AnchorNotFound) => plan_error(alloc, call, "anchorNotFound"),
+        Err(QueryCallFault::NoMemory) => Err(NoMemory),
+    }
+}
+
+// Returns the plan that answers a set or an import that is rejected with this fault.
+fn answer_set_fault(alloc: Global, call: &Invocation, fault: &SetFault) -> Result<Plan, NoMemory>
+    ensures { IfOk result (λ p. (o : Outcome) → ExplainsSet fault.now o
+        → p ≡ set_plan (call_of call.now) o) }
+{
+    match fault {
+        SetFault::Invalid(_) => plan_error(alloc, call, "invalidArguments"),
+        SetFault::TooLarge => plan_error(alloc, call, "requestTooLarge"),
+        SetFault::StateMismatch => plan_error(alloc, call, "stateMismatch"),
+        SetFault::NoMemory => Err(NoMemory),
+    }
+}
+
+// Returns the plan that answers a set or an import, whose planner returned this.
+fn answer_set(
+    alloc: Global,
+    call: &Invocation,
+    returned: Result<SetPlan, SetFault>,
+) -> Result<Plan, NoMemory>
+    ensures { IfOk result (λ p. (o : Outcome) → IsOutcomeOf returned o
+        → p ≡ set_plan (call_of call.now) o) }
+{
+    match returned {
+        Ok(plan) => {
+            let response = make_response(call, plan.reply)?;
+            plan_with(alloc, response, plan.made, plan.edits)
+        }
+        Err(fault) => answer_set_fault(alloc, call, &fault),
+    }
+}
+
 // Returns the plan of a Mailbox/set (RFC 8621, section 2.5).
 fn plan_set(
     alloc: Global,
@@ -161,16 +238,25 @@ fn plan_set(
     ensures { IfOk result (λ p. p ≡ set_plan (call_of call.now)
         (set_outcome (ground_in account.now.history) (tree_of call.now.args) made.now)) }
 {
-    match plan_mailbox_set(alloc, account.content(), account.log(), &call.args, made) {
-        Ok(plan) => {
-            let response = make_response(call, plan.reply)?;
-            plan_with(alloc, response, plan.made, plan.edits)
-        }
-        Err(SetFault::Invalid(_)) => plan_error(alloc, call, "invalidArguments"),
-        Err(SetFault::TooLarge) => plan_error(alloc, call, "requestTooLarge"),
-        Err(SetFault::StateMismatch) => plan_error(alloc, call, "stateMismatch"),
-        Err(SetFault::NoMemory) => Err(NoMemory),
-    }
+    let returned = plan_mailbox_set(alloc, account.content(), account.log(), &call.args, made);
+    answer_set(alloc, call, returned)
+}
+
+// Returns the plan of an Email/import at a moment (RFC 8621, section 4.8).
+fn plan_imports(
+    alloc: Global,
+    account: &Account,
+    call: &Invocation,
+    made: &Made,
+    moment: u64,
+) -> Result<Plan, NoMemory>
+    requires bounded { IsBounded account.now.history }
+    requires moment { moment ≤ last_moment }
+    ensures { IfOk result (λ p. p ≡ set_plan (call_of call.now)
+        (import_in account.now.history (tree_of call.now.args) made.now moment)) }
+{
+    let returned = plan_import(alloc, account, &call.args, made, moment);
+    answer_set(alloc, call, returned)
 }
 
 /// Returns the plan of a method over an account, with what the request has made so far, of a user
@@ -182,17 +268,20 @@ pub(crate) fn plan_method(
     call: &Invocation,
     made: &Made,
     read_only: bool,
-    _moment: u64,
+    moment: u64,
 ) -> Result<Plan, NoMemory>
-    requires { IsBounded account.now.history }
+    requires bounded { IsBounded account.now.history }
+    requires moment { moment ≤ last_moment }
     ensures { IfOk result
-        (λ p. p ≡ method_plan account.now.history (call_of call.now) made.now read_only _moment) }
+        (λ p. p ≡ method_plan account.now.history (call_of call.now) made.now read_only moment) }
 {
     match read_method(call.name.as_str()) {
         None => plan_error(alloc, call, "unknownMethod"),
         Some(Method::Get(kind)) => plan_get(alloc, kind, account, call, read_only),
         Some(Method::Changes(kind)) => plan_changes(alloc, kind, account, call),
+        Some(Method::Query(kind)) => plan_query(alloc, kind, account, call),
         Some(Method::MailboxSet) => plan_set(alloc, account, call, made),
+        Some(Method::EmailImport) => plan_imports(alloc, account, call, made, moment),
         Some(Method::EmailParse) => plan_parse(alloc, account, call),
     }
 }

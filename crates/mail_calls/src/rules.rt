@@ -3,20 +3,21 @@ ghost use Rattle.std.specs.Prelude.{◌≡◌};
 
 use crate::blobs::{plan_bytes, plan_states, plan_upload};
 use crate::plans::{plan_method, plan_nothing};
+use crate::validity::is_whole;
 use account_book::{Account, Ask, Call, Plan, Rules};
 use jm_base::NoMemory;
 use std::alloc::Global;
 
-/// The rules of mail accounts. `specs/Plans.antt` says what a call plans, and `specs/Whole.antt`
-/// when an account is valid.
+/// The rules of mail accounts. `specs/Plans.antt` says what a call plans, and
+/// `specs/ValidAccounts.antt` when an account is valid.
 #[derive(Drop)]
 pub struct MailRules;
 
 impl Rules for MailRules {
     ghost use Rattle.mail_summary.specs.Summaries.{summary};
     ghost use Rattle.mail_calls.specs.Plans.{call_plan};
-    ghost use Rattle.mail_calls.specs.Whole.{IsWhole};
-    ghost use Rattle.mail_calls.specs.Promises.{plan_fits, plan_small, plan_formed, plan_keeps, plan_reads, whole_founded, whole_sound, whole_limits, whole_blobs, whole_ignores, whole_moves, whole_empty};
+    ghost use Rattle.mail_calls.specs.ValidAccounts.{IsWhole};
+    ghost use Rattle.mail_calls.specs.RuleLaws.{plan_fits, plan_small, plan_formed, plan_keeps, plan_reads, whole_founded, whole_sound, whole_limits, whole_blobs, whole_ignores, whole_moves, whole_empty};
 
     ghost plan_of = { λ r h call moment. call_plan h call moment };
 
@@ -40,14 +41,19 @@ impl Rules for MailRules {
         }
     }
 
-    ghost fits = { λ r h call moment low whole. plan_fits h call moment whole };
+    fn whole(&self, alloc: Global, account: &Account) -> Result<bool, NoMemory> {
+        is_whole(alloc, account)
+    }
 
-    ghost small = { λ r h call moment low whole. plan_small h call moment whole };
+    ghost fits = { λ r h call moment low whole. plan_fits h call moment low whole };
 
-    ghost formed = { λ r h call moment stamp low whole. plan_formed h call moment stamp whole };
+    ghost small = { λ r h call moment low whole. plan_small h call moment low whole };
+
+    ghost formed = { λ r h call moment stamp low whole.
+        plan_formed h call moment stamp low whole };
 
     ghost keeps = { λ r h call moment stamp low whole within.
-        plan_keeps h call moment stamp whole within };
+        plan_keeps h call moment stamp low whole within };
 
     ghost reads = { λ r h call moment low whole. plan_reads h call moment };
 

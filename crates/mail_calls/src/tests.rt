@@ -1,11 +1,12 @@
-// Calls on a book by the rules of mail. The expected answers are those of RFC 8620, sections 3.6.2, 5.1 to 5.3 and 6.1,
-// and RFC 8621, section 4.9.
+// Calls on a book by the rules of mail. The expected answers are those of RFC 8620, sections 3.6.2, 5.1 to 5.3, 5.5 and 6.1,
+// and RFC 8621, sections 4.8 and 4.9.
 use crate::MailRules;
 use crate::blobs::has_room;
-use account_book::{Ask, Book, Call, Out};
+use account_book::{Ask, Book, Call, Out, StartFault};
 use blob_store::{BlobList, MAX_BLOB_BYTES_PER_ACCOUNT};
-use jm_base::{Bytes, NoMemory, Text};
+use jm_base::{Bytes, NoMemory, Rows, Text};
 use jm_json::{Invocation, Json, Made, read, write};
+use keep_port::{Kept, MemoryKeeper};
 use mail_records::Stamp;
 use std::alloc::Global;
 use std::test::Fail;
@@ -36,8 +37,25 @@ fn words(alloc: Global, number: u64) -> Result<Bytes, NoMemory> {
     Bytes::from_slice(alloc, text.as_bytes())
 }
 
+// A book over a keeper that keeps nothing and never fails.
+#[tactic(auto, using(account_book::proofs::Ready::ready_clean))]
+fn begun(alloc: Global) -> Result<Book<MemoryKeeper, MailRules>, StartFault> {
+    let kept = Kept {
+        base: None,
+        rows: Rows::new(alloc),
+    };
+    match Book::start(alloc, MemoryKeeper::new(alloc, kept), MailRules) {
+        Ok(book) => Ok(book),
+        Err((fault, _)) => Err(fault),
+    }
+}
+
 // What is asked of the book, and the arguments of its answer.
-fn asked(alloc: Global, book: &mut Book<MailRules>, ask: Ask) -> Result<Bytes, NoMemory> {
+fn asked(
+    alloc: Global,
+    book: &mut Book<MemoryKeeper, MailRules>,
+    ask: Ask,
+) -> Result<Bytes, NoMemory> {
     let call = Call {
         ask,
         made: Made::new(alloc),
@@ -58,7 +76,7 @@ fn method(alloc: Global, name: &str, args: Json) -> Result<Ask, NoMemory> {
 
 fn answers(
     alloc: Global,
-    book: &mut Book<MailRules>,
+    book: &mut Book<MemoryKeeper, MailRules>,
     name: &str,
     args: &str,
     expected: &str,
@@ -102,6 +120,17 @@ const CALLS: &[(&str, &str, &str)] = &[
         "{\"accountId\":\"A\",\"notFound\":null,\"notParsable\":null,\"parsed\":null}",
     ),
     (
+        "Email/import",
+        "{\"accountId\":\"A\",\"emails\":{\"k\":{\"blobId\":\"b1\"}},\"ifInState\":\"0\"}",
+        "{\"accountId\":\"A\",\"created\":null,\"newState\":\"0\",\"notCreated\":{\"k\":{\"properties\":[\"blobId\",\"mailboxIds\"],\"type\":\"invalidProperties\"}},\"oldState\":\"0\"}",
+    ),
+    (
+        "Email/import",
+        "{\"accountId\":\"A\",\"emails\":{},\"ifInState\":\"1\"}",
+        "{\"type\":\"stateMismatch\"}",
+    ),
+    ("Email/import", "{}", "{\"type\":\"invalidArguments\"}"),
+    (
         "Thread/changes",
         "{\"accountId\":\"A\",\"sinceState\":\"0\"}",
         "{\"accountId\":\"A\",\"created\":[],\"destroyed\":[],\"hasMoreChanges\":false,\"newState\":\"0\",\"oldState\":\"0\",\"updated\":[]}",
@@ -111,13 +140,43 @@ const CALLS: &[(&str, &str, &str)] = &[
         "{\"accountId\":\"A\",\"sinceState\":\"1\"}",
         "{\"type\":\"cannotCalculateChanges\"}",
     ),
+    (
+        "Mailbox/query",
+        "{\"accountId\":\"A\",\"calculateTotal\":true}",
+        "{\"accountId\":\"A\",\"canCalculateChanges\":true,\"ids\":[],\"limit\":1000,\"position\":0,\"queryState\":\"0\",\"total\":0}",
+    ),
+    (
+        "Email/query",
+        "{\"accountId\":\"A\",\"filter\":{\"text\":\"hello\"},\"limit\":5}",
+        "{\"accountId\":\"A\",\"canCalculateChanges\":true,\"ids\":[],\"position\":0,\"queryState\":\"0\"}",
+    ),
+    (
+        "Email/query",
+        "{\"accountId\":\"A\",\"filter\":{\"text\":1}}",
+        "{\"type\":\"invalidArguments\"}",
+    ),
+    (
+        "Email/query",
+        "{\"accountId\":\"A\",\"filter\":{\"name\":\"A\"}}",
+        "{\"type\":\"unsupportedFilter\"}",
+    ),
+    (
+        "Mailbox/query",
+        "{\"accountId\":\"A\",\"sort\":[{\"property\":\"receivedAt\"}]}",
+        "{\"type\":\"unsupportedSort\"}",
+    ),
+    (
+        "Mailbox/query",
+        "{\"accountId\":\"A\",\"anchor\":\"M1\"}",
+        "{\"type\":\"anchorNotFound\"}",
+    ),
     ("Thread/set", "{}", "{\"type\":\"unknownMethod\"}"),
 ];
 
 #[test]
 fn performs_the_methods_of_mail(rt: HostRuntime) -> Result<(), Fail> {
     let alloc = rt.alloc();
-    let mut book = Book::begin(alloc, MailRules)?;
+    let mut book = begun(alloc)?;
     for (name, args, expected) in CALLS {
         assert!(rt;
             answers(alloc, &mut book, name, args, expected)?,
@@ -140,7 +199,7 @@ fn many(alloc: Global, front: &str, end: &str) -> Result<String, NoMemory> {
 #[test]
 fn refuses_calls_that_name_too_many(rt: HostRuntime) -> Result<(), Fail> {
     let alloc = rt.alloc();
-    let mut book = Book::begin(alloc, MailRules)?;
+    let mut book = begun(alloc)?;
     for (name, front, end, close) in [
         (
             "Mailbox/get",
@@ -151,6 +210,12 @@ fn refuses_calls_that_name_too_many(rt: HostRuntime) -> Result<(), Fail> {
         (
             "Mailbox/set",
             "{\"accountId\":\"A\",\"create\":{\"M\":{}",
+            ":{}",
+            "}}",
+        ),
+        (
+            "Email/import",
+            "{\"accountId\":\"A\",\"emails\":{\"M\":{}",
             ":{}",
             "}}",
         ),

@@ -1,7 +1,7 @@
 use Rattle.std.proofs.Common.{refl, ℕ, List, subst}
 use Rattle.jmap_main.specs.Read.{read_out}
 use Rattle.batch_lines.specs.Input.{seen}
-use Rattle.jmap_main.specs.Ended.{Written}
+use Rattle.jmap_main.specs.Endings.{Written}
 use Rattle.jmap_main.proofs.Messages.{begun_untold, written_begun, written_cause, unread_cause}
 use Rattle.jm_edge.proofs.Known.{appends_none}
 use Rattle.jmap_main.proofs.read.read_message.Goals as goal

@@ -3,7 +3,7 @@ use Rattle.mail_records.specs.Histories.{History, empty_history}
 use Rattle.batch_lines.specs.Input.{seen, HasAnsweredInput, HasBegunInput}
 use Rattle.batch_lines.specs.Faults.{ExplainsFault}
 use Rattle.batch_lines.proofs.Runs.{begun_none}
-use Rattle.jmap_main.specs.Served.{account_answers, account_halts, account_stops, account_uploads}
+use Rattle.jmap_main.specs.AccountAnswers.{account_answers, account_halts, account_stops, account_uploads}
 use Rattle.jmap_main.proofs.Ends.{batch_cause}
 use Rattle.jmap_main.proofs.run.answer_batch.Goals as goal
 

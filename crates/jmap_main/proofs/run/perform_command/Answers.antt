@@ -1,8 +1,8 @@
 use Rattle.std.proofs.Common.{sym, subst}
 use Rattle.batch_lines.specs.Input.{seen}
 use Rattle.jmap_main.specs.Run.{HasBegun}
-use Rattle.jmap_main.specs.Ended.{Explains}
-use Rattle.jmap_main.specs.declared.words.Command.{Command}
+use Rattle.jmap_main.specs.Endings.{Explains}
+use Rattle.jmap_main.specs.declared.arguments.Command.{Command}
 use Rattle.jmap_main.proofs.run.perform_command.Goals as goal
 
 pub returns-in-Batch-clause-begun : goal.returns-in-Batch-clause-begun

@@ -1,5 +1,5 @@
 use Rattle.std.proofs.Common.{map, string_bytes}
-use Rattle.jmap_main.specs.Words.{command_of}
+use Rattle.jmap_main.specs.Arguments.{command_of}
 use Rattle.batch_lines.specs.Input.{seen}
 use Rattle.jmap_main.proofs.Ends.{done_of, fault_of, usage_of, read_of, write_of, limit_of}
 use Rattle.jmap_main.proofs.run.run.Goals as goal

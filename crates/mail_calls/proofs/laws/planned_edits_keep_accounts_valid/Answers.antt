@@ -1,4 +1,4 @@
-use Rattle.mail_calls.specs.Keeping.{planned_keeps, grown_whole}
+use Rattle.mail_calls.specs.ValidAfterCommits.{planned_keeps, grown_whole}
 use Rattle.mail_calls.proofs.laws.planned_edits_keep_accounts_valid.Goals as goal
 
 pub returns : goal.returns

@@ -1,41 +1,17 @@
-use Rattle.std.proofs.Common.{◌≡◌, refl, sym, ◌∙◌, codes, subst}
+use Rattle.std.proofs.Common.{◌≡◌, IfOk, IfErr, subst}
 use Rattle.jm_json.specs.Invocations.{call_of}
 use Rattle.jm_json.specs.Json.{tree_of}
-use Rattle.mail_counts.specs.declared.plan.SetFault.{SetFault}
-use Rattle.mailbox_set.specs.Plans.{ExplainsSet, ground_of, invalid, too_large, state_mismatch, plan_of, set_outcome}
-use Rattle.mail_calls.specs.Plans.{ground_in}
-use Rattle.mail_calls.proofs.Sets.{same_outcome, planned_set, refused_set}
+use Rattle.mailbox_set.specs.Plans.{Outcome, ground_of, set_outcome}
+use Rattle.mail_calls.specs.Plans.{IsOutcomeOf, ground_in}
+use Rattle.mail_calls.proofs.Sets.{answer_to, outcome_told, same_outcome}
 use Rattle.mail_calls.proofs.plans.plan_set.Goals as goal
 
-pub returns-in-Ok : goal.returns-in-Ok
-returns-in-Ok c =
+pub returns : goal.returns
+returns c =
     let h = c.args.account.now.history in
-    let same = same_outcome h c.content.result.now.content c.log.result.now (tree_of c.args.call.now.args) c.args.made.now c.content.ensures.content c.log.ensures in
-    planned_set c.plan_with.result (call_of c.args.call.now) (set_outcome (ground_in h) (tree_of c.args.call.now.args) c.args.made.now) (plan_of c.in-Ok.plan) (call_of c.in_ok-response-in-Ok.response)
-    (sym same ∙ c.in-Ok.ensures.outcome) c.in_ok-response-in-Ok.ensures c.plan_with.ensures
-
-pub returns-in-Err-Invalid : goal.returns-in-Err-Invalid
-returns-in-Err-Invalid c =
-    let h = c.args.account.now.history in
-    let outcome = set_outcome (ground_of c.content.result.now.content c.log.result.now) (tree_of c.args.call.now.args) c.args.made.now in
-    let same = same_outcome h c.content.result.now.content c.log.result.now (tree_of c.args.call.now.args) c.args.made.now c.content.ensures.content c.log.ensures in
-    let is = subst (λ (e : SetFault). ExplainsSet e outcome) c.in-Err-Invalid.field-0-is c.in-Err-Invalid.ensures.fault in
-    refused_set c.plan_error.result (call_of c.args.call.now) (set_outcome (ground_in h) (tree_of c.args.call.now.args) c.args.made.now) _ (codes "invalidArguments") (sym same ∙ is) refl c.plan_error.ensures
-
-pub returns-in-Err-TooLarge : goal.returns-in-Err-TooLarge
-returns-in-Err-TooLarge c =
-    let h = c.args.account.now.history in
-    let outcome = set_outcome (ground_of c.content.result.now.content c.log.result.now) (tree_of c.args.call.now.args) c.args.made.now in
-    let same = same_outcome h c.content.result.now.content c.log.result.now (tree_of c.args.call.now.args) c.args.made.now c.content.ensures.content c.log.ensures in
-    let is = subst (λ (e : SetFault). ExplainsSet e outcome) c.in-Err-TooLarge.field-0-is c.in-Err-TooLarge.ensures.fault in
-    refused_set c.plan_error-in-Err-TooLarge.result (call_of c.args.call.now) (set_outcome (ground_in h) (tree_of c.args.call.now.args) c.args.made.now) too_large (codes "requestTooLarge") (sym same ∙ is) refl
-    c.plan_error-in-Err-TooLarge.ensures
-
-pub returns-in-Err-StateMismatch : goal.returns-in-Err-StateMismatch
-returns-in-Err-StateMismatch c =
-    let h = c.args.account.now.history in
-    let outcome = set_outcome (ground_of c.content.result.now.content c.log.result.now) (tree_of c.args.call.now.args) c.args.made.now in
-    let same = same_outcome h c.content.result.now.content c.log.result.now (tree_of c.args.call.now.args) c.args.made.now c.content.ensures.content c.log.ensures in
-    let is = subst (λ (e : SetFault). ExplainsSet e outcome) c.in-Err-StateMismatch.field-0-is c.in-Err-StateMismatch.ensures.fault in
-    refused_set c.plan_error-in-Err-StateMismatch.result (call_of c.args.call.now) (set_outcome (ground_in h) (tree_of c.args.call.now.args) c.args.made.now) state_mismatch (codes "stateMismatch") (sym same ∙ is) refl
-    c.plan_error-in-Err-StateMismatch.ensures
+    let args = tree_of c.args.call.now.args in
+    let outcome = set_outcome (ground_of c.content.result.now.content c.log.result.now) args c.args.made.now in
+    let same = same_outcome h c.content.result.now.content c.log.result.now args c.args.made.now c.content.ensures.content c.log.ensures in
+    answer_to c.answer_set.result (call_of c.args.call.now) c.plan_mailbox_set-returned.result (set_outcome (ground_in h) args c.args.made.now)
+    (subst (IsOutcomeOf c.plan_mailbox_set-returned.result) same (outcome_told c.plan_mailbox_set-returned.result outcome c.plan_mailbox_set-returned.ensures.outcome c.plan_mailbox_set-returned.ensures.fault))
+    c.answer_set.ensures

@@ -1,0 +1,11 @@
+use Rattle.std.proofs.Common.{ℕ, List, None, ap, ◌∙◌}
+use Rattle.keep_port.specs.declared.kept.Kept.{Kept}
+use Rattle.keep_port.specs.declared.memory.MemoryKeeper.{MemoryKeeper}
+use Rattle.jmap_main.proofs.Beginning.{begins_empty}
+use Rattle.jmap_main.proofs.memory_book.begin_book.Goals as goal
+
+pub returns-in-Ok : goal.returns-in-Ok
+returns-in-Ok g c =
+    let kept_of : List (List ℕ) → Kept = λ rows. record { base = None; rows = rows } in
+    begins_empty c.new-2.result.kept c.in-Ok.book.keeper.kept c.in-Ok.book.history
+    (ap (λ (m : MemoryKeeper). m.kept) c.new-2.ensures.opened ∙ ap kept_of c.new.ensures) c.in-Ok.ensures.opened

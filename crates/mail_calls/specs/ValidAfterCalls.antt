@@ -1,0 +1,192 @@
+-- Each plan keeps what a plan must keep.
+use Rattle.std.proofs.Common.{◌≡◌, ℕ, Bool, false, List, [], ◌∷◌, Option, Some, None, refl, sym, ap₂, subst, ◌+◌, ◌≤◌, ◌++◌, true, append-nil, codes, length, nat_lt, nat_le, ltb-true, leb-true, arith, length-append, ◌∙◌}
+use Rattle.std.specs.List.{AllByRecursion}
+use Rattle.jm_json.specs.Call.{Call as Invocation}
+use Rattle.jm_json.specs.Invocations.{call_of}
+use Rattle.jm_json.specs.declared.invocation.Created.{Created}
+use Rattle.mail_records.specs.Histories.{History, blobs_of, content_of}
+use Rattle.mail_records.proofs.Growth.{all_map}
+use Rattle.mail_records.specs.declared.edits.Edit.{Edit}
+use Rattle.mail_records.specs.declared.edits.Edit.TheVariants.{PutMailbox, DropMailbox, PutEmail, DropEmail, PutThread, DropThread}
+use Rattle.mail_counts.specs.CountsFlag.{AreCountsFlagsRight}
+use Rattle.mail_counts.specs.Derived.{LeavesEmails}
+use Rattle.mail_summary.specs.Summaries.{summary}
+use Rattle.mail_view.specs.Gets.{Got, invalid, too_large, got, get_of_kind}
+use Rattle.mail_view.specs.Parses.{parse_in}
+use Rattle.mailbox_set.specs.Plans.{Outcome, set_outcome}
+use Rattle.mailbox_set.specs.Plans as sets
+use Rattle.change_calls.specs.Responses as change
+use Rattle.change_calls.specs.Responses.{changes_outcome}
+use Rattle.query_engine.specs.Responses as queries
+use Rattle.mailbox_set.specs.Plans.{PutsNew}
+use Rattle.mailbox_set.proofs.Promising.{promised}
+use Rattle.mail_import.specs.Plans.{import_in}
+use Rattle.mail_import.proofs.Promising.{planned_import, promised as imported}
+use Rattle.account_book.specs.Plans.{last_moment}
+use Rattle.account_book.specs.declared.asks.Ask.{Ask}
+use Rattle.account_book.specs.declared.asks.Ask.TheVariants.{Method, Upload, Blob, Fetch, Place, States}
+use Rattle.account_book.specs.declared.asks.Call.{Call}
+use Rattle.account_book.specs.declared.plans.Plan.{Plan}
+use Rattle.plan_promises.specs.Planned.{IsPlanned}
+use Rattle.mail_calls.specs.ValidAfterCommits.{IsWholeMail, Keeps, blobs_keep, few_without, idle_keeps, mailboxes_keep, planned_keeps}
+use Rattle.mail_calls.specs.BlobPlans.{has_room, upload_if}
+use Rattle.mail_calls.specs.Laws.{and_both}
+use Rattle.blob_store.specs.Blobs.{AreBlobsFew, byte_count}
+use Rattle.blob_store.specs.declared.limits.TheConstants.{MAX_BLOB_BYTES_PER_ACCOUNT, MAX_BLOBS_PER_ACCOUNT}
+use Rattle.std.proofs.lemmas.List.Sums.{sum-map, sum_by-append}
+use Rattle.mail_calls.specs.Methods.{method_named}
+use Rattle.mail_calls.specs.Plans.{silent, refused, get_plan, changes_plan, set_plan, ground_in, plan_by, ask_plan, call_plan, queried, query_plan}
+use Rattle.mail_calls.specs.declared.methods.Method.{Method as MailMethod}
+use Rattle.mail_calls.specs.declared.methods.Method.TheVariants.{Get, Changes, MailboxSet, EmailImport, EmailParse, Query}
+
+leaves_new : (e : Edit) → PutsNew e → LeavesEmails e
+leaves_new (PutMailbox item was counts) puts = refl
+leaves_new (DropMailbox number) puts = absurd puts
+leaves_new (PutEmail item was) puts = absurd puts
+leaves_new (DropEmail number thread) puts = absurd puts
+leaves_new (PutThread item was) puts = absurd puts
+leaves_new (DropThread number) puts = absurd puts
+
+get_keeps : (h : History) (call : Invocation) (g : Got) → IsWholeMail h → Keeps h (get_plan call g)
+get_keeps h call (invalid name) whole = idle_keeps h _ whole refl refl
+get_keeps h call too_large whole = idle_keeps h _ whole refl refl
+get_keeps h call (got t) whole = idle_keeps h _ whole refl refl
+
+changes_keep : (h : History) (call : Invocation) (o : change.Outcome) → IsWholeMail h
+    → Keeps h (changes_plan call o)
+changes_keep h call (change.invalid name) whole = idle_keeps h _ whole refl refl
+changes_keep h call change.cannot_tell whole = idle_keeps h _ whole refl refl
+changes_keep h call (change.replied reply) whole = idle_keeps h _ whole refl refl
+
+query_keeps : (h : History) (call : Invocation) (o : queries.Outcome) → IsWholeMail h
+    → Keeps h (query_plan call o)
+query_keeps h call (queries.invalid_call name) whole = idle_keeps h _ whole refl refl
+query_keeps h call (queries.unsupported_filter_call name) whole = idle_keeps h _ whole refl refl
+query_keeps h call (queries.unsupported_sort_call name) whole = idle_keeps h _ whole refl refl
+query_keeps h call queries.no_anchor whole = idle_keeps h _ whole refl refl
+query_keeps h call (queries.replied reply) whole = idle_keeps h _ whole refl refl
+
+set_keeps : (h : History) (call : Invocation) (made : List Created) (o : Outcome) → IsWholeMail h
+    → set_outcome (ground_in h) call.args made ≡ o → Keeps h (set_plan call o)
+set_keeps h call made (sets.invalid name) whole is = idle_keeps h _ whole refl refl
+set_keeps h call made sets.too_large whole is = idle_keeps h _ whole refl refl
+set_keeps h call made sets.state_mismatch whole is = idle_keeps h _ whole refl refl
+set_keeps h call made (sets.planned p) whole is =
+    let all = promised (ground_in h) call.args made p is in
+    mailboxes_keep h (set_plan call (sets.planned p)) whole refl
+    (all.fits whole.tidy.numbered)
+    (all_map PutsNew LeavesEmails p.edits leaves_new all.puts)
+    (all.tidy whole.tidy)
+    (all.flags whole.tidy.numbered)
+
+-- an import keeps at each moment up to the last
+import_keeps : (h : History) (call : Invocation) (made : List Created) (moment : ℕ) (o : Outcome)
+    → moment ≤ last_moment → IsWholeMail h → import_in h call.args made moment ≡ o
+    → Keeps h (set_plan call o)
+import_keeps h call made moment (sets.invalid name) low whole is = idle_keeps h _ whole refl refl
+import_keeps h call made moment sets.too_large low whole is = idle_keeps h _ whole refl refl
+import_keeps h call made moment sets.state_mismatch low whole is = idle_keeps h _ whole refl refl
+import_keeps h call made moment (sets.planned p) low whole is =
+    let blobs = blobs_of h in
+    planned_keeps h (set_plan call (sets.planned p)) whole
+    (subst (λ (bs : List (List ℕ)). IsPlanned summary bs (content_of h) p.edits)
+    (sym (append-nil blobs))
+    (planned_import (ground_in h) blobs call.args made moment p low whole.tidy is))
+    (few_without h (set_plan call (sets.planned p)) whole refl)
+
+-- the flags of an import are right at every moment
+import_flags : (h : History) (call : Invocation) (made : List Created) (moment : ℕ) (o : Outcome)
+    → IsWholeMail h → import_in h call.args made moment ≡ o
+    → AreCountsFlagsRight (content_of h) (set_plan call o).edits
+import_flags h call made moment (sets.invalid name) whole is = tt
+import_flags h call made moment sets.too_large whole is = tt
+import_flags h call made moment sets.state_mismatch whole is = tt
+import_flags h call made moment (sets.planned p) whole is =
+    (imported (ground_in h) (blobs_of h) call.args made moment p is).flags whole.tidy.tables
+
+-- What holds of each plan that keeps, and of those of imports, holds of the plan of each method.
+by_method : (h : History) (P : Plan → Type 0) → ((p : Plan) → Keeps h p → P p)
+    → (call : Invocation) (made : List Created) (read_only : Bool) (moment : ℕ)
+    → P (set_plan call (import_in h call.args made moment)) → IsWholeMail h
+    → (m : Option MailMethod) → P (plan_by h call made read_only moment m)
+by_method h P all call made read_only moment import whole None =
+    all (refused call (codes "unknownMethod")) (idle_keeps h _ whole refl refl)
+by_method h P all call made read_only moment import whole (Some (Get kind)) =
+    let g = get_of_kind kind h call.args read_only in
+    all (get_plan call g) (get_keeps h call g whole)
+by_method h P all call made read_only moment import whole (Some (Changes kind)) =
+    let o = changes_outcome h kind call.args in
+    all (changes_plan call o) (changes_keep h call o whole)
+by_method h P all call made read_only moment import whole (Some (Query kind)) =
+    let o = queried h kind call.args in
+    all (query_plan call o) (query_keeps h call o whole)
+by_method h P all call made read_only moment import whole (Some MailboxSet) =
+    let o = set_outcome (ground_in h) call.args made in
+    all (set_plan call o) (set_keeps h call made o whole refl)
+by_method h P all call made read_only moment import whole (Some EmailImport) = import
+by_method h P all call made read_only moment import whole (Some EmailParse) =
+    let g = parse_in h call.args in
+    all (get_plan call g) (get_keeps h call g whole)
+
+-- with a blob for which there is room the blobs are few
+few_more : (blobs : List (List ℕ)) (bytes : List ℕ) → has_room (length bytes) blobs ≡ true
+    → AreBlobsFew (blobs ++ bytes ∷ [])
+few_more blobs bytes room =
+    let new = bytes ∷ [] in
+    let total = byte_count blobs + length bytes in
+    let parts =
+    and_both (nat_lt (length blobs) MAX_BLOBS_PER_ACCOUNT)
+    (nat_le total MAX_BLOB_BYTES_PER_ACCOUNT)
+    room in
+    let less = ltb-true (length blobs) MAX_BLOBS_PER_ACCOUNT parts.0 in
+    let most = leb-true total MAX_BLOB_BYTES_PER_ACCOUNT parts.1 in
+    let count = length-append blobs new in
+    let weight : byte_count (blobs ++ new) ≡ byte_count blobs + byte_count new =
+    sum-map length (blobs ++ new)
+    ∙ (sum_by-append length blobs new
+    ∙ sym (ap₂ (λ a b. a + b) (sum-map length blobs) (sum-map length new))) in
+    record { count = omega (arith, count, less); bytes = omega (arith, weight, most) }
+
+upload_keeps : (h : History) (bytes : List ℕ) → IsWholeMail h → (b : Bool)
+    → has_room (length bytes) (blobs_of h) ≡ b
+    → Keeps h (upload_if b (length (blobs_of h) + 1) bytes)
+upload_keeps h bytes whole true room =
+    blobs_keep h (upload_if true (length (blobs_of h) + 1) bytes) whole refl
+    (few_more (blobs_of h) bytes room)
+upload_keeps h bytes whole false room =
+    idle_keeps h (upload_if false (length (blobs_of h) + 1) bytes) whole refl refl
+
+-- the same of the plan of whatever is asked
+by_ask : (h : History) (P : Plan → Type 0) → ((p : Plan) → Keeps h p → P p)
+    → (made : List Created) (read_only : Bool) (moment : ℕ)
+    → ((c : Invocation) → P (set_plan c (import_in h c.args made moment))) → IsWholeMail h
+    → (ask : Ask) → P (ask_plan h ask made read_only moment)
+by_ask h P all made read_only moment import whole (Method c) =
+    let call = call_of c in
+    by_method h P all call made read_only moment (import call) whole (method_named call.name)
+by_ask h P all made read_only moment import whole (Upload bytes) =
+    let room = has_room (length bytes) (blobs_of h) in
+    all (upload_if room (length (blobs_of h) + 1) bytes) (upload_keeps h bytes whole room refl)
+by_ask h P all made read_only moment import whole (Blob name) =
+    all (ask_plan h (Blob name) made read_only moment) (idle_keeps h _ whole refl refl)
+by_ask h P all made read_only moment import whole (Fetch c) =
+    all silent (idle_keeps h _ whole refl refl)
+by_ask h P all made read_only moment import whole (Place c carried) =
+    all silent (idle_keeps h _ whole refl refl)
+by_ask h P all made read_only moment import whole States =
+    all (ask_plan h States made read_only moment) (idle_keeps h _ whole refl refl)
+
+pub call_keeps : (h : History) (call : Call) (moment : ℕ) → moment ≤ last_moment → IsWholeMail h
+    → Keeps h (call_plan h call moment)
+call_keeps h call moment low whole =
+    by_ask h (Keeps h) (λ p keep. keep) call.made call.read_only moment
+    (λ c. import_keeps h c call.made moment (import_in h c.args call.made moment) low whole refl)
+    whole call.ask
+
+pub call_flags : (h : History) (call : Call) (moment : ℕ) → IsWholeMail h
+    → AreCountsFlagsRight (content_of h) (call_plan h call moment).edits
+call_flags h call moment whole =
+    by_ask h (λ p. AreCountsFlagsRight (content_of h) p.edits) (λ p keep. keep.flags)
+    call.made call.read_only moment
+    (λ c. import_flags h c call.made moment (import_in h c.args call.made moment) whole refl)
+    whole call.ask
