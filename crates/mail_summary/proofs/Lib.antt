@@ -7,3 +7,4 @@ mod FirstTexts
 mod LineEnds
 mod Tags
 mod Semicolons
+mod Fronts

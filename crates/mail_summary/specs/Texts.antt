@@ -1,5 +1,5 @@
 -- The texts of a message's bodies (RFC 8621, sections 4.1.4 and 4.2).
-use Rattle.std.specs.Prelude.{ℕ, Bool, true, false, ◌&&◌, ◌||◌, not, ◌==◌, nat_lt, List, [], ◌∷◌, take, length, Option, Some, None, unwrap_or, codes, if◌then◌else◌}
+use Rattle.std.specs.Prelude.{◌≡◌, ℕ, Bool, true, false, ◌&&◌, ◌||◌, not, ◌==◌, nat_lt, List, [], ◌∷◌, ◌++◌, take, length, Option, Some, None, unwrap_or, codes, if◌then◌else◌}
 use Rattle.std.specs.Char.{is_ascii_whitespace}
 use Rattle.std.specs.Str.{chars, encode_utf8_all}
 use Rattle.std.specs.Fmt.Cut.{floor_char_boundary}
@@ -61,6 +61,10 @@ body_value bytes most x = let text = with_line_feeds (body_text bytes x) in reco
   problem = body_problem bytes x;
   truncated = is_cut most text;
 }
+
+-- a list begins with another one
+abbrev pub Begins : List ℕ → List ℕ → Type 0
+Begins front whole = (later : List ℕ) × (whole ≡ front ++ later)
 
 -- a text of these characters, at most `MAX_SHOWN_CHARACTERS` of them
 abbrev pub brief : List ℕ → List ℕ

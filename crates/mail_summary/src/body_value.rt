@@ -1,12 +1,13 @@
 // The text of a part's body, and a body value.
-ghost use Rattle.std.specs.Prelude.{◌≡◌, length, IfOk, string_bytes};
+ghost use Rattle.std.specs.Prelude.{◌≡◌, Option, is_none, length, IfOk, IfSome, string_bytes};
 ghost use Rattle.mime_codec.specs.Decoded.{decoded};
 ghost use Rattle.mime_type.specs.PartViews.{node_of};
 ghost use Rattle.mime_tree.specs.Places.{IsPlaced};
 ghost use Rattle.mime_words.specs.Charsets.{charset_named, decoded_text, has_problem};
+ghost use Rattle.mime_words.specs.declared.charset.Charset.{Charset};
 ghost use Rattle.mail_summary.specs.Leaves.{body_bytes};
 ghost use Rattle.mail_summary.specs.Texts;
-ghost use Rattle.mail_summary.specs.Texts.{body_text, body_value};
+ghost use Rattle.mail_summary.specs.Texts.{body_text, body_value, with_line_feeds};
 ghost use Rattle.mail_summary.specs.Views.{value_of};
 
 use crate::texts_lines::with_line_feeds_of;
@@ -81,6 +82,68 @@ pub(crate) fn read_body_text(alloc: Global, bytes: &[u8], part: &Part) -> Result
     read_text(alloc, part.coding, charset_name(part), body)
 }
 
+/// Returns ASCII bytes as the text that they are in every charset. None if a byte is above 127.
+fn ascii_text(bytes: &[u8]) -> Option<&str>
+    ensures text { IfSome result (λ t. (charset : Option Charset)
+        → t.now ≡ decoded_text charset bytes.now) }
+    ensures problem { IfSome result (λ _. (charset : Option Charset) → has_problem charset bytes.now
+        ≡ is_none charset) }
+{
+    if !bytes.is_ascii() {
+        return None;
+    }
+    match std::str::from_utf8(bytes) {
+        Ok(text) => Some(text),
+        Err(_) => None,
+    }
+}
+
+/// Returns whether a charset isn't known. Only then is the text of no bytes a problem.
+fn is_unknown_charset(alloc: Global, charset: &[u8]) -> Result<bool, NoMemory>
+    ensures { IfOk result (λ b. b ≡ is_none (charset_named charset.now)) }
+{
+    let Decoded { problem, .. } = decode_charset(alloc, charset, b"")?;
+    Ok(problem)
+}
+
+/// Returns the text of bytes in a charset with LF for each CRLF, and whether they are an encoding
+/// problem. ASCII bytes are copied once.
+fn read_lines(alloc: Global, charset: &[u8], bytes: &[u8]) -> Result<(String, bool), NoMemory>
+    ensures text { IfOk result (λ r. string_bytes r.0
+        ≡ with_line_feeds (decoded_text (charset_named charset.now) bytes.now)) }
+    ensures problem { IfOk result
+        (λ r. r.1 ≡ has_problem (charset_named charset.now) bytes.now) }
+{
+    if let Some(text) = ascii_text(bytes) {
+        let lines = with_line_feeds_of(alloc, text)?;
+        return Ok((lines, is_unknown_charset(alloc, charset)?));
+    }
+    let Decoded { text, problem } = decode_charset(alloc, charset, bytes)?;
+    Ok((with_line_feeds_of(alloc, text.as_str())?, problem))
+}
+
+/// Returns the text that a body in this transfer encoding and charset encodes with LF for each
+/// CRLF, and whether its charset or its bytes are an encoding problem.
+fn read_text_lines(
+    alloc: Global,
+    coding: Coding,
+    charset: &[u8],
+    body: &[u8],
+) -> Result<(String, bool), NoMemory>
+    ensures text { IfOk result (λ r. string_bytes r.0
+        ≡ with_line_feeds (decoded_text (charset_named charset.now) (decoded coding body.now))) }
+    ensures problem { IfOk result
+        (λ r. r.1 ≡ has_problem (charset_named charset.now) (decoded coding body.now)) }
+{
+    match coding {
+        Coding::Plain | Coding::Unknown => read_lines(alloc, charset, body),
+        Coding::Quoted | Coding::Base64 => {
+            let bytes = decode(alloc, coding, body)?;
+            read_lines(alloc, charset, bytes.as_slice())
+        }
+    }
+}
+
 /// Returns whether a text has more bytes than this; 0 means all.
 fn is_cut(most: u64, text: &str) -> bool
     ensures { result ≡ Texts.is_cut most text.now }
@@ -109,8 +172,8 @@ pub fn body_value_of(
     requires { IsPlaced (length bytes.now) (node_of part.now) }
     ensures { IfOk result (λ v. value_of v ≡ body_value bytes.now most (node_of part.now)) }
 {
-    let Decoded { text, problem } = read_body_text(alloc, bytes, part)?;
-    let mut text = with_line_feeds_of(alloc, text.as_str())?;
+    let body = &bytes[part.body as usize..part.end as usize];
+    let (mut text, problem) = read_text_lines(alloc, part.coding, charset_name(part), body)?;
     let truncated = is_cut(most, text.as_str());
     cut(most, &mut text);
     Ok(BodyValue {

@@ -1,5 +1,5 @@
 // Texts as lists of characters.
-ghost use Rattle.std.specs.Prelude.{◌≡◌, ◌+◌, ◌++◌, ◌∷◌, List, ℕ, take, map, IfOk, string_bytes};
+ghost use Rattle.std.specs.Prelude.{◌≡◌, ◌+◌, ◌<◌, ◌++◌, ◌∷◌, List, ℕ, length, take, map, IfOk, IfSome, string_bytes};
 ghost use Rattle.std.specs.Char.{to_ascii_lowercase};
 ghost use Rattle.std.specs.Str.{chars, encode_utf8_all};
 ghost use Rattle.mail_summary.specs.Texts;
@@ -109,8 +109,11 @@ fn after_space(text: &[char]) -> &[char]
 /// Returns the first `MAX_SHOWN_CHARACTERS` + 1 characters of a text with one space for each run of
 /// white space and none at the end, and perhaps more of them.
 fn spaced_prefix(alloc: Global, text: &str) -> Result<Vec<char>, NoMemory>
-    ensures { IfOk result (λ cs. take (MAX_SHOWN_CHARACTERS + 1) cs.items
+    ensures text { IfOk result (λ cs. take (MAX_SHOWN_CHARACTERS + 1) cs.items
         ≡ take (MAX_SHOWN_CHARACTERS + 1) (spaced (chars text.now))) }
+    ensures settled { IfOk result (λ cs. MAX_SHOWN_CHARACTERS < length cs.items → (later : List ℕ)
+        → take (MAX_SHOWN_CHARACTERS + 1) cs.items
+        ≡ take (MAX_SHOWN_CHARACTERS + 1) (spaced (chars text.now ++ later))) }
 {
     let mut out = Vec::new(alloc);
     let mut gap = false;
@@ -130,4 +133,17 @@ pub fn brief_spaced(alloc: Global, text: &str) -> Result<Text, NoMemory>
 {
     let out = spaced_prefix(alloc, text)?;
     brief_of(alloc, after_space(out.as_slice()))
+}
+
+/// Returns what `brief_spaced` returns for every text that begins with this one; none if what
+/// follows may change it.
+pub fn settled_brief(alloc: Global, text: &str) -> Result<Option<Text>, NoMemory>
+    ensures { IfOk result (λ found. IfSome found (λ t. (later : List ℕ)
+        → t ≡ brief (Texts.one_spaced (chars text.now ++ later)))) }
+{
+    let out = spaced_prefix(alloc, text)?;
+    if out.len() <= MAX_SHOWN_CHARACTERS {
+        return Ok(None);
+    }
+    Ok(Some(brief_of(alloc, after_space(out.as_slice()))?))
 }

@@ -11,16 +11,12 @@ mod preview;
 mod received;
 mod subjects;
 mod summary;
-#[cfg(test)]
-mod summary_tests;
 mod texts_lines;
 mod texts_tags;
-#[cfg(test)]
-mod texts_tests;
 
 pub use body_value::{BodyValue, body_value_of};
 pub use laws::{date_of_received_follows_the_last_semicolon, examples_of_texts};
 pub use leaves::{has_attachment, leaf, part_bytes, read_body};
 pub use preview::{first_text_of, preview_of};
 pub use received::received_of;
-pub use summary::summary_of;
+pub use summary::{SummaryAndReceipt, read_summary_and_receipt, summary_of};

@@ -1,19 +1,26 @@
 // The preview of a message (RFC 8621, section 4.1.4).
-ghost use Rattle.std.specs.Prelude.{◌≡◌, length, option_map, IfOk, Some, None};
+ghost use Rattle.std.specs.Prelude.{◌≡◌, Option, length, option_map, IfOk, IfSome, Some, None};
+ghost use Rattle.std.specs.Str.{chars};
+ghost use Rattle.mime_codec.specs.Decoded.{decoded};
+ghost use Rattle.mime_codec.specs.Quoted.{quoted_printable};
 ghost use Rattle.mime_type.specs.PartTrees.{none};
 ghost use Rattle.mime_type.specs.PartViews.{node_of, tree_of};
 ghost use Rattle.mime_tree.specs.Places.{IsPlaced, AllPlaced};
+ghost use Rattle.mime_words.specs.Charsets.{decoded_text};
+ghost use Rattle.mime_words.specs.declared.charset.Charset.{Charset};
 ghost use Rattle.mail_summary.specs.Leaves;
 ghost use Rattle.mail_summary.specs.Leaves.{leaf_numbered, if_text, first_text};
 ghost use Rattle.mail_summary.specs.Views.{node_in};
-ghost use Rattle.mail_summary.specs.Texts.{preview_by, shown_text};
+ghost use Rattle.mail_summary.specs.Texts.{Begins, brief, one_spaced, preview_by, shown_text};
 
 use crate::body_value::read_body_text;
-use crate::characters::brief_spaced;
+use crate::characters::{brief_spaced, settled_brief};
 use crate::leaves::leaf;
 use crate::texts_tags::without_tags_of;
 use body_lists::{is_html, is_plain};
 use jm_base::{NoMemory, Text};
+use memchr::memrchr;
+use mime_codec::{Coding, decode};
 use mime_type::Part;
 use mime_words::Decoded;
 use std::alloc::Global;
@@ -58,13 +65,79 @@ fn show(alloc: Global, part: &Part, text: Text) -> Result<Text, NoMemory>
     }
 }
 
-fn part_preview(alloc: Global, bytes: &[u8], part: &Part) -> Result<Text, NoMemory>
+/// How many bytes of a body are decoded at first. They have more than `MAX_SHOWN_CHARACTERS`
+/// characters in every transfer encoding, but for white space.
+const FRONT_BYTES: usize = 4096;
+
+fn first_bytes(body: &[u8]) -> &[u8]
+    ensures { Begins result.now body.now }
+{
+    if body.len() > FRONT_BYTES {
+        return body.split_at(FRONT_BYTES).0;
+    }
+    body
+}
+
+/// Returns the whole lines among the first bytes of a body in quoted-printable.
+fn first_lines(body: &[u8]) -> &[u8]
+    ensures { Begins (quoted_printable result.now) (quoted_printable body.now) }
+{
+    let first = first_bytes(body);
+    match memrchr(b'\n', first) {
+        Some(i) => first.split_at(i + 1).0,
+        None => first.split_at(0).0,
+    }
+}
+
+/// Returns bytes at the beginning of a body that encode the beginning of what it encodes.
+fn front(coding: Coding, body: &[u8]) -> &[u8]
+    ensures { Begins (decoded coding result.now) (decoded coding body.now) }
+{
+    match coding {
+        Coding::Plain => first_bytes(body),
+        Coding::Quoted => first_lines(body),
+        Coding::Base64 => first_bytes(body),
+        Coding::Unknown => first_bytes(body),
+    }
+}
+
+/// Returns the preview of plain text with this body in any charset, if its first bytes are ASCII
+/// and decide it.
+fn early_preview(alloc: Global, coding: Coding, body: &[u8]) -> Result<Option<Text>, NoMemory>
+    ensures { IfOk result (λ found. IfSome found (λ t. (charset : Option Charset)
+        → t ≡ brief (one_spaced (chars (decoded_text charset (decoded coding body.now)))))) }
+{
+    let bytes = decode(alloc, coding, front(coding, body))?;
+    if !bytes.as_slice().is_ascii() {
+        return Ok(None);
+    }
+    match std::str::from_utf8(bytes.as_slice()) {
+        Ok(text) => settled_brief(alloc, text),
+        Err(_) => Ok(None),
+    }
+}
+
+/// Reads the whole text of a part for its preview.
+fn whole_preview(alloc: Global, bytes: &[u8], part: &Part) -> Result<Text, NoMemory>
     requires { IsPlaced (length bytes.now) (node_of part.now) }
     ensures { IfOk result (λ t. t ≡ preview_by bytes.now (Some (node_of part.now))) }
 {
     let Decoded { text, .. } = read_body_text(alloc, bytes, part)?;
     let shown = show(alloc, part, text)?;
     brief_spaced(alloc, shown.as_str())
+}
+
+fn part_preview(alloc: Global, bytes: &[u8], part: &Part) -> Result<Text, NoMemory>
+    requires { IsPlaced (length bytes.now) (node_of part.now) }
+    ensures { IfOk result (λ t. t ≡ preview_by bytes.now (Some (node_of part.now))) }
+{
+    if !is_html(part) {
+        let body = &bytes[part.body as usize..part.end as usize];
+        if let Some(preview) = early_preview(alloc, part.coding, body)? {
+            return Ok(preview);
+        }
+    }
+    whole_preview(alloc, bytes, part)
 }
 
 /// Returns the preview of a message with this tree of parts, whose text is the leaves of these

@@ -3,6 +3,7 @@ ghost use Rattle.std.specs.Prelude.{◌≡◌, All, Some, None, IfOk, find, opti
 ghost use Rattle.jm_base.specs.UtcDates.{IsUtcDate};
 ghost use Rattle.std.specs.Option.{ForSome};
 ghost use Rattle.mime_lines.specs.FieldOffsets.{IsWithin, is_named, value_in};
+ghost use Rattle.mime_lines.specs.Fields.{fields_of};
 ghost use Rattle.mail_summary.specs.Received;
 ghost use Rattle.mail_summary.specs.Received.{timestamp_after, received, first_value_of};
 ghost use Rattle.mail_summary.specs.Views.{bytes_in};
@@ -10,7 +11,7 @@ ghost use Rattle.mail_summary.specs.Views.{bytes_in};
 use header_forms::{on_one_line, timestamp_of};
 use jm_base::{NoMemory, UtcDate};
 use mail_text::{State, next_state};
-use mime_lines::{Field, fields};
+use mime_lines::{Field, FieldSpans, fields};
 use std::alloc::Global;
 
 /// Returns the value of the first field that has this name.
@@ -75,6 +76,23 @@ fn read_timestamp(alloc: Global, value: &[u8]) -> Result<Option<UtcDate>, NoMemo
     }
 }
 
+/// Reads the timestamp at which a message whose header has these fields was received.
+pub(crate) fn received_in(
+    alloc: Global,
+    bytes: &[u8],
+    fields: &FieldSpans,
+) -> Result<Option<UtcDate>, NoMemory>
+    requires within { All (IsWithin bytes.now) fields.now }
+    requires fields { fields.now ≡ fields_of bytes.now }
+    ensures value { IfOk result (λ d. d ≡ received bytes.now) }
+    ensures kept { IfOk result (λ d. ForSome d IsUtcDate) }
+{
+    match first_value(bytes, fields.as_slice(), b"Received") {
+        Some(value) => read_timestamp(alloc, value),
+        None => Ok(None),
+    }
+}
+
 /// Reads the timestamp at which a message was received: that of the date after the last semicolon
 /// outside comments in its first Received field (RFC 5322, section 3.6.7). None if the field, the
 /// semicolon or a valid date isn't there, or the timestamp isn't in the years 0001 to 9999.
@@ -83,8 +101,5 @@ pub fn received_of(alloc: Global, bytes: &[u8]) -> Result<Option<UtcDate>, NoMem
     ensures kept { IfOk result (λ d. ForSome d IsUtcDate) }
 {
     let head = fields(alloc, bytes)?;
-    match first_value(bytes, head.fields.as_slice(), b"Received") {
-        Some(value) => read_timestamp(alloc, value),
-        None => Ok(None),
-    }
+    received_in(alloc, bytes, &head.fields)
 }

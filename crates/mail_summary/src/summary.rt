@@ -4,6 +4,10 @@ ghost use Rattle.std.specs.Option.{ForSome, option_and_then};
 ghost use Rattle.std.specs.Str.{chars};
 ghost use Rattle.jm_base.specs.UtcDates.{IsUtcDate};
 ghost use Rattle.mime_lines.specs.FieldOffsets.{IsWithin, last_value_of};
+ghost use Rattle.mime_lines.specs.Fields.{fields_of};
+ghost use Rattle.mime_tree.specs.PartLimit.{parts_of};
+ghost use Rattle.mail_summary.specs.Leaves.{has_attachment_in};
+ghost use Rattle.mail_summary.specs.Received.{received};
 ghost use Rattle.mail_summary.specs.Texts.{brief};
 ghost use Rattle.mail_summary.specs.Summaries.{first_name, name_by, sent_by, subject_by};
 ghost use Rattle.mail_summary.specs.Summaries;
@@ -11,6 +15,7 @@ ghost use Rattle.mail_summary.specs.Summaries;
 use crate::characters::brief_text;
 use crate::leaves::has_attachment;
 use crate::links::links_of;
+use crate::received::received_in;
 use crate::subjects::read_subject;
 use header_forms::{Address, addresses_of, on_one_line, timestamp_of};
 use jm_base::{NoMemory, Text, UtcDate};
@@ -75,25 +80,82 @@ fn sent_in(alloc: Global, bytes: &[u8], fields: &FieldSpans) -> Result<Option<Ut
     }
 }
 
+// Returns whether a message has an attachment.
+fn attachment_in(alloc: Global, bytes: &[u8]) -> Result<bool, NoMemory>
+    ensures { IfOk result (λ a. a ≡ has_attachment_in (parts_of bytes.now)) }
+{
+    let root = parts(alloc, bytes)?;
+    has_attachment(alloc, &root)
+}
+
+// The texts of a summary.
+#[derive(Drop)]
+struct SummaryTexts {
+    subject: Text,
+    from: Text,
+    to: Text,
+}
+
+fn texts_in(alloc: Global, bytes: &[u8], fields: &FieldSpans) -> Result<SummaryTexts, NoMemory>
+    requires { All (IsWithin bytes.now) fields.now }
+    ensures subject { IfOk result (λ t. t.subject ≡ subject_by (last_value_of bytes.now (codes "Subject") fields.now)) }
+    ensures from { IfOk result (λ t. t.from ≡ name_by (last_value_of bytes.now (codes "From") fields.now)) }
+    ensures to { IfOk result (λ t. t.to ≡ name_by (last_value_of bytes.now (codes "To") fields.now)) }
+{
+    let subject = subject_in(alloc, bytes, fields)?;
+    let from = name_in(alloc, bytes, fields, b"From")?;
+    let to = name_in(alloc, bytes, fields, b"To")?;
+    Ok(SummaryTexts { subject, from, to })
+}
+
+// Reads the summary of a message whose header has these fields.
+fn summary_in(alloc: Global, bytes: &[u8], fields: &FieldSpans) -> Result<Summary, NoMemory>
+    requires within { All (IsWithin bytes.now) fields.now }
+    requires fields { fields.now ≡ fields_of bytes.now }
+    ensures value { IfOk result (λ s. s ≡ Summaries.summary bytes.now) }
+    ensures kept { IfOk result (λ s. ForSome s.sent IsUtcDate) }
+{
+    let attachment = attachment_in(alloc, bytes)?;
+    let sent = sent_in(alloc, bytes, fields)?;
+    let links = links_of(alloc, bytes, fields)?;
+    let texts = texts_in(alloc, bytes, fields)?;
+    Ok(Summary {
+        links,
+        subject: texts.subject,
+        from: texts.from,
+        to: texts.to,
+        sent,
+        attachment,
+    })
+}
+
 /// Reads the summary of a message, in time linear in its bytes. It fails only if memory runs out.
 pub fn summary_of(alloc: Global, bytes: &[u8]) -> Result<Summary, NoMemory>
     ensures value { IfOk result (λ s. s ≡ Summaries.summary bytes.now) }
     ensures kept { IfOk result (λ s. ForSome s.sent IsUtcDate) }
 {
     let head = fields(alloc, bytes)?;
-    let root = parts(alloc, bytes)?;
-    let attachment = has_attachment(alloc, &root)?;
-    let sent = sent_in(alloc, bytes, &head.fields)?;
-    let links = links_of(alloc, bytes, &head.fields)?;
-    let subject = subject_in(alloc, bytes, &head.fields)?;
-    let from = name_in(alloc, bytes, &head.fields, b"From")?;
-    let to = name_in(alloc, bytes, &head.fields, b"To")?;
-    Ok(Summary {
-        links,
-        subject,
-        from,
-        to,
-        sent,
-        attachment,
-    })
+    summary_in(alloc, bytes, &head.fields)
+}
+
+/// The summary of a message, and the timestamp at which it was received.
+#[derive(Drop)]
+pub struct SummaryAndReceipt {
+    pub summary: Summary,
+    /// As [`received_of`] has it.
+    ///
+    /// [`received_of`]: crate::received_of
+    pub received: Option<UtcDate>,
+}
+
+/// Reads the summary of a message and the timestamp at which it was received, in time linear in its
+/// bytes and from one reading of its header fields. It fails only if memory runs out.
+pub fn read_summary_and_receipt(alloc: Global, bytes: &[u8]) -> Result<SummaryAndReceipt, NoMemory>
+    ensures summary { IfOk result (λ r. r.summary ≡ Summaries.summary bytes.now) }
+    ensures received { IfOk result (λ r. r.received ≡ received bytes.now) }
+{
+    let head = fields(alloc, bytes)?;
+    let summary = summary_in(alloc, bytes, &head.fields)?;
+    let received = received_in(alloc, bytes, &head.fields)?;
+    Ok(SummaryAndReceipt { summary, received })
 }

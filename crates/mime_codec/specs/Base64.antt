@@ -1,6 +1,6 @@
 -- Base64 (RFC 2045, section 6.8): characters outside the alphabet are ignored, the data end at the
 -- first equals sign, and bits that fill no byte are dropped.
-use Rattle.std.specs.Prelude.{ℕ, ◌+◌, ◌-◌, ◌*◌, ◌/◌, ◌%◌, ◌==◌, List, [], ◌∷◌, Option, None, Some, if◌then◌else◌}
+use Rattle.std.specs.Prelude.{ℕ, ◌+◌, ◌-◌, ◌*◌, ◌/◌, ◌%◌, ◌==◌, Bool, ◌||◌, List, [], ◌∷◌, Option, None, Some, if◌then◌else◌}
 use Rattle.mime_codec.specs.Quoted.{is_between}
 
 -- the six bits of a character of the alphabet: A to Z, a to z, 0 to 9, + and /
@@ -10,6 +10,11 @@ letter b =
     else (if is_between 97 122 b then Some (b - 71)
     else (if is_between 48 57 b then Some (b + 4)
     else (if b == 43 then Some 62 else (if b == 47 then Some 63 else None))))
+
+-- whether it is of the alphabet
+abbrev pub is_letter : ℕ → Bool
+is_letter b =
+    is_between 65 90 b || is_between 97 122 b || is_between 48 57 b || b == 43 || b == 47
 
 abbrev pub with_letter : Option ℕ → List ℕ → List ℕ
 with_letter None later = later

@@ -8,8 +8,6 @@ mod base64;
 mod coding;
 mod quoted;
 mod size;
-#[cfg(test)]
-mod tests;
 
 pub use coding::{Coding, decode};
 pub use quoted::unescape;

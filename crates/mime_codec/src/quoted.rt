@@ -56,7 +56,7 @@ pub fn split_first(text: &[u8]) -> First<'_>
 }
 
 /// Splits a text before its first equals sign.
-fn split_run(text: &[u8]) -> (&[u8], &[u8])
+pub fn split_run(text: &[u8]) -> (&[u8], &[u8])
     ensures value { unescaped text.now ≡ result.0.now ++ unescaped result.1.now }
     ensures size { length result.0.now + length result.1.now ≡ length text.now }
 {
@@ -148,7 +148,7 @@ fn push_line(out: &mut Vec<u8>, line: &[u8]) -> Result<(), NoMemory>
 pub fn decode_quoted(alloc: Global, bytes: &[u8]) -> Result<Vec<u8>, NoMemory>
     ensures { IfOk result (λ out. out.items ≡ quoted_printable bytes.now) }
 {
-    let mut out = Vec::new(alloc);
+    let mut out = Vec::with_capacity(alloc, bytes.len())?;
     let mut rest = bytes;
     while !rest.is_empty() {
         let (line, after) = split_line(rest);

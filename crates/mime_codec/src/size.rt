@@ -1,21 +1,72 @@
 // How many bytes a body encodes, found without decoding it.
-ghost use Rattle.std.specs.Prelude.{◌≡◌, ◌≤◌, ◌<◌, ◌+◌, ◌^◌, List, ℕ, length};
-ghost use Rattle.mime_codec.specs.Base64.{letter, with_letter, letters, base64};
+ghost use Rattle.std.specs.Prelude.{◌≡◌, ◌≤◌, ◌<◌, ◌+◌, ◌^◌, ◌++◌, cond, length};
+ghost use Rattle.std.specs.List.{count_by};
+ghost use Rattle.mime_codec.specs.Base64;
+ghost use Rattle.mime_codec.specs.Base64.{letters, base64};
 ghost use Rattle.mime_codec.specs.Decoded.{decoded};
 ghost use Rattle.mime_codec.specs.Quoted.{unescaped, text_with_end, quoted_line, quoted_printable};
 
-use crate::base64::{NO_LETTER, six_bits};
 use crate::coding::Coding;
-use crate::quoted::{split_first, trim_end};
+use crate::quoted::{split_first, split_run, trim_end};
+use memchr::memchr;
 use mime_lines::{split_line, text_len};
 
-/// Returns how many letters of base64 a character is: one, or none if it isn't of the alphabet.
-fn letters_of(byte: u8) -> usize
-    ensures value { (later : List ℕ) → length (with_letter (letter byte) later) ≡ result
-        + length later }
+/// Returns whether a character is of the alphabet. It compares, where `six_bits` reads a table: a
+/// loop over comparisons becomes vector code.
+fn is_letter(byte: u8) -> bool
+    ensures { result ≡ Base64.is_letter byte }
+{
+    (65 <= byte && byte <= 90)
+        || (97 <= byte && byte <= 122)
+        || (48 <= byte && byte <= 57)
+        || byte == b'+'
+        || byte == b'/'
+}
+
+/// Returns one for a character of the alphabet, and else none.
+fn letters_of(byte: u8) -> u8
+    ensures value { result ≡ cond (Base64.is_letter byte) 1 0 }
     ensures within { result ≤ 1 }
 {
-    if six_bits(byte) == NO_LETTER { 0 } else { 1 }
+    if is_letter(byte) { 1 } else { 0 }
+}
+
+/// The most bytes whose letters a `u8` counts.
+const MAX_BLOCK_BYTES: usize = 255;
+
+/// Returns how many characters of a block are of the alphabet.
+fn block_letters(block: &[u8]) -> u8
+    requires { length block.now ≤ MAX_BLOCK_BYTES }
+    ensures { result ≡ count_by Base64.is_letter block.now }
+{
+    let mut count = 0;
+    for byte in block {
+        count += letters_of(*byte);
+    }
+    count
+}
+
+/// Splits off the next block.
+fn split_block(text: &[u8]) -> (&[u8], &[u8])
+    ensures whole { text.now ≡ result.0.now ++ result.1.now }
+    ensures small { length result.0.now ≤ MAX_BLOCK_BYTES }
+    ensures shorter { 0 < length text.now → length result.1.now < length text.now }
+{
+    if text.len() > MAX_BLOCK_BYTES {
+        return text.split_at(MAX_BLOCK_BYTES);
+    }
+    text.split_at(text.len())
+}
+
+/// Returns the bytes before the first equals sign.
+fn before_padding(bytes: &[u8]) -> &[u8]
+    ensures value { length (letters bytes.now) ≡ count_by Base64.is_letter result.now }
+    ensures within { length result.now ≤ length bytes.now }
+{
+    match memchr(b'=', bytes) {
+        Some(i) => bytes.split_at(i).0,
+        None => bytes,
+    }
 }
 
 /// Returns how many letters of base64 are before the first equals sign.
@@ -24,11 +75,11 @@ fn count_letters(bytes: &[u8]) -> usize
     ensures within { result ≤ length bytes.now }
 {
     let mut count = 0;
-    for byte in bytes {
-        if *byte == b'=' {
-            return count;
-        }
-        count += letters_of(*byte);
+    let mut left = before_padding(bytes);
+    while !left.is_empty() {
+        let (block, rest) = split_block(left);
+        count += block_letters(block) as usize;
+        left = rest;
     }
     count
 }
@@ -41,6 +92,18 @@ fn base64_size(bytes: &[u8]) -> usize
     count / 4 * 3 + (count % 4) * 3 / 4
 }
 
+/// Skips the first byte that a text encodes. Returns one, or none if it is empty, and the rest.
+fn skip_first(text: &[u8]) -> (usize, &[u8])
+    ensures value { length (unescaped text.now) ≡ result.0 + length (unescaped result.1.now) }
+    ensures within { result.0 + length result.1.now ≤ length text.now }
+    ensures shorter { 0 < length text.now → length result.1.now < length text.now }
+{
+    if text.is_empty() {
+        return (0, text);
+    }
+    (1, split_first(text).rest)
+}
+
 /// Returns how many bytes a text encodes: each escape is one.
 fn unescaped_size(text: &[u8]) -> usize
     ensures value { result ≡ length (unescaped text.now) }
@@ -49,8 +112,10 @@ fn unescaped_size(text: &[u8]) -> usize
     let mut size = 0;
     let mut left = text;
     while !left.is_empty() {
-        left = split_first(left).rest;
-        size += 1;
+        let (run, rest) = split_run(left);
+        let (first, after) = skip_first(rest);
+        size += run.len() + first;
+        left = after;
     }
     size
 }

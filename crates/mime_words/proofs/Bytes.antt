@@ -1,12 +1,14 @@
 -- Which bytes are UTF-8 and which are ASCII, as tests.
-use Rattle.std.proofs.Common.{◌≡◌, ℕ, zero, suc, ◌<◌, ◌≤◌, Bool, true, false, not, ◌&&◌, List, [], ◌∷◌, get_or, refl, sym, ap, arith}
+use Rattle.std.proofs.Common.{◌≡◌, ◌∙◌, map, ℕ, zero, suc, ◌<◌, ◌≤◌, Bool, true, false, not, ◌&&◌, List, [], ◌∷◌, ◌++◌, get_or, refl, sym, ap, append_assoc, arith}
 use Rattle.std.specs.List.{list_all}
-use Rattle.std.specs.Str.{IsUtf8, is_utf8, IsAscii, IsNotAscii}
+use Rattle.std.specs.Str.{IsUtf8, is_utf8, IsAscii, IsNotAscii, encode_utf8_all}
 use Rattle.std.specs.Bool.{MatchBool}
 use Rattle.std.specs.Result.{MatchResult, is_err}
 use Rattle.std.specs.Prelude.{Result, Ok, Err}
 use Rattle.std.proofs.lemmas.Str.{IsUtf8-from_is_utf8, is_utf8-from_IsUtf8}
-use Rattle.mime_words.specs.Charsets.{is_ascii}
+use Rattle.std.proofs.lemmas.List.{map-append}
+use Rattle.std.proofs.lemmas.Str.{encodes-IsAscii, encodes-append}
+use Rattle.mime_words.specs.Charsets.{is_ascii, ascii_character}
 
 utf8_true : (bytes : List ℕ) → IsUtf8 bytes → not (is_utf8 bytes) ≡ false
 utf8_true bytes u = ap not (is_utf8-from_IsUtf8 bytes u)
@@ -41,3 +43,24 @@ broken_utf8 bytes P Q (Err e) h = sym (utf8_false bytes h.0)
 pub broken_ascii : (bytes : List ℕ) (r : Bool) → MatchBool r (IsAscii bytes) (IsNotAscii bytes) → not r ≡ not (list_all is_ascii bytes)
 broken_ascii bytes true h = ap not (sym (ascii_true bytes h))
 broken_ascii bytes false h = ap not (sym (ascii_false bytes h.0 h.1))
+
+-- bytes that are all ASCII are their own text
+same_character : (b : ℕ) → b < 128 → ascii_character b ≡ b
+same_character b h = rw (small b h) refl
+
+same_characters : (bytes : List ℕ) → IsAscii bytes → map ascii_character bytes ≡ bytes
+same_characters [] all = refl
+same_characters (b ∷ bs) all = rw (same_character b (all 0)) (ap (λ l. b ∷ l) (same_characters bs (λ i. all (suc i))))
+
+pub own_text : (bytes : List ℕ) → IsAscii bytes → encode_utf8_all (map ascii_character bytes) ≡ bytes
+own_text bytes all = ap encode_utf8_all (same_characters bytes all) ∙ encodes-IsAscii bytes all
+
+-- the text of a block is added to the text of the blocks before it
+pub added : (read : List ℕ → List ℕ) → ((xs ys : List ℕ) → read (xs ++ ys) ≡ read xs ++ read ys) → (old new left block rest whole : List ℕ)
+    → new ≡ old ++ read block → left ≡ block ++ rest → old ++ read left ≡ whole → new ++ read rest ≡ whole
+added read splits old new left block rest whole pushed is held =
+    ap (λ t. t ++ read rest) pushed ∙ append_assoc old (read block) (read rest)
+    ∙ ap (λ t. old ++ t) (sym (ap read is ∙ splits block rest)) ∙ held
+
+pub ascii_splits : (xs ys : List ℕ) → encode_utf8_all (map ascii_character (xs ++ ys)) ≡ encode_utf8_all (map ascii_character xs) ++ encode_utf8_all (map ascii_character ys)
+ascii_splits xs ys = ap encode_utf8_all (map-append ascii_character xs ys) ∙ encodes-append (map ascii_character xs) (map ascii_character ys)

@@ -1,5 +1,5 @@
 // The text of bytes in a charset.
-ghost use Rattle.std.specs.Prelude.{◌≡◌, IfOk, string_bytes};
+ghost use Rattle.std.specs.Prelude.{◌≡◌, ◌<◌, ◌++◌, length, IfOk, OnOk, IfSome, string_bytes};
 ghost use Rattle.mime_words.specs.Charsets;
 ghost use Rattle.mime_words.specs.Charsets.{same_charset, text_in, decoded_text, has_problem};
 
@@ -61,13 +61,78 @@ fn ascii_character(byte: u8) -> char
     if byte < 128 { byte as char } else { '\u{FFFD}' }
 }
 
+/// Returns the text that bytes are by themselves, in us-ascii and in iso-8859-1. None if a byte is
+/// above 127.
+fn own_text(bytes: &[u8]) -> Option<&str>
+    ensures ascii { IfSome result (λ text. text.now ≡ text_in Charset.Ascii bytes.now) }
+    ensures latin { IfSome result (λ text. text.now ≡ text_in Charset.Latin1 bytes.now) }
+{
+    if !bytes.is_ascii() {
+        return None;
+    }
+    match std::str::from_utf8(bytes) {
+        Ok(text) => Some(text),
+        Err(_) => None,
+    }
+}
+
+/// How many bytes are copied at once, where they are ASCII, in a text with other bytes.
+const BLOCK_BYTES: usize = 32;
+
+/// Splits off the next block.
+fn split_block(bytes: &[u8]) -> (&[u8], &[u8])
+    ensures whole { bytes.now ≡ result.0.now ++ result.1.now }
+    ensures shorter { 0 < length bytes.now → length result.1.now < length bytes.now }
+{
+    if bytes.len() > BLOCK_BYTES {
+        return bytes.split_at(BLOCK_BYTES);
+    }
+    bytes.split_at(bytes.len())
+}
+
+/// Adds the text of a block in us-ascii.
+fn push_ascii(text: &mut String, block: &[u8]) -> Result<(), NoMemory>
+    ensures { OnOk result (string_bytes text.new ≡ string_bytes text.old
+        ++ text_in Charset.Ascii block.now) }
+{
+    if let Some(own) = own_text(block) {
+        text.push_str(own)?;
+        return Ok(());
+    }
+    for byte in block {
+        text.push(ascii_character(*byte))?;
+    }
+    Ok(())
+}
+
+/// Adds the text of a block in iso-8859-1.
+fn push_latin(text: &mut String, block: &[u8]) -> Result<(), NoMemory>
+    ensures { OnOk result (string_bytes text.new ≡ string_bytes text.old
+        ++ text_in Charset.Latin1 block.now) }
+{
+    if let Some(own) = own_text(block) {
+        text.push_str(own)?;
+        return Ok(());
+    }
+    for byte in block {
+        text.push(*byte as char)?;
+    }
+    Ok(())
+}
+
 /// Returns the text of bytes in us-ascii.
 fn ascii_text(alloc: Global, bytes: &[u8]) -> Result<String, NoMemory>
     ensures { IfOk result (λ text. string_bytes text ≡ text_in Charset.Ascii bytes.now) }
 {
+    if let Some(own) = own_text(bytes) {
+        return Ok(String::from_str(alloc, own)?);
+    }
     let mut text = String::with_capacity(alloc, bytes.len())?;
-    for byte in bytes {
-        text.push(ascii_character(*byte))?;
+    let mut left = bytes;
+    while !left.is_empty() {
+        let (block, rest) = split_block(left);
+        push_ascii(&mut text, block)?;
+        left = rest;
     }
     Ok(text)
 }
@@ -76,9 +141,15 @@ fn ascii_text(alloc: Global, bytes: &[u8]) -> Result<String, NoMemory>
 fn latin_text(alloc: Global, bytes: &[u8]) -> Result<String, NoMemory>
     ensures { IfOk result (λ text. string_bytes text ≡ text_in Charset.Latin1 bytes.now) }
 {
+    if let Some(own) = own_text(bytes) {
+        return Ok(String::from_str(alloc, own)?);
+    }
     let mut text = String::with_capacity(alloc, bytes.len())?;
-    for byte in bytes {
-        text.push(*byte as char)?;
+    let mut left = bytes;
+    while !left.is_empty() {
+        let (block, rest) = split_block(left);
+        push_latin(&mut text, block)?;
+        left = rest;
     }
     Ok(text)
 }
@@ -105,6 +176,26 @@ fn is_broken(charset: Charset, bytes: &[u8]) -> bool
     }
 }
 
+/// Returns the text of bytes in utf-8, and whether some are none. It reads valid bytes once.
+fn decode_utf8(alloc: Global, bytes: &[u8]) -> Result<Decoded, NoMemory>
+    ensures text { IfOk result (λ d. d.text ≡ text_in Charset.Utf8 bytes.now) }
+    ensures problem { IfOk result (λ d. d.problem
+        ≡ Rattle.mime_words.specs.Charsets.is_broken Charset.Utf8 bytes.now) }
+{
+    let read = std::str::from_utf8(bytes);
+    let problem = read.is_err();
+    match read {
+        Ok(valid) => Ok(Decoded {
+            text: Text::from_string(String::from_str(alloc, valid)?),
+            problem,
+        }),
+        Err(_) => Ok(Decoded {
+            text: Text::from_string(String::from_utf8_lossy(alloc, bytes)?),
+            problem,
+        }),
+    }
+}
+
 /// Returns the text of bytes in the charset of this name, in either case: `utf-8`, `us-ascii` or
 /// `iso-8859-1`. Sequences that are no UTF-8, and in us-ascii each byte above 127, become U+FFFD
 /// and are an encoding problem (RFC 8621, section 4.1.4). Any other charset is read as us-ascii and
@@ -116,6 +207,7 @@ pub fn decode_charset(alloc: Global, charset: &[u8], bytes: &[u8]) -> Result<Dec
         ≡ has_problem (Rattle.mime_words.specs.Charsets.charset_named charset.now) bytes.now) }
 {
     match charset_named(charset) {
+        Some(Charset::Utf8) => decode_utf8(alloc, bytes),
         Some(known) => Ok(Decoded {
             text: Text::from_string(charset_text(alloc, known, bytes)?),
             problem: is_broken(known, bytes),

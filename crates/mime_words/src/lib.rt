@@ -6,8 +6,6 @@
 mod charset;
 mod laws;
 mod shape;
-#[cfg(test)]
-mod tests;
 mod words;
 
 pub use charset::{Decoded, decode_charset};

@@ -8,5 +8,5 @@ use Rattle.mail_summary.proofs.characters.brief_spaced.Goals as goal
 pub returns : goal.returns
 returns c = subst (λ bytes. IfOk c.brief_of.result (λ t. t ≡ bytes))
     (ap (λ cs. encode_utf8_all (take MAX_SHOWN_CHARACTERS cs)) (c.after_space.ensures ∙ ap without_space c.as_slice.ensures.value)
-    ∙ ap encode_utf8_all (front_without_space MAX_SHOWN_CHARACTERS _ _ c.in_ok-out.ensures))
+    ∙ ap encode_utf8_all (front_without_space MAX_SHOWN_CHARACTERS _ _ c.in_ok-out.ensures.text))
     c.brief_of.ensures
