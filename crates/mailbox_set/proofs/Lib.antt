@@ -1,11 +1,5 @@
-pub mod Texts
-pub mod Sames
-pub mod Knowing
-pub mod Naming
-pub mod Rising
-pub mod NewNumbers
-pub mod Following
-pub mod Rounding
-pub mod Planning
-pub mod Promising
-pub mod Equal
+pub mod Removing
+pub mod EmailsLeft
+pub mod Ordered
+pub mod Tracking
+pub mod Leading

@@ -1,7 +1,3 @@
-pub mod Equality
-pub mod Properties
-pub mod Creates
-pub mod Rounds
-pub mod Arguments
-pub mod Plans
+pub mod Destroys
+pub mod Sets
 pub mod Views

@@ -1,141 +1,45 @@
 -- What contracts see of the types of this crate.
-use Rattle.std.specs.Prelude.{ℕ, List, Bool, not, ◌&&◌, nat_le, nat_lt, Some, Option, bytes_eq, ◌≡◌, ◌≢◌, ◌<◌, ◌≤◌, None, ⊤, option_map, length, map, slice_index_or, ◌||◌, is_some}
-use Rattle.jm_base.specs.declared.identifiers.TheConstants.{NUMBER_LIMIT}
-use Rattle.mail_records.specs.declared.records.Mailbox.{Mailbox}
-use Rattle.mail_counts.specs.Tidy.{same_role, same_parent, is_sibling}
-use Rattle.std.specs.List.{list_any, remove}
-use Rattle.mailbox_set.specs.declared.names.Key.{Key}
-use Rattle.mail_counts.specs.Views.{mailbox_id}
-use Rattle.std.specs.BTreeMap.{get_by}
-use Rattle.std.specs.Ordering.{nat_cmp}
-use Rattle.std.specs.Cmp.Lexicographic.{slice_cmp}
+use Rattle.std.specs.Prelude.{ℕ, List, [], ◌∷◌, ◌++◌, Bool, ◌≡◌, true, is_some}
+use Rattle.std.specs.List.{AllByRecursion, remove}
 use Rattle.jm_json.specs.declared.invocation.Created.{Created}
-use Rattle.mailbox_set.specs.Properties.{last_made, SentProperties}
-use Rattle.mailbox_set.specs.declared.creation_ids.CreatedIds.{CreatedIds}
-use Rattle.mailbox_set.specs.Creates.{Create, Progress}
-use Rattle.mailbox_set.specs.declared.arguments.Draft.{Draft}
-use Rattle.mailbox_set.specs.declared.properties.SentProperties.{SentProperties as TheSentProperties}
-use Rattle.mailbox_set.specs.Rounds.{taken_out}
+use Rattle.mailbox_creates.specs.Creates.{Progress}
 use Rattle.mail_records.specs.Contents.{Content, mailbox_at, mailbox_number}
-use Rattle.mail_records.specs.Tables.{IsTable}
-use Rattle.mailbox_set.specs.declared.planner.Planner.{Planner}
+use Rattle.mail_records.specs.Edits.{after_edits}
+use Rattle.mail_records.specs.Tables.{without}
+use Rattle.mail_records.specs.declared.edits.Edit.TheVariants.{DropMailbox}
+use Rattle.set_parts.specs.Steps.{Progress as Steps}
+use Rattle.set_parts.specs.declared.steps.Step.TheVariants.{Done}
+use Rattle.mailbox_set.specs.Destroys.{destroy_edits, destroy_mailbox}
+use Rattle.mailbox_updates.specs.Views.{PutsMailbox}
+use Rattle.mailbox_updates.specs.declared.current.Current.{Current}
+use Rattle.mailbox_set.specs.declared.plan.Steps.{Steps as TheSteps}
 
--- ---- Mailboxes by whether a set has given their numbers. In a content that is kept in order each
--- number is below the next one; in any other a new mailbox may take the place of one that is there.
+-- ---- A destroy.
 
--- the mailbox has this role
-abbrev pub has_role : List ℕ → Mailbox → Bool
-has_role role m = same_role m.role (Some role)
+-- the string means the mailbox of this number, which is there and may be destroyed
+pub record IsToDestroy
+    (made : List Created) (remove : Bool) (c : Content) (id : List ℕ) (n : ℕ) : Type 0 where
+  pub there : is_some (mailbox_at c n) ≡ true
+  pub done : destroy_mailbox made remove c id ≡ Done (destroy_edits c n)
 
--- the number was given by a set that began with the first number and has come to the next one
-abbrev pub is_new : ℕ → ℕ → ℕ → Bool
-is_new first next n = nat_le first n && nat_lt n next
+-- the mailbox of this number is dropped, and nothing else is done
+pub record Drops (p : Current) (n : ℕ) (q : Current) : Type 0 where
+  pub content : q.content.now ≡ p.content.now
+  pub changed : q.changed.rows ≡ without mailbox_number n p.changed.rows
+  pub destroyed : q.destroyed.items ≡ p.destroyed.items ++ n ∷ []
+  pub edits : q.edits.items ≡ p.edits.items ++ DropMailbox n ∷ []
+  pub reported : q.reported ≡ p.reported
 
--- the mailbox has such a number, and it passes
-abbrev pub is_created : ℕ → ℕ → (Mailbox → Bool) → Mailbox → Bool
-is_created first next test m = is_new first next m.number && test m
+-- ---- Steps.
 
--- the mailbox has another number, and it passes
-abbrev pub is_other : ℕ → ℕ → (Mailbox → Bool) → Mailbox → Bool
-is_other first next test m = not (is_new first next m.number) && test m
+-- The creates of a set led from a content to a progress, of a request that had created this before:
+-- their edits put mailboxes.
+pub record IsCreated (c : Content) (before : List Created) (p : Progress) : Type 0 where
+  pub made : p.made ≡ before ++ p.fresh
+  pub puts : AllByRecursion PutsMailbox p.edits
+  pub content : p.content ≡ after_edits c p.edits
 
--- ---- What a set of texts in groups holds.
-
--- the key is this text in this group
-abbrev pub is_key : Option ℕ → List ℕ → Key → Bool
-is_key group text k = same_parent k.group group && bytes_eq k.text.now text
-
--- the keys have this text in this group
-abbrev pub holds : List Key → Option ℕ → List ℕ → Bool
-holds keys group text = list_any (is_key group text) keys
-
--- ---- The ids that a request has created.
-
--- a number that an id may have
-pub record IsNumber (n : ℕ) : Type 0 where
-  pub from_one : 1 ≤ n
-  pub below : n < NUMBER_LIMIT
-
--- the string is the id of the mailbox of this number, or of none
-abbrev pub Means : List ℕ → Option ℕ → Type 0
-Means s None = (n : ℕ) → IsNumber n → s ≢ mailbox_id n
-Means s (Some n) = IsNumber n × (s ≡ mailbox_id n)
-
--- an id that may be missing means this number; there is none if it is missing
-abbrev pub MeansIfAny : Option (List ℕ) → Option ℕ → Type 0
-MeansIfAny None number = number ≡ None
-MeansIfAny (Some s) number = Means s number
-
--- what is found at a creation id: nothing if nothing was created under it
-abbrev pub IsIdFor : Option (List ℕ) → Option (Option ℕ) → Type 0
-IsIdFor None None = ⊤
-IsIdFor (Some s) (Some number) = Means s number
-IsIdFor _ _ = ⊥
-
--- ---- The table of created ids.
-
--- what the table has at a creation id
-abbrev pub id_at : CreatedIds → List ℕ → Option (Option ℕ)
-id_at known k = get_by (λ x. slice_cmp nat_cmp k x.now) known.numbers
-
--- the table has what was created last under each creation id
-abbrev pub HoldIds : CreatedIds → List Created → Type 0
-HoldIds known made = (k : List ℕ) → IsIdFor (last_made k made) (id_at known k)
-
--- ---- The create that a draft means.
-
-abbrev pub create_of : Draft → Create
-create_of d = record { creation = d.creation.now; members = d.members.now }
-
--- ---- The properties that a create sends, as the code holds them.
-
-abbrev pub properties_of : TheSentProperties → SentProperties
-properties_of a = record {
-  name = option_map (λ t. t.now) a.name;
-  parent = a.parent;
-  role = option_map (λ r. option_map (λ t. t.now) r) a.role;
-  sort_order = a.sort_order;
-  subscribed = a.subscribed;
-}
-
--- ---- The first draft that is ready.
-
--- it is the index of the first draft that passes
-abbrev pub IsFirst : (Create → Bool) → List Draft → Option ℕ → Type 0
-IsFirst test drafts None = taken_out test (map create_of drafts) ≡ None
-IsFirst test drafts (Some i) =
-    (i < length drafts)
-    × ((d : Draft) → taken_out test (map create_of drafts)
-    ≡ Some (create_of (slice_index_or drafts i d), map create_of (remove drafts i)))
-
--- ---- What a planner keeps in step with the progress of a set.
-
--- it was there at the beginning, or the set has given its number
-abbrev pub is_found : Content → ℕ → ℕ → Bool
-is_found base next n = is_some (mailbox_at base n) || is_new base.next_mailbox next n
-
--- The planner has the next number, what was made, and what is to be answered. The names and roles
--- that it holds are those of the mailboxes that the set created, and all other mailboxes are those
--- of the content that it began with.
-pub record Follows (p : Planner) (s : Progress) : Type 0 where
-  pub table : IsTable mailbox_number s.content.mailboxes
-  pub base : IsTable mailbox_number p.content.now.content.mailboxes
-  pub next : p.next ≡ s.content.next_mailbox
-  pub grown : p.content.now.content.next_mailbox ≤ p.next
-  pub found : (n : ℕ) → is_some (mailbox_at s.content n) ≡ is_found p.content.now.content p.next n
-  pub names : (g : Option ℕ) (t : List ℕ) → holds p.names.keys.keys g t
-      ≡ list_any
-      (is_created p.content.now.content.next_mailbox p.next
-      (is_sibling g t)) s.content.mailboxes
-  pub roles : (t : List ℕ) → holds p.roles.keys.keys None t
-      ≡ list_any
-      (is_created p.content.now.content.next_mailbox p.next (has_role t)) s.content.mailboxes
-  pub others : (test : Mailbox → Bool)
-      → list_any (is_other p.content.now.content.next_mailbox p.next test) s.content.mailboxes
-      ≡ list_any
-      (is_other p.content.now.content.next_mailbox p.next test) p.content.now.content.mailboxes
-  pub ids : HoldIds p.ids s.made
-  pub fresh : p.fresh.items ≡ s.fresh
-  pub edits : p.edits.items ≡ s.edits
-  pub created : p.created ≡ s.created
-  pub refused : p.refused ≡ s.refused
+-- the steps are those that led to a progress
+pub record IsStepsOf (x : TheSteps) (s : Steps) : Type 0 where
+  pub reported : x.reported ≡ s.reported
+  pub edits : x.edits ≡ s.edits

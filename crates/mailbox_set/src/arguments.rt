@@ -1,29 +1,28 @@
-// The arguments of a Mailbox/set, and its creates (RFC 8620, section 5.3; RFC 8621, section 2.5).
-ghost use Rattle.std.specs.Prelude.{◌≡◌, map, option_map, IfOk};
-ghost use Rattle.std.specs.List.{filter_map};
-ghost use Rattle.jm_json.specs.Json.{member_of};
-ghost use Rattle.mailbox_set.specs.Arguments.{account_in, create_in, creates_in, if_in_state, invalid_argument};
-ghost use Rattle.mailbox_set.specs.Views.{create_of};
+// The arguments of a Mailbox/set (RFC 8620, section 5.3; RFC 8621, section 2.5).
+ghost use Rattle.std.specs.Prelude.{◌≡◌, MatchResult, None};
+ghost use Rattle.mailbox_set.specs.Sets.{mailbox_set_forms, removes_emails};
+ghost use Rattle.set_parts.specs.Outcomes.{ExplainsRejection, rejected};
 
-use jm_base::{NoMemory, Text};
-use jm_json::{Member, Members};
-use method_args::{Argument, Presence, Shape, find_invalid, read_account, read_object, read_text};
+use jm_json::Members;
+use mail_counts::SetFault;
+use method_args::{Argument, Presence, Shape, read_flag};
+use set_parts::check_call;
 use std::alloc::Global;
 
-/// A create that is lent by the arguments of a set: its creation id, and the members of its object.
-#[derive(Clone, Copy)]
-pub struct Draft<'a> {
-    pub creation: &'a Text,
-    pub members: &'a Members,
-}
-
-/// Returns the name of the first argument in byte order that is missing or does not have its form.
-/// Until updates and destroys are built, there may be none.
-pub fn find_invalid_argument(members: &Members) -> Option<&'static str>
-    ensures { option_map (λ s. s.now) result ≡ invalid_argument members.now }
+/// Returns Ok if a set of so many objects with these arguments is not rejected as a whole, in an
+/// account with this state of the mailboxes.
+pub fn check_arguments(
+    alloc: Global,
+    members: &Members,
+    objects: usize,
+    state: u64,
+) -> Result<(), SetFault>
+    ensures { MatchResult result
+        (λ _. rejected mailbox_set_forms objects state members.now ≡ None)
+        (λ e. ExplainsRejection e (rejected mailbox_set_forms objects state members.now)) }
 {
-    find_invalid(
-        members,
+    check_call(
+        alloc,
         &[
             Argument {
                 name: "accountId",
@@ -38,7 +37,7 @@ pub fn find_invalid_argument(members: &Members) -> Option<&'static str>
             Argument {
                 name: "destroy",
                 presence: Presence::Nullable,
-                shape: Shape::EmptyList,
+                shape: Shape::Strings,
             },
             Argument {
                 name: "ifInState",
@@ -53,51 +52,22 @@ pub fn find_invalid_argument(members: &Members) -> Option<&'static str>
             Argument {
                 name: "update",
                 presence: Presence::Nullable,
-                shape: Shape::EmptyObject,
+                shape: Shape::Object,
             },
         ],
+        members,
+        objects,
+        state,
     )
 }
 
-/// Returns the id of the account, or the empty string if none is given.
-pub fn read_account_id<'a>(members: &'a Members) -> &'a str
-    ensures { result.now ≡ account_in members.now }
+/// Reads whether destroys remove the emails of the mailboxes (RFC 8621, section 2.5:
+/// `onDestroyRemoveEmails`).
+pub fn read_removes_emails(members: &Members) -> bool
+    ensures { result ≡ removes_emails members.now }
 {
-    match read_account(members) {
-        Some(text) => text.as_str(),
-        None => "",
-    }
-}
-
-/// Returns the state that the client asks for (RFC 8620, section 5.3: `ifInState`).
-pub fn read_if_in_state<'a>(members: &'a Members) -> Option<&'a Text>
-    ensures { option_map (λ t. t.now) result ≡ if_in_state members.now }
-{
-    read_text(members, "ifInState")
-}
-
-fn collect_drafts<'a>(alloc: Global, members: &'a [Member]) -> Result<Vec<Draft<'a>>, NoMemory>
-    ensures { IfOk result
-        (λ v. map create_of v.items ≡ filter_map create_in (map member_of members.now)) }
-{
-    let mut drafts = Vec::with_capacity(alloc, members.len())?;
-    for member in members {
-        if let Some(object) = member.value.as_object() {
-            drafts.push(Draft {
-                creation: &member.name,
-                members: object,
-            })?;
-        }
-    }
-    Ok(drafts)
-}
-
-/// Returns the creates, in byte order of their creation ids.
-pub fn read_creates<'a>(alloc: Global, members: &'a Members) -> Result<Vec<Draft<'a>>, NoMemory>
-    ensures { IfOk result (λ v. map create_of v.items ≡ creates_in members.now) }
-{
-    match read_object(members, "create") {
-        Some(object) => collect_drafts(alloc, object.as_slice()),
-        None => Ok(Vec::new(alloc)),
+    match read_flag(members, "onDestroyRemoveEmails") {
+        Some(flag) => flag,
+        None => false,
     }
 }

@@ -3,17 +3,7 @@
 #![tactic(auto)]
 
 mod arguments;
-mod checks;
-mod create;
-mod creation_ids;
-mod equality;
-mod names;
+mod destroys;
 mod plan;
-mod planner;
-mod properties;
-mod response;
-mod rounds;
-#[cfg(test)]
-mod tests;
 
 pub use plan::plan_mailbox_set;

@@ -1,45 +1,148 @@
 // The plan of a Mailbox/set (RFC 8620, section 5.3; RFC 8621, section 2.5).
-ghost use Rattle.std.specs.Prelude.{IfErr, IfOk, MatchResult, codes, length, map, ◌+◌, ◌<◌, ◌≡◌, ◌≤◌};
 ghost use Rattle.std.specs.List.{AllByRecursion};
+ghost use Rattle.std.specs.Prelude.{IfErr, IfOk, List, MatchResult, Some, length, map, ℕ, ◌++◌, ◌+◌, ◌<◌, ◌≡◌, ◌≤◌};
 ghost use Rattle.jm_base.specs.declared.identifiers.TheConstants.{NUMBER_LIMIT};
-ghost use Rattle.jm_json.specs.Json.{tree_of};
-ghost use Rattle.mail_records.specs.Contents.{AreNumbered, Content as Content'};
-ghost use Rattle.mail_records.specs.Edits.{AllFit, after_edits};
+ghost use Rattle.jm_json.specs.Json.{member_of, tree_of};
+ghost use Rattle.jm_json.specs.declared.invocation.Created.{Created as TheCreated};
+ghost use Rattle.mail_records.specs.Contents.{AreNumbered, AreTables};
+ghost use Rattle.mail_records.specs.Edits.{after_edits};
 ghost use Rattle.mail_records.specs.Histories.{max_position};
+ghost use Rattle.mail_records.specs.declared.records.Summary.{Summary};
 ghost use Rattle.mail_counts.specs.CountsFlag.{AreCountsFlagsRight};
+ghost use Rattle.mail_counts.specs.Plans.{present_state};
 ghost use Rattle.mail_counts.specs.Tidy.{IsTidy};
+ghost use Rattle.plan_promises.specs.Planned.{IsPlanned};
 ghost use Rattle.state_log.specs.Logs.{log_end};
-ghost use Rattle.mailbox_set.specs.Arguments.{account_in, creates_in, if_in_state, invalid_argument};
-ghost use Rattle.mailbox_set.specs.Creates.{Progress};
-ghost use Rattle.mailbox_set.specs.Views.{create_of, Follows};
-ghost use Rattle.mailbox_set.specs.Plans.{ExplainsSet, HasNewState, beginning, ground_of, is_other_state, outcome_of_arguments, outcome_of_creates, plan_after, plan_of, planned, set_outcome, PutsNew};
-ghost use Rattle.mailbox_set.specs.Rounds.{after_creates};
+ghost use Rattle.set_parts.specs.Arguments.{count_objects, creates_in, update_in};
+ghost use Rattle.set_parts.specs.Outcomes.{ExplainsSet, ground_of, outcome_of_members, plan_of, planned};
+ghost use Rattle.set_parts.specs.Responses.{HasNewState};
+ghost use Rattle.set_parts.specs.Steps.{Progress as Steps', after_destroys, before_steps};
+ghost use Rattle.set_parts.specs.Views.{AreMade, create_of};
+ghost use Rattle.mailbox_creates.specs.Creates.{Progress, beginning};
+ghost use Rattle.mailbox_set.specs.Destroys.{destroy_mailbox};
+ghost use Rattle.mailbox_creates.specs.Rounds.{after_creates};
+ghost use Rattle.mailbox_set.specs.Sets.{mailbox_set_forms, mailbox_set_outcome, plan_after_steps, plan_in, steps_after};
+ghost use Rattle.mailbox_updates.specs.Updates.{after_mailbox_updates};
+ghost use Rattle.mailbox_updates.specs.Views.{AreDestroyed, PutsMailbox};
+ghost use Rattle.mailbox_creates.specs.Views.{Follows};
+ghost use Rattle.mailbox_set.specs.Views.{IsStepsOf};
 
-use crate::arguments::{
-    Draft, find_invalid_argument, read_account_id, read_creates, read_if_in_state,
-};
-use crate::planner::{Planner, start_planner};
-use crate::response::{build_response, find_new_state, is_other_state};
-use crate::rounds::do_creates;
+use crate::arguments::{check_arguments, read_removes_emails};
+use crate::destroys::perform_destroys;
 use jm_base::{Kind, NoMemory, Text};
-use jm_json::{Json, Made, Members};
-use mail_counts::{SetFault, SetPlan};
-use mail_records::{Content, Edits};
-use method_args::MAX_OBJECTS_PER_CALL;
+use jm_json::{Created, Json, Made, Member, Members};
+use mail_counts::{SetFault, SetPlan, derived};
+use mail_records::{Content, Edit, Edits};
+use mailbox_creates::{Planner, do_creates, start_planner};
+use mailbox_updates::{Current, Setting, collect_all_created, collect_destroyed, perform_updates};
+use set_parts::{
+    Reported, SentCreate, build_set_response, count_objects, find_new_state, read_account_id,
+    read_creates, read_destroys, read_updates,
+};
 use state_log::Log;
 use std::alloc::Global;
 
-// Returns the plan that a planner has come to, over an account with this log.
+/// The updates and destroys of a set: what is reported of them, and their edits, without the edits
+/// of threads and counts that follow.
+#[derive(Drop)]
+pub struct Steps {
+    pub reported: Reported,
+    pub edits: Edits,
+}
+
+// Returns the planner after all creates.
+fn perform_creates<'a>(
+    alloc: Global,
+    content: &'a Content,
+    made: &'a Made,
+    creates: Vec<SentCreate<'a>>,
+) -> Result<Planner<'a>, NoMemory>
+    requires room { content.now.content.next_mailbox + length creates.items < NUMBER_LIMIT }
+    ensures { IfOk result
+        (λ p. Follows p
+        (after_creates (beginning content.now.content made.now)
+        (map create_of creates.entry.items))) }
+{
+    let mut planner = start_planner(alloc, content, made.as_slice())?;
+    do_creates(alloc, &mut planner, creates)?;
+    Ok(planner)
+}
+
+// Performs the updates and destroys of a set, after its creates, whose edits are these.
+fn perform_steps<'a>(
+    alloc: Global,
+    content: &Content,
+    creates: &[Edit],
+    setting: &Setting<'a>,
+    updates: &'a [Member],
+    destroys: &[&'a str],
+) -> Result<Steps, NoMemory>
+    ensures { IfOk result (λ x. (made : List TheCreated) → AreMade setting.now.created made
+        → AreDestroyed setting.now.destroyed made (map (λ d. d.now) destroys.now)
+        → AllByRecursion PutsMailbox creates.now
+        → IsStepsOf x (after_destroys (destroy_mailbox made setting.now.removes_emails) made
+        (after_mailbox_updates made (map (λ d. d.now) destroys.now)
+        (before_steps (after_edits content.now.content creates.now))
+        (map update_in (map member_of updates.now)))
+        (map (λ d. d.now) destroys.now))) }
+{
+    let mut current = perform_updates(alloc, content, creates, setting, updates)?;
+    perform_destroys(alloc, &mut current, setting, destroys)?;
+    let Current {
+        content: _,
+        changed: _changed,
+        destroyed: _destroyed,
+        count: _,
+        edits,
+        reported,
+    } = current;
+    Ok(Steps {
+        reported,
+        edits: Edits::from_vec(edits),
+    })
+}
+
+// Performs the updates and destroys of a set with these arguments, after its creates, which created
+// this and whose edits are these.
+fn perform_after_creates<'a>(
+    alloc: Global,
+    content: &Content,
+    made: &'a [Created],
+    fresh: &'a [Created],
+    creates: &[Edit],
+    members: &'a Members,
+) -> Result<Steps, NoMemory>
+    ensures { IfOk result (λ x. (p : Progress) → p.made ≡ made.now ++ fresh.now
+        → p.content ≡ after_edits content.now.content creates.now
+        → AllByRecursion PutsMailbox creates.now → IsStepsOf x (steps_after p members.now)) }
+{
+    let destroys = read_destroys(alloc, members)?;
+    let created = collect_all_created(alloc, made, fresh)?;
+    let destroyed = collect_destroyed(alloc, &created.texts, &destroys)?;
+    let removes_emails = read_removes_emails(members);
+    let setting = Setting {
+        created,
+        destroyed,
+        removes_emails,
+    };
+    let updates = read_updates(members);
+    perform_steps(alloc, content, creates, &setting, updates, &destroys)
+}
+
+// Returns the plan of creates and steps, over an account with this content and log.
 fn finish_plan<'a>(
     alloc: Global,
     account: &str,
+    content: &Content,
     log: &Log,
     planner: Planner<'a>,
+    steps: Steps,
 ) -> Result<SetPlan, NoMemory>
     requires last { log_end log.now ≤ max_position }
     ensures { IfOk result
-        (λ p. (c : Content') (s : Progress) → Follows planner.entry s → plan_of p
-        ≡ plan_after (ground_of c log.now) account.now s) }
+        (λ x. (p : Progress) (s : Steps') → Follows planner.entry p → IsStepsOf steps s
+        → plan_of x
+        ≡ plan_after_steps (ground_of content.now.content log.now) account.now p s) }
 {
     let Planner {
         content: _,
@@ -52,62 +155,54 @@ fn finish_plan<'a>(
         created,
         refused,
     } = planner;
+    let Steps {
+        mut reported,
+        edits: more,
+    } = steps;
+    reported.created = created;
+    reported.not_created = refused;
+    let mut edits = Edits::from_vec(edits);
+    edits.append(more)?;
+    let following = derived(alloc, content, edits.as_slice())?;
+    edits.append(following)?;
     let before = log.state_of(Kind::Mailbox);
-    let after = find_new_state(log, edits.as_slice());
-    let reply = build_response(alloc, account, before, after, created, refused)?;
+    let after = find_new_state(log, Kind::Mailbox, edits.as_slice());
+    let reply = build_set_response(alloc, account, before, after, reported)?;
     Ok(SetPlan {
         reply,
-        edits: Edits::from_vec(edits),
+        edits,
         made: Made::from_vec(fresh),
     })
 }
 
-// Returns the planner after all creates.
-fn perform_creates<'a>(
-    alloc: Global,
-    content: &'a Content,
-    made: &'a Made,
-    drafts: Vec<Draft<'a>>,
-) -> Result<Planner<'a>, NoMemory>
-    requires room { content.now.content.next_mailbox + length drafts.items < NUMBER_LIMIT }
-    ensures { IfOk result
-        (λ p. Follows p
-        (after_creates (beginning content.now.content made.now)
-        (map create_of drafts.entry.items))) }
-{
-    let mut planner = start_planner(alloc, content, made.as_slice())?;
-    do_creates(alloc, &mut planner, drafts)?;
-    Ok(planner)
-}
-
-// Plans creates: at most [`MAX_OBJECTS_PER_CALL`], if the client asks for no other state.
-fn plan_creates<'a>(
+// Plans the creates and steps of a set that is not rejected as a whole.
+fn plan_objects<'a>(
     alloc: Global,
     content: &'a Content,
     log: &Log,
     members: &'a Members,
     made: &'a Made,
-) -> Result<SetPlan, SetFault>
-    requires next { content.now.content.next_mailbox ≤ max_position }
+    creates: Vec<SentCreate<'a>>,
+) -> Result<SetPlan, NoMemory>
+    requires room { content.now.content.next_mailbox + length creates.items < NUMBER_LIMIT }
     requires last { log_end log.now ≤ max_position }
-    ensures { MatchResult result
-        (λ p. outcome_of_creates (ground_of content.now.content log.now) made.now
-        (account_in members.now) (if_in_state members.now) (creates_in members.now)
-        ≡ planned (plan_of p))
-        (λ e. ExplainsSet e
-        (outcome_of_creates (ground_of content.now.content log.now) made.now
-        (account_in members.now) (if_in_state members.now) (creates_in members.now))) }
+    requires creates { map create_of creates.items ≡ creates_in members.now }
+    ensures { IfOk result (λ x. plan_of x
+        ≡ plan_in (ground_of content.now.content log.now) made.now members.now) }
 {
-    let drafts = read_creates(alloc, members)?;
-    if drafts.len() > MAX_OBJECTS_PER_CALL {
-        return Err(SetFault::TooLarge);
-    }
-    let state = log.state_of(Kind::Mailbox);
-    if is_other_state(alloc, state, read_if_in_state(members))? {
-        return Err(SetFault::StateMismatch);
-    }
-    let planner = perform_creates(alloc, content, made, drafts)?;
-    Ok(finish_plan(alloc, read_account_id(members), log, planner)?)
+    let planner = perform_creates(alloc, content, made, creates)?;
+    let before = made.as_slice();
+    let fresh = planner.fresh.as_slice();
+    let edits = planner.edits.as_slice();
+    let steps = perform_after_creates(alloc, content, before, fresh, edits, members)?;
+    finish_plan(
+        alloc,
+        read_account_id(members),
+        content,
+        log,
+        planner,
+        steps,
+    )
 }
 
 fn plan_members<'a>(
@@ -120,16 +215,19 @@ fn plan_members<'a>(
     requires next { content.now.content.next_mailbox ≤ max_position }
     requires last { log_end log.now ≤ max_position }
     ensures { MatchResult result
-        (λ p. outcome_of_arguments (ground_of content.now.content log.now) made.now members.now
-        (invalid_argument members.now) ≡ planned (plan_of p))
-        (λ e. ExplainsSet e
-        (outcome_of_arguments (ground_of content.now.content log.now) made.now members.now
-        (invalid_argument members.now))) }
+        (λ x. outcome_of_members mailbox_set_forms count_objects
+        (present_state Kind.Mailbox (ground_of content.now.content log.now))
+        (plan_in (ground_of content.now.content log.now) made.now) (Some members.now)
+        ≡ planned (plan_of x))
+        (λ e. ExplainsSet e (outcome_of_members mailbox_set_forms count_objects
+        (present_state Kind.Mailbox (ground_of content.now.content log.now))
+        (plan_in (ground_of content.now.content log.now) made.now) (Some members.now))) }
 {
-    match find_invalid_argument(members) {
-        Some(name) => Err(SetFault::Invalid(Text::from_str(alloc, name)?)),
-        None => plan_creates(alloc, content, log, members, made),
-    }
+    let creates = read_creates(alloc, members, "create")?;
+    let destroys = read_destroys(alloc, members)?;
+    let objects = count_objects(members, creates.as_slice(), destroys.as_slice());
+    check_arguments(alloc, members, objects, log.state_of(Kind::Mailbox))?;
+    Ok(plan_objects(alloc, content, log, members, made, creates)?)
 }
 
 fn plan<'a>(
@@ -142,10 +240,11 @@ fn plan<'a>(
     requires next { content.now.content.next_mailbox ≤ max_position }
     requires last { log_end log.now ≤ max_position }
     ensures { MatchResult result
-        (λ p. set_outcome (ground_of content.now.content log.now) (tree_of args.now) made.now
-        ≡ planned (plan_of p))
+        (λ x. mailbox_set_outcome (ground_of content.now.content log.now) (tree_of args.now)
+        made.now ≡ planned (plan_of x))
         (λ e. ExplainsSet e
-        (set_outcome (ground_of content.now.content log.now) (tree_of args.now) made.now)) }
+        (mailbox_set_outcome (ground_of content.now.content log.now) (tree_of args.now)
+        made.now)) }
 {
     match args.as_object() {
         Some(members) => plan_members(alloc, content, log, members, made),
@@ -156,17 +255,29 @@ fn plan<'a>(
 /// Returns the plan of a Mailbox/set with these arguments, for a user who may write the account.
 /// `content` and `log` are of one history, and `made` is what the request has created up to here.
 ///
-/// The arguments are `accountId`, `ifInState` and `create`; `update` and `destroy` must be missing,
-/// null or empty as long as they aren't built. Fails with `Invalid` and the name of the first
-/// argument in byte order that is missing or does not have its form (the empty name if `args` is no
-/// object), with `TooLarge` if there are more than [`MAX_OBJECTS_PER_CALL`] creates, and with
+/// The arguments are `accountId`, `create`, `destroy`, `ifInState`, `onDestroyRemoveEmails` and
+/// `update`. Fails with `Invalid` and the name of the first argument in byte order that is missing
+/// or does not have its form (the empty name if `args` is no object), with `TooLarge` if the
+/// creates, updates and destroys together are more than [`MAX_OBJECTS_PER_CALL`], and with
 /// `StateMismatch` if `ifInState` is not the text of the mailboxes' state. The first fault in this
 /// order is returned, and nothing is changed.
 ///
 /// Creates are performed in rounds, in each the first one in byte order whose `parentId` refers to
 /// no create or to one that was performed. One with invalid properties is reported in `notCreated`,
-/// and creates nothing. The edits put new mailboxes with counts 0, fit a content whose numbers are
-/// below its next ones, and leave a tidy content tidy.
+/// and creates nothing. Then updates are performed: all together, or each by itself in byte order
+/// of the keys if a mailbox would break a rule. One that is rejected is reported in `notUpdated`,
+/// with `notFound`, `willDestroy`, `invalidPatch` or `invalidProperties`. Then destroys are
+/// performed in the order of their list; `#k` means what was created last under k. One that is
+/// rejected is reported in `notDestroyed` with the first of these reasons, and changes nothing:
+/// `notFound`, `mailboxHasChild`, and `mailboxHasEmail` unless `onDestroyRemoveEmails` is true. If
+/// it is, the emails of the mailbox lose it, and one that is in no other mailbox is dropped. The
+/// edits of threads and counts follow. All edits fit a tidy account and leave it tidy, and an email
+/// that is put differs from the one there in mailboxes alone.
+///
+/// A call costs what it creates, updates and destroys, with the emails of the mailboxes that it
+/// destroys: neither the mailboxes of the account nor its emails are copied or counted.
+///
+/// [`MAX_OBJECTS_PER_CALL`]: method_args::MAX_OBJECTS_PER_CALL
 pub fn plan_mailbox_set(
     alloc: Global,
     content: &Content,
@@ -177,20 +288,21 @@ pub fn plan_mailbox_set(
     requires next { content.now.content.next_mailbox ≤ max_position }
     requires last { log_end log.now ≤ max_position }
     ensures outcome { IfOk result
-        (λ p. set_outcome (ground_of content.now.content log.now) (tree_of args.now) made.now
-        ≡ planned (plan_of p)) }
+        (λ p. mailbox_set_outcome (ground_of content.now.content log.now) (tree_of args.now)
+        made.now ≡ planned (plan_of p)) }
     ensures fault { IfErr result
         (λ e. ExplainsSet e
-        (set_outcome (ground_of content.now.content log.now) (tree_of args.now) made.now)) }
-    ensures fits { IfOk result
-        (λ p. AreNumbered content.now.content → AllFit content.now.content p.edits) }
-    ensures tidy { IfOk result
-        (λ p. IsTidy content.now.content → IsTidy (after_edits content.now.content p.edits)) }
-    ensures puts { IfOk result (λ p. AllByRecursion PutsNew p.edits) }
-    ensures new_state { IfOk result
-        (λ p. HasNewState (ground_of content.now.content log.now) (tree_of p.reply) p.edits) }
+        (mailbox_set_outcome (ground_of content.now.content log.now) (tree_of args.now)
+        made.now)) }
+    ensures promises { IfOk result
+        (λ p. (summary : List ℕ → Summary) (blobs : List (List ℕ)) → IsTidy content.now.content
+        → IsPlanned summary blobs content.now.content p.edits) }
     ensures flags { IfOk result
-        (λ p. AreNumbered content.now.content → AreCountsFlagsRight content.now.content p.edits) }
+        (λ p. AreTables content.now.content → AreNumbered content.now.content
+        → AreCountsFlagsRight content.now.content p.edits) }
+    ensures new_state { IfOk result
+        (λ p. HasNewState Kind.Mailbox (ground_of content.now.content log.now) (tree_of p.reply)
+        p.edits) }
 {
     plan(alloc, content, log, args, made)
 }

@@ -1,0 +1,8 @@
+pub mod Sames
+pub mod Naming
+pub mod Rising
+pub mod NewNumbers
+pub mod Following
+pub mod Rounding
+pub mod Promising
+pub mod Equal

@@ -1,0 +1,5 @@
+pub mod Equality
+pub mod Properties
+pub mod Creates
+pub mod Rounds
+pub mod Views

@@ -1,8 +1,0 @@
-use Rattle.mailbox_set.specs.Creates.{Progress}
-use Rattle.mailbox_set.specs.Views.{Follows}
-use Rattle.mailbox_set.specs.Rounds.{stands}
-use Rattle.mailbox_set.proofs.Rounding.{Searched}
-use Rattle.mailbox_set.proofs.rounds.find_ready.Given as goal
-
-abbrev pub invariant-loop-i : goal.invariant-loop-i
-invariant-loop-i l = (s : Progress) → Follows l.planner s → Searched (stands s.made) l.drafts l.i

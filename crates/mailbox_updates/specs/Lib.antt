@@ -1,0 +1,5 @@
+pub mod Left
+pub mod Present
+pub mod Updates
+pub mod Views
+pub mod UpdateViews
