@@ -1,30 +1,29 @@
 -- The request that was read of a link, or why none was.
 use Rattle.std.proofs.Common.{◌≡◌, ◌<◌, ◌≤◌, ◌+◌, ◌-◌, ◌⊎◌, inl, inr, ℕ, Bool, true, false, List, [], ◌++◌, length, take, drop, Option, None, Some, Result, Ok, Err, refl, sym, ap, ap₂, ◌∙◌, subst, arith, append_assoc, length-take, length-drop}
 use Rattle.std.proofs.lemmas.Bool.{both_ways}
-use Rattle.std.proofs.lemmas.List.{take_all}
 use Rattle.std.specs.Io.KnownBytes.{Consumes, Appends}
 use Rattle.jm_edge.specs.Causes.{Rose}
 use Rattle.jm_edge.proofs.Known.{consumes_on, consumes_none, appends_none}
 use Rattle.httparse.specs.Grammar.{RequestHead}
 use Rattle.httparse.proofs.GrammarLemmas.{request_unique}
-use Rattle.http_wire.specs.Heads.{Beginning, HeadTooLong, Unfinished, Head, beginning_of}
+use Rattle.http_parts.specs.Heads.{Beginning, HeadTooLong, Unfinished, Head, beginning_of, begun_bytes}
 use Rattle.http_wire.specs.Fields.{is_last}
-use Rattle.http_wire.specs.Bodies.{Body, BodyInvalid, BodyTooLong, BodyUnfinished, Whole}
-use Rattle.http_wire.specs.Requests.{Message, TooLong, Invalid, Begun, OverLimit, Complete, with_body, message_by, IsHead, IsMessage, requests, is_due_by, IsDue, IsRequestOf, begun_bytes, MayFailWith, HasContinued, ReadsRequestFrom}
+use Rattle.http_parts.specs.Bodies.{Body, BodyInvalid, BodyTooLong, BodyUnfinished, Whole}
+use Rattle.http_wire.specs.Requests.{Message, TooLong, Invalid, Begun, OverLimit, Complete, with_body, message_by, IsHead, IsMessage, requests, is_due_by, IsDue, IsRequestOf, MayFailWith, HasContinued, ReadsRequestFrom}
 use Rattle.http_wire.specs.Responses.{continue_bytes, IsPrefixWritten}
-use Rattle.http_wire.specs.Pieces.{Gained, Stops}
-use Rattle.http_wire.specs.Parts.{Took, Halts}
-use Rattle.http_wire.specs.Lengths.{planned}
+use Rattle.http_parts.specs.Pieces.{Gained, Stops}
+use Rattle.http_parts.specs.Parts.{Took, Halts}
+use Rattle.http_parts.specs.Plans.{planned}
 use Rattle.http_wire.specs.FramedHeads.{IsFramed, IsRejected, wire_fault_of, IsMade, continued_bytes}
 use Rattle.http_wire.specs.declared.framed_head.FramedHead.{FramedHead}
 use Rattle.http_wire.specs.declared.request.HttpRequest.{HttpRequest}
-use Rattle.http_wire.specs.declared.body_fault.BodyFault.{BodyFault}
-use Rattle.http_wire.specs.declared.body_fault.BodyFault.TheVariants.{Invalid as BodyBad, TooLong as BodyOver, Ended, ReadFault as BodyReadFault, NoMemory as BodyNoMemory}
-use Rattle.http_wire.specs.declared.fault.WireFault.{WireFault}
-use Rattle.http_wire.specs.declared.fault.WireFault.TheVariants.{End, ReadFault, WriteFault, BadHead, HeadTooLong as IsTooLong, BodyTooLong as IsOver, CutOff, NoMemory}
-use Rattle.http_wire.proofs.HeadStays.{head_stays}
-use Rattle.http_wire.proofs.HeadSizes.{begun_is}
-use Rattle.http_wire.proofs.Stopped.{rose_before}
+use Rattle.http_parts.specs.declared.body_fault.BodyFault.{BodyFault}
+use Rattle.http_parts.specs.declared.body_fault.BodyFault.TheVariants.{Invalid as BodyBad, TooLong as BodyOver, Ended, ReadFault as BodyReadFault, NoMemory as BodyNoMemory}
+use Rattle.http_parts.specs.declared.fault.WireFault.{WireFault}
+use Rattle.http_parts.specs.declared.fault.WireFault.TheVariants.{End, ReadFault, WriteFault, BadHead, HeadTooLong as IsTooLong, BodyTooLong as IsOver, CutOff, NoMemory}
+use Rattle.http_parts.proofs.HeadStays.{head_stays}
+use Rattle.http_parts.proofs.HeadSizes.{begun_is}
+use Rattle.http_parts.proofs.Stopped.{rose_before}
 
 -- ---- one head at most
 
@@ -89,7 +88,7 @@ stops_request NoMemory old new a b h k r s p q st held = record {
   taken = st.0;
   consumed = st.1;
   outcome = tt;
-  continued = (0, unwritten h k held);
+  continued = inr (unwritten h k held);
 }
 stops_request WriteFault old new a b h k r s p q st held = absurd st.2
 stops_request BadHead old new a b h k r s p q st held = absurd st.2
@@ -118,7 +117,7 @@ rejected_request NoMemory bytes new head rest a h r p is k = record {
   taken = [];
   consumed = consumes_none a;
   outcome = tt;
-  continued = (0, unwritten h h refl);
+  continued = inr (unwritten h h refl);
 }
 rejected_request End bytes new head rest a h r p is k = absurd k
 rejected_request ReadFault bytes new head rest a h r p is k = absurd k
@@ -214,12 +213,12 @@ cut_request BodyNoMemory bytes new head rest o n a b h k r s p q is opened n_is 
   taken = took.0;
   consumed = took.1;
   outcome = tt;
-  continued = some_prefix o.due put;
+  continued = or_nothing (continued_by o.due (bytes ++ took.0) head (rest ++ took.0) o h k refl (head_stays bytes took.0 head rest is) opened put);
 }
   where
-    some_prefix : (v : Bool) → Appends h k (continued_bytes v) → (m : ℕ) × Appends h k (take m continue_bytes)
-    some_prefix true w = (length continue_bytes, subst (λ (z : List ℕ). Appends h k z) (sym (take_all (length continue_bytes) continue_bytes (omega arith))) w)
-    some_prefix false w = (0, w)
+    or_nothing : (IsDue (bytes ++ took.0) × Appends h k continue_bytes) ⊎ (¬ (IsDue (bytes ++ took.0)) × Appends h k []) → (IsDue (bytes ++ took.0) × Appends h k continue_bytes) ⊎ Appends h k []
+    or_nothing (inl due) = inl due
+    or_nothing (inr none) = inr none.1
 
 -- ---- the head was read before
 

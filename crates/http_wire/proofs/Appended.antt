@@ -5,7 +5,7 @@ use Rattle.std.proofs.lemmas.List.{take-append-le, take_all}
 use Rattle.std.proofs.Math.Seq.{take-append-add, take-append_seam}
 use Rattle.std.specs.Io.KnownBytes.{Appends}
 use Rattle.jm_edge.proofs.Known.{appends_on}
-use Rattle.http_wire.specs.declared.fault.WireFault.{WireFault}
+use Rattle.http_parts.specs.declared.fault.WireFault.{WireFault}
 use Rattle.http_wire.specs.Responses.{IsPrefixWritten}
 
 -- a line of a name, a value and a line end

@@ -1,16 +1,7 @@
 pub mod Appended
-pub mod Sizes
-pub mod Stopped
-pub mod Filled
-pub mod ChunkLines
-pub mod Halted
-pub mod Chunked
-pub mod ChunkStages
-pub mod HeadStays
-pub mod SizedBody
+pub mod MessageStays
 pub mod SaidLengths
 pub mod HeadParsed
 pub mod Words
 pub mod Opening
-pub mod HeadSizes
 pub mod Answered

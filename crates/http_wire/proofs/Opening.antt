@@ -3,17 +3,19 @@ use Rattle.std.proofs.Common.{◌≡◌, ℕ, Bool, true, false, cond, ltb, List
 use Rattle.std.specs.Option.{MatchOption}
 use Rattle.httparse.specs.Grammar.{RequestHead}
 use Rattle.http_wire.specs.Fields.{pairs, has_host, expects_continue}
-use Rattle.http_wire.specs.Bodies.{Framing, Body, BodyInvalid, BodyTooLong, BodyUnfinished, Whole, framing_of}
+use Rattle.http_wire.specs.Framings.{Framing, framing_of}
+use Rattle.http_parts.specs.Bodies.{Body, BodyInvalid, BodyTooLong, BodyUnfinished, Whole}
 use Rattle.http_wire.specs.Requests.{requests, names_and_values, body_limit, request_body, with_body, is_open}
 use Rattle.http_wire.specs.ParsedHeads.{IsParsed}
-use Rattle.http_wire.specs.Lengths.{planned, IsWithinLimit, IsSaid}
+use Rattle.http_parts.specs.Plans.{planned, IsWithinLimit}
+use Rattle.http_wire.specs.Lengths.{IsSaid}
 use Rattle.http_wire.specs.FramedHeads.{IsFramed, IsRejected, IsRejectedAs, refusal_of}
-use Rattle.http_wire.specs.declared.bodies.BodyPlan.{BodyPlan}
-use Rattle.http_wire.specs.declared.bodies.BodyPlan.TheVariants.{Invalid as NoPlan, TooLong as IsOver, Sized as OfSize, Chunked as InChunks}
+use Rattle.http_parts.specs.declared.bodies.BodyPlan.{BodyPlan}
+use Rattle.http_parts.specs.declared.bodies.BodyPlan.TheVariants.{Invalid as NoPlan, TooLong as IsOver, Sized as OfSize, Chunked as InChunks}
 use Rattle.http_wire.specs.declared.lengths.BodyLength.{BodyLength}
 use Rattle.http_wire.specs.declared.head_parser.ParsedHead.{ParsedHead}
-use Rattle.http_wire.specs.declared.fault.WireFault.{WireFault}
-use Rattle.http_wire.specs.declared.fault.WireFault.TheVariants.{BadHead, BodyTooLong as BodyOver}
+use Rattle.http_parts.specs.declared.fault.WireFault.{WireFault}
+use Rattle.http_parts.specs.declared.fault.WireFault.TheVariants.{BadHead, BodyTooLong as BodyOver}
 use Rattle.std.proofs.lemmas.Bool.{le-ltb}
 
 open_by : (v w : Bool) (body rest : List ℕ) → v ≡ false → is_open (cond v BodyTooLong (cond w BodyUnfinished (Whole body rest))) ≡ true

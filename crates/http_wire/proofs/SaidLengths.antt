@@ -5,7 +5,7 @@ use Rattle.std.specs.List.{list_all}
 use Rattle.std.specs.Int.{is_in_range}
 use Rattle.std.specs.Char.{is_ascii_digit, is_ascii_hexdigit, digit_value}
 use Rattle.std.specs.Str.Parse.{digits_value, digits_value_after}
-use Rattle.http_wire.specs.Bodies.{InvalidLength, framing_by, is_number}
+use Rattle.http_wire.specs.Framings.{InvalidLength, framing_by, is_number}
 
 -- several Transfer-Encoding fields
 pub several_codings : (sizes : List (List ℕ)) (c : List ℕ) (cs : List (List ℕ)) → ltb 0 (length cs) ≡ true → framing_by sizes (c ∷ cs) ≡ InvalidLength

@@ -1,21 +1,21 @@
 -- What contracts see of a head that was parsed, and of what it says of its message.
 use Rattle.std.specs.Prelude.{◌≡◌, ⊤, ℕ, ◌+◌, Bool, true, false, if◌then◌else◌, List, [], Option, None, Some}
 use Rattle.httparse.specs.Grammar.{RequestHead}
-use Rattle.http_wire.specs.Heads.{Head}
+use Rattle.http_parts.specs.Heads.{Head}
 use Rattle.http_wire.specs.Fields.{pairs, has_host, is_last, expects_continue}
-use Rattle.http_wire.specs.Bodies.{framing_of}
+use Rattle.http_wire.specs.Framings.{framing_of}
 use Rattle.http_wire.specs.Requests.{Message, Invalid, OverLimit, AreReadAs, requests, names_and_values, body_limit, request_body, message_by, is_open, is_due_by}
 use Rattle.http_wire.specs.Responses.{continue_bytes}
 use Rattle.http_wire.specs.declared.request.HttpRequest.{HttpRequest}
 use Rattle.http_wire.specs.ParsedHeads.{IsParsed}
-use Rattle.http_wire.specs.Lengths.{planned, IsWithinLimit}
-use Rattle.http_wire.specs.declared.bodies.BodyPlan.{BodyPlan}
-use Rattle.http_wire.specs.declared.bodies.BodyPlan.TheVariants.{Invalid as NoPlan, TooLong as IsOver, Sized as OfSize, Chunked as InChunks}
+use Rattle.http_parts.specs.Plans.{planned, IsWithinLimit}
+use Rattle.http_parts.specs.declared.bodies.BodyPlan.{BodyPlan}
+use Rattle.http_parts.specs.declared.bodies.BodyPlan.TheVariants.{Invalid as NoPlan, TooLong as IsOver, Sized as OfSize, Chunked as InChunks}
 use Rattle.http_wire.specs.declared.framed_head.FramedHead.{FramedHead}
-use Rattle.http_wire.specs.declared.body_fault.BodyFault.{BodyFault}
-use Rattle.http_wire.specs.declared.body_fault.BodyFault.TheVariants.{Invalid as BodyBad, TooLong as BodyOver, Ended, ReadFault as BodyReadFault, NoMemory as BodyNoMemory}
-use Rattle.http_wire.specs.declared.fault.WireFault.{WireFault}
-use Rattle.http_wire.specs.declared.fault.WireFault.TheVariants.{End, ReadFault, WriteFault, BadHead, HeadTooLong, BodyTooLong, CutOff, NoMemory}
+use Rattle.http_parts.specs.declared.body_fault.BodyFault.{BodyFault}
+use Rattle.http_parts.specs.declared.body_fault.BodyFault.TheVariants.{Invalid as BodyBad, TooLong as BodyOver, Ended, ReadFault as BodyReadFault, NoMemory as BodyNoMemory}
+use Rattle.http_parts.specs.declared.fault.WireFault.{WireFault}
+use Rattle.http_parts.specs.declared.fault.WireFault.TheVariants.{End, ReadFault, WriteFault, BadHead, HeadTooLong, BodyTooLong, CutOff, NoMemory}
 
 -- The bytes are a valid head, whose message has a body that is read by this plan.
 pub record IsFramed (bytes : List ℕ) (o : FramedHead) : Type 0 where

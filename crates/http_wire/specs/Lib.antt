@@ -1,13 +1,7 @@
-pub mod Heads
 pub mod Fields
-pub mod Bodies
-pub mod Chunks
+pub mod Framings
 pub mod Requests
 pub mod Responses
-pub mod Pieces
-pub mod Views
-pub mod Parts
-pub mod Found
 pub mod ParsedHeads
 pub mod Lengths
 pub mod FramedHeads

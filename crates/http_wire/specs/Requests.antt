@@ -2,19 +2,19 @@
 use Rattle.std.specs.Prelude.{◌≡◌, ◌⊎◌, ⊤, ℕ, ◌-◌, ◌<◌, ◌≤◌, ◌&&◌, not, Bool, true, false, IsTrue, List, [], ◌++◌, length, take, map, codes, bytes_eq, if◌then◌else◌, Option, None, Some, Result, Err, MatchResult}
 use Rattle.std.specs.Io.KnownBytes.{Appends, Consumes, IsAtEnd}
 use Rattle.httparse.specs.Grammar.{RequestHead, ReadsRequest, field_value, Field}
-use Rattle.mime_lines.specs.Lines.{lines}
-use Rattle.http_wire.specs.Heads.{Beginning, HeadTooLong, Unfinished, Head, beginning_of, empty_bytes}
+use Rattle.http_parts.specs.Heads.{Beginning, HeadTooLong, Unfinished, Head, beginning_of, begun_bytes}
 use Rattle.http_wire.specs.Fields.{has_host, is_last, expects_continue}
-use Rattle.http_wire.specs.Bodies.{Framing, InvalidLength, Chunked, NotSaid, Sized, framing_of, Body, BodyInvalid, BodyTooLong, BodyUnfinished, Whole, sized_body}
-use Rattle.http_wire.specs.Chunks.{chunked_body}
+use Rattle.http_wire.specs.Framings.{Framing, InvalidLength, Chunked, NotSaid, Sized, framing_of}
+use Rattle.http_parts.specs.Bodies.{Body, BodyInvalid, BodyTooLong, BodyUnfinished, Whole, sized_body}
+use Rattle.http_parts.specs.Chunks.{chunked_body}
 use Rattle.jm_edge.specs.Causes.{Rose}
 use Rattle.http_wire.specs.Responses.{continue_bytes}
 use Rattle.http_wire.specs.declared.request.HttpField.{HttpField}
 use Rattle.http_wire.specs.declared.request.HttpRequest.{HttpRequest}
-use Rattle.http_wire.specs.declared.fault.WireFault.{WireFault}
-use Rattle.http_wire.specs.declared.fault.WireFault.TheVariants.{End, ReadFault, WriteFault, BadHead, HeadTooLong as IsTooLong, BodyTooLong as BodyOver, CutOff, NoMemory as OutOfMemory}
+use Rattle.http_parts.specs.declared.fault.WireFault.{WireFault}
+use Rattle.http_parts.specs.declared.fault.WireFault.TheVariants.{End, ReadFault, WriteFault, BadHead, HeadTooLong as IsTooLong, BodyTooLong as BodyOver, CutOff, NoMemory as OutOfMemory}
 use Rattle.jm_base.specs.declared.limits.TheConstants.{MAX_REQUEST_BYTES, MAX_UPLOAD_BYTES}
-use Rattle.http_wire.specs.declared.limits.TheConstants.{MAX_HEAD_FIELDS}
+use Rattle.http_parts.specs.declared.limits.TheConstants.{MAX_HEAD_FIELDS}
 
 -- What the heads of a kind of message are: which bytes read as which head; what its body's length
 -- is, given what its fields say; whether it is invalid though it reads; and the most bytes of its
@@ -122,10 +122,6 @@ pub record IsRequestOf (h : RequestHead) (body : List ℕ) (r : HttpRequest) : T
   pub body_is : r.body ≡ body
   pub last : r.last ≡ is_last h.minor (names_and_values h.fields)
 
--- how many bytes there are after the empty lines at the beginning
-abbrev pub begun_bytes : List ℕ → ℕ
-begun_bytes bytes = length bytes - empty_bytes (lines bytes)
-
 -- when the reading of a request may fail, after these bytes were read, with all that is known of
 -- the link: what is left, and its counts of faults before and after
 abbrev pub MayFailWith : WireFault → List ℕ → Option (List ℕ) → ℕ → ℕ → ℕ → ℕ → Type 0
@@ -145,14 +141,14 @@ MayFailWith (BodyOver limit) seen left reads_old reads_new puts_old puts_new =
     IsMessage requests seen (OverLimit limit)
 MayFailWith OutOfMemory seen left reads_old reads_new puts_old puts_new = ⊤
 
--- the interim response was written if and only if it is due; after a fault of writing, a prefix of
--- it
+-- The interim response was written if and only if it is due; after a fault of writing, a prefix of
+-- it. If an allocation failed, it was written whole, which it is only if it is due, or nothing was.
 abbrev pub HasContinued : Result HttpRequest WireFault → List ℕ → Option (List ℕ) → Option (List ℕ)
     → Type 0
 HasContinued (Err WriteFault) seen held_old held_new =
     (n : ℕ) × Appends held_old held_new (take n continue_bytes)
 HasContinued (Err OutOfMemory) seen held_old held_new =
-    (n : ℕ) × Appends held_old held_new (take n continue_bytes)
+    (IsDue seen × Appends held_old held_new continue_bytes) ⊎ Appends held_old held_new []
 HasContinued result seen held_old held_new =
     (IsDue seen × Appends held_old held_new continue_bytes)
     ⊎ (¬ (IsDue seen) × Appends held_old held_new [])

@@ -1,8 +1,8 @@
 -- The bytes of a response (RFC 9112, 4; RFC 9110, 15).
 use Rattle.std.specs.Prelude.{◌≡◌, ◌⊎◌, ℕ, Bool, List, [], ◌++◌, ◌==◌, length, take, codes, Option, if◌then◌else◌}
 use Rattle.std.specs.Io.KnownBytes.{Appends}
-use Rattle.http_wire.specs.declared.fault.WireFault.{WireFault}
-use Rattle.http_wire.specs.declared.fault.WireFault.TheVariants.{WriteFault, NoMemory}
+use Rattle.http_parts.specs.declared.fault.WireFault.{WireFault}
+use Rattle.http_parts.specs.declared.fault.WireFault.TheVariants.{WriteFault, NoMemory}
 use Rattle.std.specs.Fmt.{decimal}
 
 -- the reason phrase of a status (RFC 9110, 15)

@@ -3,11 +3,10 @@ ghost use Rattle.std.specs.Prelude.{◌≡◌, ◌<◌, ◌^◌, IfOk, IfErr};
 ghost use Rattle.http_wire.specs.Requests.{body_limit};
 ghost use Rattle.http_wire.specs.FramedHeads.{IsFramed, IsRejected, refusal_of};
 
-use crate::WireFault;
-use crate::bodies::{BodyPlan, plan_body};
 use crate::connection::{expects_continue, has_host};
 use crate::head_parser::{ParsedHead, parse_head};
-use crate::lengths::find_length;
+use crate::lengths::{find_length, plan_body};
+use http_parts::{BodyPlan, WireFault};
 use jm_base::{MAX_REQUEST_BYTES, MAX_UPLOAD_BYTES};
 use std::alloc::Global;
 

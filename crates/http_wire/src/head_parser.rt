@@ -6,8 +6,8 @@ ghost use Rattle.http_wire.specs.Fields.{pairs};
 ghost use Rattle.http_wire.specs.Requests.{requests};
 ghost use Rattle.http_wire.specs.ParsedHeads.{IsParsed, IsCopied};
 
-use crate::limits::MAX_HEAD_FIELDS;
 use crate::request::{HttpField, HttpFields};
+use http_parts::MAX_HEAD_FIELDS;
 use httparse::Status;
 use httparse::spans::{EMPTY_HEADER_SPAN, HeaderSpan, RequestSpans, Span, parse_request};
 use jm_base::{Bytes, NoMemory, Sequence, Text};

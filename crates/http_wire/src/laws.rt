@@ -1,27 +1,17 @@
-// What the definitions say of examples, and of bytes that come later.
-ghost use Rattle.std.specs.Prelude.{◌≡◌, [], ◌∷◌, ◌++◌, codes, List, ℕ};
-ghost use Rattle.http_wire.specs.Heads.{Beginning, Unfinished, Head, beginning_of};
-ghost use Rattle.http_wire.specs.Bodies.{Body, BodyInvalid, BodyTooLong, BodyUnfinished, Whole};
-ghost use Rattle.http_wire.specs.Chunks.{chunked_body};
+// What the definitions say of bytes that come later.
+ghost use Rattle.std.specs.Prelude.{◌++◌, List, ℕ};
+ghost use Rattle.http_wire.specs.Requests.{Complete, IsDue, IsMessage, requests};
+ghost use Rattle.httparse.specs.Grammar.{RequestHead};
 
-/// Shows examples of messages: heads with either line end and empty lines before them; chunks with
-/// an extension, a trailer and bytes of a next request; and what is invalid, too long or
-/// unfinished.
-pub fn show_examples_of_messages()
-    ensures head { beginning_of (codes "\r\nGET / HTTP/1.1\r\nHost: h\n\r\nnext") ≡ Head (codes
-        "GET / HTTP/1.1\r\nHost: h\n\r\n") (codes "next") }
-    ensures no_head { beginning_of (codes "\r\nGET / HTTP/1.1\r\nHost: h\n\r") ≡ Unfinished }
-    ensures chunks { chunked_body 9 (codes "3;x=y\r\nabc\r\n02 \r\nde\r\n0\r\nA: b\r\n\r\nnext") ≡
-        Whole (codes "abcde") (codes "next") }
-    ensures unfinished_chunk { chunked_body 9 (codes "3\r\nabc\r") ≡ BodyUnfinished }
-    ensures wrong_end { chunked_body 9 (codes "3\r\nabcd") ≡ BodyInvalid }
-    ensures prefix { chunked_body 9 (codes "0x1\r\n") ≡ BodyInvalid }
-    ensures over { chunked_body 4 (codes "3\r\nabc\r\n2\r\n") ≡ BodyTooLong }
-{}
-
-/// Shows that more bytes change no head that has come whole.
-#[tactic(auto, using(crate::proofs::HeadStays::head_stays))]
-pub fn keep_heads()
-    ensures { (bytes after head rest : List ℕ) → beginning_of bytes ≡ Head head rest → beginning_of
-        (bytes ++ after) ≡ Head head (rest ++ after) }
+/// Shows that more bytes change no message that has come whole, and that the interim response to it
+/// is due for the same bytes.
+#[tactic(auto, using(crate::proofs::MessageStays::message_stays))]
+pub fn keep_messages()
+    ensures stays { (bytes after : List ℕ) (h : RequestHead) (body rest : List ℕ) → IsMessage
+        requests bytes (Complete h body rest) → IsMessage requests (bytes ++ after) (Complete h
+        body (rest ++ after)) }
+    ensures due { (bytes after : List ℕ) (h : RequestHead) (body rest : List ℕ) → IsMessage
+        requests bytes (Complete h body rest) → IsDue bytes → IsDue (bytes ++ after) }
+    ensures not_due { (bytes after : List ℕ) (h : RequestHead) (body rest : List ℕ) → IsMessage
+        requests bytes (Complete h body rest) → IsDue (bytes ++ after) → IsDue bytes }
 {}

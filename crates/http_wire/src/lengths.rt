@@ -1,13 +1,15 @@
 // What the fields of a head say of the length of the body.
-ghost use Rattle.std.specs.Prelude.{◌≡◌, ◌∷◌, [], MatchOption, true, false, min, ◌^◌, ◌-◌, nat_lt, length};
+ghost use Rattle.std.specs.Prelude.{◌≡◌, ◌<◌, ◌∷◌, [], List, ℕ, MatchOption, true, false, min, ◌^◌, ◌-◌, length};
 ghost use Rattle.std.specs.Str.Parse.{digits_value};
 ghost use Rattle.http_wire.specs.Fields.{pairs, values_of};
-ghost use Rattle.http_wire.specs.Bodies.{is_number, framing_by, framing_of};
+ghost use Rattle.http_wire.specs.Framings.{Framing, is_number, framing_by, framing_of};
+ghost use Rattle.http_parts.specs.Plans.{planned, IsWithinLimit};
 ghost use Rattle.http_wire.specs.Lengths.{IsSaid, length_name};
+ghost use Rattle.http_wire.specs.Requests.{request_body};
 
-use crate::chunk_lines::read_digit;
 use crate::fields::{find_next, has_field, is_same_word};
 use crate::request::HttpField;
+use http_parts::{BodyPlan, read_digit};
 
 const LENGTH: &[u8] = b"Content-Length";
 
@@ -93,5 +95,26 @@ pub fn find_length(fields: &[HttpField]) -> BodyLength
             BodyLength::Invalid
         }
         None => find_size(fields),
+    }
+}
+
+/// Returns how the body of a request is read, of which the fields say this and that has at most so
+/// many bytes: none, if they say nothing (RFC 9112, 6.3).
+pub fn plan_body(said: BodyLength, limit: usize) -> BodyPlan
+    requires { limit < 2 ^ 32 }
+    ensures plan { (framing : Framing) → IsSaid framing said → (rest : List ℕ) → request_body limit
+        framing rest ≡ planned limit result rest }
+    ensures within { IsWithinLimit limit result }
+{
+    match said {
+        BodyLength::Invalid => BodyPlan::Invalid,
+        BodyLength::NotSaid => BodyPlan::Sized(0),
+        BodyLength::Chunked => BodyPlan::Chunked,
+        BodyLength::Sized(size) => {
+            if size > limit as u64 {
+                return BodyPlan::TooLong;
+            }
+            BodyPlan::Sized(size as usize)
+        }
     }
 }

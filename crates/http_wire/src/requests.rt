@@ -2,24 +2,19 @@
 ghost use Rattle.std.specs.Prelude.{◌≡◌, ◌<◌, ◌≤◌, ◌-◌, ◌^◌, length, take, drop, true, IfErr, OnOk};
 ghost use Rattle.std.specs.Io.KnownBytes.{Appends};
 ghost use Rattle.jm_edge.specs.Causes.{Rose};
-ghost use Rattle.http_wire.specs.declared.limits.TheConstants.{MAX_HEAD_BYTES};
-ghost use Rattle.http_wire.specs.Views.{IsHeadAt, IsWithin};
+ghost use Rattle.http_parts.specs.declared.limits.TheConstants.{MAX_HEAD_BYTES};
+ghost use Rattle.http_parts.specs.Views.{IsHeadAt, IsWithin};
 ghost use Rattle.http_wire.specs.Responses.{continue_bytes, IsPrefixWritten};
 ghost use Rattle.http_wire.specs.Requests.{ReadsRequestFrom};
-ghost use Rattle.http_wire.specs.Parts.{IsCountBelow};
+ghost use Rattle.http_parts.specs.Parts.{IsCountBelow};
 ghost use Rattle.http_wire.specs.FramedHeads.{IsMade, continued_bytes, wire_fault_of};
 
-use crate::WireFault;
-use crate::bodies::read_body;
-use crate::body_fault::BodyFault;
 use crate::connection::is_last;
 use crate::framed_head::{FramedHead, frame_head};
 use crate::head_parser::ParsedHead;
-use crate::heads::HeadSpan;
-use crate::pieces::read_head;
 use crate::request::HttpRequest;
 use crate::responses::put_bytes;
-use crate::unread::Unread;
+use http_parts::{BodyFault, HeadSpan, Unread, WireFault, read_body, read_head};
 use jm_base::Bytes;
 use jm_edge::Link;
 use std::alloc::Global;
@@ -44,6 +39,7 @@ fn put_continue<L: Link>(link: &mut L, due: bool) -> Result<(), WireFault>
     ensures cause { IfErr result (λ _. Rose (L.put_faults link.old) (L.put_faults link.new)) }
     ensures left { L.left link.new ≡ L.left link.old }
     ensures read_faults { L.read_faults link.new ≡ L.read_faults link.old }
+    ensures later { L.put_faults link.old ≤ L.put_faults link.new }
 {
     if !due {
         return Ok(());
@@ -102,6 +98,8 @@ fn read_after_head<L: Link>(
         link.old) (L.held link.new) (L.read_faults link.old) (L.read_faults link.new) (L.put_faults
         link.old) (L.put_faults link.new) result }
     ensures room { length room.new ≡ length room.old }
+    ensures reads_later { L.read_faults link.old ≤ L.read_faults link.new }
+    ensures puts_later { L.put_faults link.old ≤ L.put_faults link.new }
 {
     let framed = match frame_head(alloc, find_head_bytes(early.as_slice(), at)) {
         Ok(framed) => framed,
@@ -140,6 +138,8 @@ pub fn read_request<L: Link>(
         link.old) (L.held link.new) (L.read_faults link.old) (L.read_faults link.new) (L.put_faults
         link.old) (L.put_faults link.new) result }
     ensures room { length room.new ≡ length room.old }
+    ensures reads_later { L.read_faults link.old ≤ L.read_faults link.new }
+    ensures puts_later { L.put_faults link.old ≤ L.put_faults link.new }
 {
     match read_head(link, room, early) {
         Ok(at) => read_after_head(alloc, link, room, early, at),

@@ -1,11 +1,11 @@
 // Writing a response.
-ghost use Rattle.std.specs.Prelude.{◌≡◌, ◌++◌, length, codes, string_bytes, IfOk, IfErr, OnOk};
+ghost use Rattle.std.specs.Prelude.{◌≡◌, ◌≤◌, ◌++◌, length, codes, string_bytes, IfOk, IfErr, OnOk};
 ghost use Rattle.std.specs.Fmt.{decimal};
 ghost use Rattle.std.specs.Io.KnownBytes.{Appends};
 ghost use Rattle.jm_edge.specs.Causes.{HasCause, Rose};
 ghost use Rattle.http_wire.specs.Responses.{reason_phrase, http_line, first_lines, challenge, closing, response_head, response_bytes, IsPrefixWritten, IsCutShort};
 
-use crate::WireFault;
+use http_parts::WireFault;
 use jm_base::NoMemory;
 use jm_edge::{Link, put_to_link};
 use std::alloc::Global;
@@ -30,7 +30,7 @@ fn find_reason_phrase(status: u16) -> &'static str
 }
 
 // Appends bytes to others.
-pub(crate) fn push_bytes(bytes: &mut Vec<u8>, more: &[u8]) -> Result<(), NoMemory>
+fn push_bytes(bytes: &mut Vec<u8>, more: &[u8]) -> Result<(), NoMemory>
     ensures { OnOk result (bytes.new.items ≡ bytes.old.items ++ more.now) }
 {
     bytes.extend_from_slice(more)?;
@@ -174,6 +174,7 @@ pub fn write_response<L: Link>(
         (L.put_faults link.new)) }
     ensures left { L.left link.new ≡ L.left link.old }
     ensures read_faults { L.read_faults link.new ≡ L.read_faults link.old }
+    ensures later { L.put_faults link.old ≤ L.put_faults link.new }
 {
     let mut bytes = write_head(alloc, status, media, body.len(), last)?;
     if body.len() > MAX_COPIED_BYTES {

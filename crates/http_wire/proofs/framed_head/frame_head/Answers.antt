@@ -1,6 +1,6 @@
 use Rattle.std.proofs.Common.{ℕ, List, sym, ap, ◌∙◌, subst}
 use Rattle.http_wire.specs.Fields.{pairs, has_host, expects_continue}
-use Rattle.http_wire.specs.Bodies.{framing_of}
+use Rattle.http_wire.specs.Framings.{framing_of}
 use Rattle.http_wire.specs.Requests.{body_limit}
 use Rattle.http_wire.specs.Lengths.{IsSaid}
 use Rattle.http_wire.specs.declared.request.HttpField.{HttpField}

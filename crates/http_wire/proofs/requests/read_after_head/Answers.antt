@@ -1,7 +1,7 @@
 use Rattle.std.proofs.Common.{Err, ◌-◌, ℕ, List, take, drop, sym, ap, ◌∙◌, subst}
-use Rattle.http_wire.specs.Heads.{Head}
+use Rattle.http_parts.specs.Heads.{Head}
 use Rattle.http_wire.specs.Requests.{ReadsRequestFrom}
-use Rattle.http_wire.specs.declared.fault.WireFault.{WireFault}
+use Rattle.http_parts.specs.declared.fault.WireFault.{WireFault}
 use Rattle.http_wire.proofs.Answered.{rejected_request, unwritten_request, whole_after, cut_after, head_len}
 use Rattle.http_wire.proofs.requests.read_after_head.Goals as goal
 

@@ -1,0 +1,11 @@
+pub mod Sizes
+pub mod Stopped
+pub mod Filled
+pub mod ChunkLines
+pub mod Halted
+pub mod Chunked
+pub mod ChunkStages
+pub mod HeadStays
+pub mod BodyStays
+pub mod SizedBody
+pub mod HeadSizes

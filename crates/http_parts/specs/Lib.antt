@@ -1,0 +1,8 @@
+pub mod Heads
+pub mod Bodies
+pub mod Chunks
+pub mod Pieces
+pub mod Views
+pub mod Parts
+pub mod Found
+pub mod Plans

@@ -1,0 +1,94 @@
+// Reading a body in chunks from a link.
+ghost use Rattle.std.specs.Prelude.{◌≡◌, ◌<◌, ◌≤◌, ◌+◌, ◌^◌, ◌++◌, length, IfOk, IfErr, List, ℕ};
+ghost use Rattle.http_parts.specs.Bodies.{BodyInvalid, BodyTooLong, BodyUnfinished, Whole};
+ghost use Rattle.http_parts.specs.Chunks.{chunk_step, Settled, chunked_body};
+ghost use Rattle.http_parts.specs.Parts.{Took, Halts, IsCountBelow, HasStep};
+
+use crate::body_fault::BodyFault;
+use crate::parts::{read_chunk_end, read_chunk_line, read_trailer};
+use crate::sized_bodies::read_sized;
+use crate::unread::Unread;
+use jm_edge::Link;
+use std::alloc::Global;
+
+// Reads a chunk to the end of the body, and returns how many bytes it has with its lines; none if
+// it is the last one, with the lines after it.
+fn read_chunk<L: Link>(
+    link: &mut L,
+    room: &mut [u8],
+    limit: usize,
+    body: &mut Vec<u8>,
+    bytes: &mut Unread,
+) -> Result<Option<usize>, BodyFault>
+    requires room { 0 < length room.old }
+    requires within { length body.old.items ≤ limit }
+    requires small { limit < 2 ^ 32 }
+    ensures ok { IfOk result (λ o. Took (L.left link.old) (L.left link.new) (HasStep limit
+        body.old.items body.new.items bytes.old bytes.new o)) }
+    ensures err { IfErr result (λ e. Took (L.left link.old) (L.left link.new) (λ t. Halts e
+        (chunk_step limit body.old.items (bytes.old ++ t) ≡ Settled BodyInvalid) (chunk_step limit
+        body.old.items (bytes.old ++ t) ≡ Settled BodyTooLong) (chunk_step limit body.old.items
+        (bytes.old ++ t) ≡ Settled BodyUnfinished) (length (bytes.old ++ t)) (L.left link.new)
+        (L.read_faults link.old) (L.read_faults link.new))) }
+    ensures below { IfErr result (IsCountBelow (2 ^ 40)) }
+    ensures room { length room.new ≡ length room.old }
+    ensures later { L.read_faults link.old ≤ L.read_faults link.new }
+    ensures held { L.held link.new ≡ L.held link.old }
+    ensures put_faults { L.put_faults link.new ≡ L.put_faults link.old }
+{
+    let head = match read_chunk_line(link, room, bytes) {
+        Ok(head) => head,
+        Err(fault) => return Err(fault),
+    };
+    if head.size == 0 {
+        return match read_trailer(link, room, bytes) {
+            Ok(()) => Ok(None),
+            Err(fault) => Err(fault.after(head.bytes)),
+        };
+    }
+    if head.size > (limit - body.len()) as u64 {
+        return Err(BodyFault::TooLong);
+    }
+    let size = head.size as usize;
+    match read_sized(link, body, bytes, size) {
+        Ok(()) => {}
+        Err(fault) => return Err(fault.after(head.bytes)),
+    }
+    match read_chunk_end(link, room, bytes) {
+        Ok(()) => Ok(Some(head.bytes + size + 2)),
+        Err(fault) => Err(fault.after(head.bytes + size)),
+    }
+}
+
+// Reads a body in chunks.
+pub(crate) fn read_chunked<L: Link>(
+    alloc: Global,
+    link: &mut L,
+    room: &mut [u8],
+    limit: usize,
+    bytes: &mut Unread,
+) -> Result<Vec<u8>, BodyFault>
+    requires room { 0 < length room.old }
+    requires small { limit < 2 ^ 32 }
+    ensures ok { IfOk result (λ b. Took (L.left link.old) (L.left link.new) (λ t. chunked_body
+        limit (bytes.old ++ t) ≡ Whole b.items bytes.new)) }
+    ensures err { IfErr result (λ e. Took (L.left link.old) (L.left link.new) (λ t. Halts e
+        (chunked_body limit (bytes.old ++ t) ≡ BodyInvalid) (chunked_body limit (bytes.old ++ t) ≡
+        BodyTooLong) (chunked_body limit (bytes.old ++ t) ≡ BodyUnfinished) (length (bytes.old ++
+        t)) (L.left link.new) (L.read_faults link.old) (L.read_faults link.new))) }
+    ensures below { IfErr result (IsCountBelow (2 ^ 50)) }
+    ensures room { length room.new ≡ length room.old }
+    ensures later { L.read_faults link.old ≤ L.read_faults link.new }
+    ensures held { L.held link.new ≡ L.held link.old }
+    ensures put_faults { L.put_faults link.new ≡ L.put_faults link.old }
+{
+    let mut body = Vec::new(alloc);
+    let mut passed = 0;
+    'chunk: loop {
+        match read_chunk(link, room, limit, &mut body, bytes) {
+            Ok(None) => return Ok(body),
+            Ok(Some(count)) => passed += count,
+            Err(fault) => return Err(fault.after(passed)),
+        }
+    }
+}

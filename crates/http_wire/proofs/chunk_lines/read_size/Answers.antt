@@ -1,8 +1,0 @@
-use Rattle.std.proofs.Common.{subst, sym, ℕ, take, ap, ◌∙◌}
-use Rattle.http_wire.specs.Found.{AreHexDigits}
-use Rattle.http_wire.proofs.ChunkLines.{hex_front}
-use Rattle.http_wire.proofs.chunk_lines.read_size.Goals as goal
-
-pub read_digits-requires-clause-digits : goal.read_digits-requires-clause-digits
-read_digits-requires-clause-digits c =
-    subst AreHexDigits (sym (c.split_at.ensures.front ∙ ap (λ (n : ℕ). take n c.args.text.now) c.count_digits-count.ensures.value)) (hex_front c.args.text.now)
