@@ -106,3 +106,9 @@ kept_entered (Err e) h h' c faults faults' is counted = inl (subst (λ (x : Hist
 pub refused_shows : (h k : History) (stamp : Stamp) → k ≡ grown h (Refused stamp) → ¬ NoneRefused h k
 refused_shows h k stamp grows none =
     true≢false (sym (ap (list_any is_refused) (one_after h.entries (Refused stamp))) ∙ subst (λ (x : History). NoneRefused h x) grows none)
+
+-- the count of faults is as it was where no refusal was entered
+pub unrefused_counted : (E : Type 0) (kept : Bool) (h h' : History) (c : Commit) (faults faults' : ℕ)
+    → IsEntered {E = E} (Ok kept) h h' c → IsFaultCounted {E = E} (Ok kept) faults faults' → NoneRefused h h' → faults' ≡ faults
+unrefused_counted E true h h' c faults faults' is counted none = counted
+unrefused_counted E false h h' c faults faults' is counted none = absurd (refused_shows h h' c.stamp is none)

@@ -1,5 +1,5 @@
 -- What a commit more makes of an account.
-use Rattle.std.proofs.Common.{◌≡◌, ◌↔◌, ℕ, Bool, IsTrue, ◌+◌, ◌-◌, ◌^◌, min, List, [], ◌∷◌, ◌++◌, map, ◌≤◌, take, drop, length, refl, sym, ap, ap₂, ◌∙◌, subst, append_assoc, arith}
+use Rattle.std.proofs.Common.{◌≡◌, ◌↔◌, ℕ, Bool, IsTrue, ◌+◌, ◌^◌, List, [], ◌∷◌, ◌++◌, map, ◌≤◌, take, drop, length, refl, sym, ap, ap₂, ◌∙◌, subst, append_assoc, arith}
 use Rattle.std.proofs.Math.Seq.{take-append_seam, drop-append_seam}
 use Rattle.std.proofs.lemmas.List.{append-nil, drop-append-le, map-append, take-append-le}
 use Rattle.mail_records.specs.Contents.{Content}

@@ -1,5 +1,5 @@
 -- What holds of the content of an account, and of its last position and next numbers.
-use Rattle.std.proofs.Common.{◌≡◌, ◌↔◌, ℕ, Bool, IsTrue, ◌+◌, ◌≤◌, ◌^◌, List, sym, subst, arith}
+use Rattle.std.proofs.Common.{◌↔◌, ℕ, Bool, IsTrue, ◌+◌, ◌≤◌, ◌^◌, List, sym, subst, arith}
 use Rattle.mail_records.specs.Contents.{Content, AreTables, AreNumbered, NextAtMost}
 use Rattle.mail_records.specs.Histories.{History, IsSound, content_of, edits_of, end_of}
 use Rattle.mail_records.proofs.Growth.{AllKeepThread-sound, AreTables-after_edits, AreNumbered-after_edits, IsSound-from_steps, NextAtMost-founded}

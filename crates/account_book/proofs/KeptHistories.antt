@@ -1,5 +1,5 @@
 -- What a keeper's content is to a history after each answer of `append`.
-use Rattle.std.proofs.Common.{◌≡◌, ◌↔◌, ◌⊎◌, inl, inr, ⊎_elim, ℕ, Bool, not, List, [], ◌∷◌, ◌++◌, filter, Option, Some, None, refl, sym, ap, ap₂, ◌∙◌, subst}
+use Rattle.std.proofs.Common.{◌≡◌, ◌↔◌, ◌⊎◌, inl, inr, ⊎_elim, ℕ, not, List, [], ◌∷◌, ◌++◌, filter, Option, Some, None, refl, sym, ap, ◌∙◌, subst}
 use Rattle.std.proofs.lemmas.List.{append-nil}
 use Rattle.std.proofs.lemmas.Grind.{flat_map-append}
 use Rattle.std.proofs.lemmas.List.Elements.{filter-append}
@@ -10,7 +10,7 @@ use Rattle.mail_records.specs.declared.edits.Commit.{Commit}
 use Rattle.mail_records.specs.declared.edits.Stamp.{Stamp}
 use Rattle.record_codec.specs.Offsets.{IsEncodingOf}
 use Rattle.account_book.specs.Accounts.{without_refusals}
-use Rattle.account_book.specs.Keeping.{AreEncodings, IsBaseOf, IsKept, IsOneMore, IsReady, LeavesHistory, KeepsHistory, no_base_encoding}
+use Rattle.account_book.specs.Keeping.{AreEncodings, IsBaseOf, IsOneMore, KeepsHistory, KnowsHistory, LeavesHistory, no_base_encoding}
 use Rattle.account_book.proofs.Rows.{AreEncodings-push}
 
 pub commits_in-grown : (h : History) (e : Entry) → commits_in (grown h e).entries ≡ commits_in h.entries ++ entry_commits e
@@ -41,35 +41,48 @@ KeepsHistory-refused k h s stands = record {
 pub KeepsHistory-again : (k left : Kept) (g h : History) → KeepsHistory no_base_encoding k g → commits_in g.entries ≡ commits_in h.entries → IsBaseOf no_base_encoding left.base g → IsBaseOf no_base_encoding left.base h → AreEncodings left.rows (commits_in g.entries) → KeepsHistory no_base_encoding left h
 KeepsHistory-again k left g h stands same base base' rows = record { base = base'; rows = subst (AreEncodings left.rows) same rows }
 
+-- what the content is with a row more, where it is known
+next_keeps : (known : Option Kept) (h : History) (row : List ℕ) (c : Commit) (k : Kept) → KnowsHistory no_base_encoding known h → IsEncodingOf row c → with_row_if row known ≡ Some k → KeepsHistory no_base_encoding k (grown h (Committed c))
+next_keeps None h row c k knows one e = absurd (cc)
+next_keeps (Some t) h row c k knows one e =
+    let same : with_row row t ≡ k = cc in
+    subst (λ z. KeepsHistory no_base_encoding z (grown h (Committed c))) same (KeepsHistory-committed t h row c (knows t refl) one)
+
+-- ---- the row was taken
+
+pub knows_taken : (known known' : Option Kept) (h h' : History) (row : List ℕ) (c : Commit) → KnowsHistory no_base_encoding known h → IsEncodingOf row c
+    → IsUnknownOr (with_row_if row known) known' → h' ≡ grown h (Committed c) → KnowsHistory no_base_encoding known' h'
+knows_taken known known' h h' row c knows one after grows =
+    subst (KnowsHistory no_base_encoding known') (sym grows) (λ k e. next_keeps known h row c k knows one (after k e))
+
+pub only_taken : (known : Option Kept) (image' : Kept → Type 0) (h h' : History) (row : List ℕ) (c : Commit) → KnowsHistory no_base_encoding known h → IsEncodingOf row c
+    → ((k : Kept) → image' k → with_row_if row known ≡ Some k) → h' ≡ grown h (Committed c) → (left : Kept) → image' left → KeepsHistory no_base_encoding left h'
+only_taken known image' h h' row c knows one may grows left i =
+    subst (KeepsHistory no_base_encoding left) (sym grows) (next_keeps known h row c left knows one (may left i))
+
+-- ---- it was not
+
+pub knows_same : (known known' : Option Kept) (h h' : History) → KnowsHistory no_base_encoding known h → IsUnknownOr known known' → h' ≡ h → KnowsHistory no_base_encoding known' h'
+knows_same known known' h h' knows after same = subst (KnowsHistory no_base_encoding known') (sym same) (λ k e. knows k (after k e))
+
+pub knows_refused : (known : Option Kept) (h h' : History) (s : Stamp) → KnowsHistory no_base_encoding known h → h' ≡ grown h (Refused s) → KnowsHistory no_base_encoding known h'
+knows_refused known h h' s knows grows = subst (KnowsHistory no_base_encoding known) (sym grows) (λ k e. KeepsHistory-refused k h s (knows k e))
+
 module _ (whole : History → Type 0) where
-  -- what the content is with a row more, where it is known
-  next_keeps : (known : Option Kept) (image : Kept → Type 0) (h : History) (row : List ℕ) (c : Commit) (k : Kept) → IsKept no_base_encoding whole known image h → IsEncodingOf row c → with_row_if row known ≡ Some k → KeepsHistory no_base_encoding k (grown h (Committed c))
-  next_keeps None image h row c k kept one e = absurd (cc)
-  next_keeps (Some t) image h row c k kept one e =
-      let same : with_row row t ≡ k = cc in
-      subst (λ z. KeepsHistory no_base_encoding z (grown h (Committed c))) same (KeepsHistory-committed t h row c (kept t refl).0 one)
+  pub left_taken : (known : Option Kept) (image' : Kept → Type 0) (h h' : History) (row : List ℕ) (c : Commit) → KnowsHistory no_base_encoding known h → IsEncodingOf row c
+      → ((k : Kept) → image' k → with_row_if row known ≡ Some k) → h' ≡ grown h (Committed c) → LeavesHistory no_base_encoding whole image' h'
+  left_taken known image' h h' row c knows one may grows left i = inl (only_taken known image' h h' row c knows one may grows left i)
 
-  pub IsKept-taken : (known known' : Option Kept) (image image' : Kept → Type 0) (h h' : History) (row : List ℕ) (c : Commit)
-      → IsKept no_base_encoding whole known image h → IsEncodingOf row c
-      → IsUnknownOr (with_row_if row known) known' → ((k : Kept) → image' k → with_row_if row known ≡ Some k) → h' ≡ grown h (Committed c)
-      → IsKept no_base_encoding whole known' image' h'
-  IsKept-taken known known' image image' h h' row c kept one after may grows =
-      subst (IsKept no_base_encoding whole known' image') (sym grows)
-      (λ k e. (next_keeps known image h row c k kept one (after k e), λ left i. inl (next_keeps known image h row c left kept one (may left i))))
-
-  pub IsKept-not_taken : (known known' : Option Kept) (image image' : Kept → Type 0) (h h' : History) (row : List ℕ) (c : Commit)
-      → IsKept no_base_encoding whole known image h → IsEncodingOf row c → whole (grown h (Committed c))
-      → IsUnknownOr known known' → ((k : Kept) → image' k → image k ⊎ (with_row_if row known ≡ Some k)) → h' ≡ h
-      → IsKept no_base_encoding whole known' image' h'
-  IsKept-not_taken known known' image image' h h' row c kept one valid after may same =
-      subst (IsKept no_base_encoding whole known' image') (sym same)
-      (λ k e. let was = kept k (after k e) in (
-        was.0,
-        λ left i. ⊎_elim
-            (λ old. was.1 left old)
-            (λ new. inr (record { commit = c; valid = valid; keeps = next_keeps known image h row c left kept one new }))
-            (may left i),
-      ))
+  pub left_not_taken : (known : Option Kept) (image image' : Kept → Type 0) (h h' : History) (row : List ℕ) (c : Commit)
+      → KnowsHistory no_base_encoding known h → IsEncodingOf row c → whole (grown h (Committed c))
+      → ((k : Kept) → image' k → image k ⊎ (with_row_if row known ≡ Some k)) → h' ≡ h
+      → LeavesHistory no_base_encoding whole image h → LeavesHistory no_base_encoding whole image' h'
+  left_not_taken known image image' h h' row c knows one valid may same leaves =
+      subst (LeavesHistory no_base_encoding whole image') (sym same)
+      (λ left i. ⊎_elim
+      (λ old. leaves left old)
+      (λ new. inr (record { commit = c; valid = valid; keeps = next_keeps known h row c left knows one new }))
+      (may left i))
 
   -- refusals have no part in what is valid
   module _ (ignores : (h : History) → whole (without_refusals h) ↔ whole h) where
@@ -107,10 +120,7 @@ module _ (whole : History → Type 0) where
         base_back None h e is = is
         base_back (Some b) h e is = absurd is
 
-    pub IsKept-refused : (known : Option Kept) (image : Kept → Type 0) (h h' : History) (s : Stamp) → IsKept no_base_encoding whole known image h → h' ≡ grown h (Refused s) → IsKept no_base_encoding whole known image h'
-    IsKept-refused known image h h' s kept grows =
-        subst (IsKept no_base_encoding whole known image) (sym grows)
-        (λ k e. let was = kept k e in (
-          KeepsHistory-refused k h s was.0,
-          λ left i. ⊎_elim (λ a. inl (KeepsHistory-refused left h s a)) (λ m. inr (one_more-refused left h s m)) (was.1 left i),
-        ))
+    pub left_refused : (image : Kept → Type 0) (h h' : History) (s : Stamp) → LeavesHistory no_base_encoding whole image h → h' ≡ grown h (Refused s) → LeavesHistory no_base_encoding whole image h'
+    left_refused image h h' s leaves grows =
+        subst (LeavesHistory no_base_encoding whole image) (sym grows)
+        (λ left i. ⊎_elim (λ a. inl (KeepsHistory-refused left h s a)) (λ m. inr (one_more-refused left h s m)) (leaves left i))

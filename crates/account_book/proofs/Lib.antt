@@ -9,6 +9,6 @@ pub mod Starting
 pub mod Taking
 pub mod Opened
 pub mod Parts
+pub mod Passing
 pub mod Ready
 pub mod Reopening
-pub mod Added

@@ -1,19 +1,19 @@
 -- What a row more makes of what is loaded, and which history a content that is loaded keeps.
-use Rattle.std.proofs.Common.{◌≡◌, ◌⊎◌, inl, inr, ⊎_elim, ℕ, ◌+◌, ◌-◌, ◌≤◌, List, [], ◌∷◌, ◌++◌, take, drop, map, length, slice_get, Option, Some, None, Ok, IfErr, IfOk, refl, sym, ap, ap₂, ◌∙◌, subst, arith}
-use Rattle.std.proofs.lemmas.List.{append-nil, map-append}
+use Rattle.std.proofs.Common.{◌≡◌, inl, inr, ⊎_elim, ℕ, ◌+◌, List, [], ◌∷◌, ◌++◌, take, map, length, slice_get, Option, Some, None, Ok, refl, sym, ap, ◌∙◌, subst}
+use Rattle.std.proofs.lemmas.List.{map-append}
 use Rattle.keep_port.specs.Keeping.{IsContent, IsUnknownOr, content_loaded}
 use Rattle.keep_port.specs.declared.kept.Kept.{Kept}
 use Rattle.mail_records.specs.Contents.{empty_content}
 use Rattle.mail_records.specs.Edits.{AllFit}
-use Rattle.mail_records.specs.Histories.{History, Entry, Committed, account_after, commits_in, content_of, edits_of, empty_history, grown}
+use Rattle.mail_records.specs.Histories.{History, Entry, Committed, commits_in, content_of, edits_of, empty_history, grown}
 use Rattle.mail_records.specs.declared.edits.Commit.{Commit}
 use Rattle.mail_records.proofs.Growth.{AllFit-append}
 use Rattle.mail_records.proofs.Prefixes.{edits_of-grown}
 use Rattle.record_codec.specs.Offsets.{IsEncodingOf}
-use Rattle.account_book.specs.Keeping.{AreEncodings, IsBaseOf, IsKept, IsReady, KeepsHistory, no_base_encoding}
-use Rattle.account_book.specs.Opening.{AreDamaged, AreLoaded, AreTaken, IsContentFault, IsEndFault, IsFirstFault, IsLoadFault, IsLoading, IsNotWhole, IsRowRefused, MakesHistory, TakesRow, history_of_commits}
+use Rattle.account_book.specs.Keeping.{AreEncodings, IsBaseOf, KeepsHistory, KnowsHistory, no_base_encoding}
+use Rattle.account_book.specs.Opening.{AreDamaged, AreLoaded, AreTaken, IsContentFault, IsEndFault, IsLeftBefore, IsLoadFault, IsLoading, IsNotWhole, IsReadyLoaded, IsRowRefused, MakesHistory, TakesRow, history_of_commits}
 use Rattle.account_book.specs.declared.faults.Reason.{Reason}
-use Rattle.account_book.specs.declared.faults.Reason.TheVariants.{NotACommit, DoesNotFit, NotWhole}
+use Rattle.account_book.specs.declared.faults.Reason.TheVariants.{NotACommit, NotWhole}
 use Rattle.account_book.specs.declared.faults.StartFault.{StartFault}
 use Rattle.account_book.specs.declared.faults.StartFault.TheVariants.{KeeperFault, Damaged, NoMemory}
 use Rattle.account_book.specs.declared.loading.Loading.{Loading}
@@ -39,12 +39,12 @@ AreLoaded-push rows row l next a takes =
       is = subst (IsLoading next) (sym (history_push a.commits t.commit)) t.is;
     }
 
-pub IsLoadFault-row : (rows : List (List ℕ)) (i : ℕ) (bytes : List ℕ) (l : Loading) (fault : StartFault) → slice_get rows i ≡ Some bytes → AreLoaded (take i rows) l → ((h : History) → IsLoading l h → IsRowRefused bytes i h fault) → IsLoadFault rows fault
+pub IsLoadFault-row : (rows : List (List ℕ)) (i : ℕ) (bytes : List ℕ) (l : Loading) (fault : StartFault) → slice_get rows i ≡ Some bytes → AreLoaded (take i rows) l → ((h : History) → IsLoading l h → IsRowRefused bytes (i + 1) h fault) → IsLoadFault rows fault
 IsLoadFault-row rows i bytes l KeeperFault there a refused = absurd (refused (history_of_commits a.commits) a.is)
 IsLoadFault-row rows i bytes l NoMemory there a refused = tt
 IsLoadFault-row rows i bytes l (Damaged r why) there a refused =
     let f = refused (history_of_commits a.commits) a.is in
-    subst (λ z. IsFirstFault rows z why) (sym f.0) (record { commits = a.commits; before = a.taken; bytes = bytes; there = there; fault = f.1 })
+    (record { index = i; row_is = f.0; commits = a.commits; before = a.taken; bytes = bytes; there = there; fault = f.1 })
 
 pub AreLoaded-none : (l : Loading) → IsLoading l empty_history → AreLoaded [] l
 AreLoaded-none l is = record { commits = []; taken = record { encoded = tt; fits = tt }; is = is }
@@ -58,11 +58,11 @@ no_rows : (cs : List Commit) → AreEncodings [] cs → cs ≡ []
 no_rows [] e = refl
 no_rows (c ∷ cs) e = absurd e
 
-end_damaged : (whole : History → Type 0) → whole empty_history → (rows : List (List ℕ)) (cs : List Commit) (last row : ℕ) (why : Reason) → AreTaken rows cs → last ≡ length rows - 1 → row ≡ last → why ≡ NotWhole → ¬ whole (history_of_commits cs) → IsNotWhole whole rows row why
+end_damaged : (whole : History → Type 0) → whole empty_history → (rows : List (List ℕ)) (cs : List Commit) (last row : ℕ) (why : Reason) → AreTaken rows cs → last ≡ length rows → row ≡ last → why ≡ NotWhole → ¬ whole (history_of_commits cs) → IsNotWhole whole rows row why
 end_damaged whole empty [] cs last row why t is at reason bad = absurd (bad (subst (λ ds. whole (history_of_commits ds)) (sym (no_rows cs t.encoded)) empty))
-end_damaged whole empty (r ∷ rs) cs last row why t is at reason bad = record { commits = cs; all = t; invalid = bad; last = omega (arith, is, at); reason = reason }
+end_damaged whole empty (r ∷ rs) cs last row why t is at reason bad = record { commits = cs; all = t; invalid = bad; last = at ∙ is; reason = reason }
 
-pub content_damaged : (whole : History → Type 0) → whole empty_history → (k : Kept) (rows : List (List ℕ)) (l : Loading) (last : ℕ) (fault : StartFault) → k.base ≡ None → k.rows ≡ rows → AreLoaded rows l → last ≡ length rows - 1 → ((h : History) → IsLoading l h → IsEndFault whole h last fault) → IsContentFault whole k fault
+pub content_damaged : (whole : History → Type 0) → whole empty_history → (k : Kept) (rows : List (List ℕ)) (l : Loading) (last : ℕ) (fault : StartFault) → k.base ≡ None → k.rows ≡ rows → AreLoaded rows l → last ≡ length rows → ((h : History) → IsLoading l h → IsEndFault whole h last fault) → IsContentFault whole k fault
 content_damaged whole empty k rows l last KeeperFault none is a low end = absurd (end (history_of_commits a.commits) a.is)
 content_damaged whole empty k rows l last NoMemory none is a low end = tt
 content_damaged whole empty k rows l last (Damaged row why) none is a low end =
@@ -102,17 +102,19 @@ loaded_same : (content k t : Kept) (known : Option Kept) → content_loaded (Ok 
 loaded_same content k t None e told = absurd (cc)
 loaded_same content k t (Some s) e told = cc
 
-pub IsKept-opened : (whole : History → Type 0) (known known' : Option Kept) (image image' : Kept → Type 0) (content : Kept) (h : History)
-    → IsReady no_base_encoding whole known image → whole h → MakesHistory content h → IsContent known' content
-    → IsUnknownOr (content_loaded (Ok content) known) known' → ((k : Kept) → image' k → image k ⊎ (known' ≡ Some k))
-    → IsKept no_base_encoding whole known' image' h
-IsKept-opened whole known known' image image' content h ready valid makes is after may k e =
-    let made : KeepsHistory no_base_encoding content h = KeepsHistory-made content h makes in
-    let here : KeepsHistory no_base_encoding k h = subst (λ z. KeepsHistory no_base_encoding z h) (is k e) made in
-    let old : (t : Kept) → known ≡ Some t → KeepsHistory no_base_encoding t h = λ t told. subst (λ z. KeepsHistory no_base_encoding z h) (loaded_same content k t known (after k e) told) here in (
-      here,
-      λ left i. ⊎_elim
-          (λ before. ready h valid old left before)
-          (λ now. inl (subst (λ z. KeepsHistory no_base_encoding z h) (is left now) made))
-          (may left i),
-    )
+-- a keeper that loaded this content keeps the history that the content makes
+pub knows_loaded : (known : Option Kept) (content : Kept) (h : History) → MakesHistory content h → IsContent known content → KnowsHistory no_base_encoding known h
+knows_loaded known content h makes is k e = subst (λ z. KeepsHistory no_base_encoding z h) (is k e) (KeepsHistory-made content h makes)
+
+known_before : (content t : Kept) (known loaded : Option Kept) (h : History) → IsUnknownOr (content_loaded (Ok content) known) loaded → (loaded ≡ None → known ≡ None) → KnowsHistory no_base_encoding loaded h → known ≡ Some t → KeepsHistory no_base_encoding t h
+known_before content t known None h after lost knows told = let none = lost refl in absurd (cc)
+known_before content t known (Some k) h after lost knows told = subst (λ z. KeepsHistory no_base_encoding z h) (loaded_same content k t known (after k refl) told) (knows k refl)
+
+-- a keeper that was ready is so once it is loaded
+pub ready_loaded : (whole : History → Type 0) (known loaded : Option Kept) (image image' : Kept → Type 0) (content : Kept) → IsUnknownOr (content_loaded (Ok content) known) loaded → IsLeftBefore image loaded image'
+    → IsReadyLoaded no_base_encoding whole known image loaded image'
+ready_loaded whole known loaded image image' content after may ready lost h valid knows left i =
+    ⊎_elim
+    (λ before. ready h valid (λ t told. known_before content t known loaded h after lost knows told) left before)
+    (λ now. inl (knows left now))
+    (may left i)

@@ -1,14 +1,16 @@
 -- The entries of a book since it was opened, and the refusals among them.
-use Rattle.std.proofs.Common.{◌≡◌, ℕ, zero, suc, ◌+◌, ◌-◌, ◌^◌, ◌≤◌, ◌<◌, min, Bool, true, false, List, [], ◌∷◌, ◌++◌, take, drop, filter, length, Result, Ok, Err, refl, sym, ap, ap₂, ◌∙◌, subst, arith, length-append}
-use Rattle.std.proofs.lemmas.List.{append-nil, drop-append-le, take-append-le}
+use Rattle.std.proofs.Common.{◌≡◌, ℕ, zero, suc, ◌+◌, ◌-◌, ◌^◌, ◌≤◌, ◌<◌, Bool, true, false, List, [], ◌∷◌, ◌++◌, take, drop, filter, length, Result, Ok, Err, refl, sym, ap, ◌∙◌, subst, arith, length-append}
+use Rattle.std.proofs.lemmas.List.{append-nil, drop-append-le}
 use Rattle.std.proofs.lemmas.List.Elements.{filter-append}
 use Rattle.std.proofs.Math.Seq.{drop-append_seam}
+use Rattle.std.specs.List.{AllByRecursion}
 use Rattle.jm_edge.specs.Causes.{Rose}
 use Rattle.mail_records.specs.Histories.{History, Entry, Committed, Refused, account_after, grown, is_refused}
 use Rattle.mail_records.specs.declared.edits.Commit.{Commit}
 use Rattle.mail_records.specs.declared.edits.Stamp.{Stamp}
 use Rattle.mail_records.proofs.Prefixes.{account_after-all, account_after-grown_by}
-use Rattle.account_book.specs.Books.{IsEntered, IsFaultCounted, refusals_in}
+use Rattle.account_book.specs.Books.{IsEntered, IsFaultCounted, RoseBy, refusals_in}
+use Rattle.account_book.specs.Passes.{IsPassNumber, greatest_pass}
 
 pub drop_all : {A : Type 0} (xs : List A) → drop (length xs) xs ≡ []
 drop_all [] = refl
@@ -53,6 +55,14 @@ refusals_grown h h' e n low grows =
     ap (λ (k : History). refusals_in (drop n k.entries)) grows
     ∙ (ap refusals_in (drop-append-le n h.entries (e ∷ []) low) ∙ refusals_more (drop n h.entries) (e ∷ []))
 
+all_push : (P : Entry → Type 0) (xs : List Entry) (e : Entry) → AllByRecursion P xs → P e → AllByRecursion P (xs ++ e ∷ [])
+all_push P [] e all one = (one, tt)
+all_push P (x ∷ xs) e all one = (all.0, all_push P xs e all.1 one)
+
+passes_grown : (h h' : History) (e : Entry) (n : ℕ) → n ≤ length h.entries → h' ≡ grown h e → AllByRecursion IsPassNumber (drop n h.entries) → IsPassNumber e → AllByRecursion IsPassNumber (drop n h'.entries)
+passes_grown h h' e n low grows all one =
+    subst (AllByRecursion IsPassNumber) (sym (ap (λ (k : History). drop n k.entries) grows ∙ drop-append-le n h.entries (e ∷ []) low)) (all_push IsPassNumber (drop n h.entries) e all one)
+
 module _ {E : Type 0} where
   pub since_entered : (r : Result Bool E) (h h' : History) (c : Commit) (n : ℕ) → n ≤ length h.entries → IsEntered r h h' c → drop n h'.entries ≡ drop n h.entries ++ drop (length h.entries) h'.entries
   since_entered (Ok true) h h' c n low is = since_grown h h' (Committed c) n low is
@@ -85,6 +95,29 @@ module _ {E : Type 0} where
       let same = ap (λ (k : History). refusals_in (drop n k.entries)) is in
       omega (arith, same, counted, most)
 
+  -- the count that rose with each refusal since it was this
+  pub rise_entered : (r : Result Bool E) (h h' : History) (c : Commit) (n first faults faults' : ℕ) → n ≤ length h.entries → IsEntered r h h' c → IsFaultCounted r faults faults'
+      → RoseBy (refusals_in (drop n h.entries)) first faults → RoseBy (refusals_in (drop n h'.entries)) first faults'
+  rise_entered (Ok true) h h' c n first faults faults' low is counted most =
+      let more = refusals_grown h h' (Committed c) n low is in
+      let none : refusals_in (Committed c ∷ []) ≡ 0 = refl in
+      omega (arith, more, none, counted, most)
+  rise_entered (Ok false) h h' c n first faults faults' low is counted most =
+      let more = refusals_grown h h' (Refused c.stamp) n low is in
+      let one : refusals_in (Refused c.stamp ∷ []) ≡ 1 = refl in
+      omega (arith, more, one, counted, most)
+  rise_entered (Err e) h h' c n first faults faults' low is counted most =
+      let same = ap (λ (k : History). refusals_in (drop n k.entries)) is in
+      omega (arith, same, counted, most)
+
+  pub passes_entered : (r : Result Bool E) (h h' : History) (c : Commit) (n : ℕ) → n ≤ length h.entries → IsEntered r h h' c → c.stamp.pass < 2 ^ 64 → AllByRecursion IsPassNumber (drop n h.entries) → AllByRecursion IsPassNumber (drop n h'.entries)
+  passes_entered (Ok true) h h' c n low is far all = passes_grown h h' (Committed c) n low is all far
+  passes_entered (Ok false) h h' c n low is far all = passes_grown h h' (Refused c.stamp) n low is all far
+  passes_entered (Err e) h h' c n low is far all = subst (λ (k : History). AllByRecursion IsPassNumber (drop n k.entries)) (sym is) all
+
+  pub greatest_entered : (r : Result Bool E) (h h' : History) (c : Commit) (n greatest : ℕ) → n ≤ length h.entries → IsEntered r h h' c → greatest ≡ greatest_pass (take n h.entries) → greatest ≡ greatest_pass (take n h'.entries)
+  greatest_entered r h h' c n greatest low is most = most ∙ ap (λ (k : History). greatest_pass k.entries) (sym (opened_entered r h h' c n low is))
+
 pub none_since : (n : ℕ) (es : List Entry) → n ≡ length es → drop n es ≡ []
 none_since n es is = ap (λ k. drop k es) is ∙ drop_all es
 
@@ -108,6 +141,16 @@ not_kept h c same =
     let ends : Committed c ≡ Refused c.stamp = sym (last_of (Committed c) (Committed c) h.entries) ∙ (ap (λ (k : History). last_or (Committed c) k.entries) same ∙ last_of (Committed c) (Refused c.stamp) h.entries) in
     absurd (cc)
 
+-- a history that stays gains no entry, and one that gains a refusal gains no commit
+pub not_grown : (h k : History) (e : Entry) → k ≡ h → k ≡ grown h e → ⊥
+not_grown h k e same grows = not_longer h e (sym same ∙ grows)
+
+pub not_committed : (h k : History) (c : Commit) (s : Stamp) → k ≡ grown h (Refused s) → k ≡ grown h (Committed c) → ⊥
+not_committed h k c s refused kept =
+    let same : grown h (Committed c) ≡ grown h (Refused s) = sym kept ∙ refused in
+    let ends : Committed c ≡ Refused s = sym (last_of (Committed c) (Committed c) h.entries) ∙ (ap (λ (k : History). last_or (Committed c) k.entries) same ∙ last_of (Committed c) (Refused s) h.entries) in
+    absurd (cc)
+
 module _ {E : Type 0} where
   pub cause_entered : (r : Result Bool E) (h h' : History) (c : Commit) (faults faults' : ℕ) → IsEntered r h h' c → IsFaultCounted r faults faults' → h' ≡ grown h (Refused c.stamp) → Rose faults faults'
   cause_entered (Ok true) h h' c faults faults' is counted same = absurd (not_kept h c (sym is ∙ same))
@@ -119,3 +162,8 @@ module _ {E : Type 0} where
 
 pub cause_idle : (h : History) (s : Stamp) (faults : ℕ) → h ≡ grown h (Refused s) → Rose faults faults
 cause_idle h s faults same = absurd (not_longer h (Refused s) same)
+
+-- where the keeper was asked and there was memory, the history grew
+pub entered_grows : (E : Type 0) (kept : Bool) (h h' : History) (c : Commit) → IsEntered {E = E} (Ok kept) h h' c → h' ≡ h → ⊥
+entered_grows E true h h' c is same = not_grown h h' (Committed c) same is
+entered_grows E false h h' c is same = not_grown h h' (Refused c.stamp) same is

@@ -1,5 +1,5 @@
 -- Keepers over which an account can be opened.
-use Rattle.std.proofs.Common.{◌≡◌, ◌↔◌, inl, Option, Some}
+use Rattle.std.proofs.Common.{inl, Option}
 use Rattle.keep_port.specs.Keeping.{LeavesContent}
 use Rattle.keep_port.specs.declared.kept.Kept.{Kept}
 use Rattle.mail_records.specs.Histories.{History}

@@ -1,6 +1,6 @@
 -- What a keeper keeps of a valid account opens again as that account, and a keeper that a book hands
 -- back is ready.
-use Rattle.std.proofs.Common.{◌≡◌, ◌↔◌, ◌⊎◌, inl, inr, ⊎_elim, ℕ, zero, suc, Bool, not, List, [], ◌∷◌, ◌++◌, take, filter, map, Option, Some, None, slice_get, refl, sym, ap, ◌∙◌, subst, append_assoc}
+use Rattle.std.proofs.Common.{◌≡◌, ◌↔◌, ◌⊎◌, inl, inr, ⊎_elim, ℕ, zero, suc, not, List, [], ◌∷◌, ◌++◌, take, filter, map, Option, Some, None, slice_get, refl, sym, ap, ◌∙◌, subst, append_assoc}
 use Rattle.keep_port.specs.declared.kept.Kept.{Kept}
 use Rattle.mail_records.specs.Contents.{Content, empty_content}
 use Rattle.mail_records.specs.Edits.{AllFit, after_edits}
@@ -10,7 +10,7 @@ use Rattle.mail_records.specs.declared.edits.Edit.{Edit}
 use Rattle.record_codec.specs.Offsets.{IsEncodingOf}
 use Rattle.record_codec.proofs.Again.{one_commit}
 use Rattle.account_book.specs.Accounts.{without_refusals}
-use Rattle.account_book.specs.Keeping.{AreEncodings, IsBaseOf, IsKept, IsOneMore, IsReady, KeepsHistory, no_base_encoding}
+use Rattle.account_book.specs.Keeping.{AreEncodings, IsBaseOf, IsOneMore, IsReady, KeepsHistory, KnowsHistory, LeavesHistory, no_base_encoding}
 use Rattle.account_book.specs.Opening.{AreDamaged, IsDamaged, IsFirstFault, IsNotWhole, IsRowFault, MakesHistory, history_of_commits}
 use Rattle.account_book.specs.declared.faults.Reason.{Reason}
 use Rattle.account_book.specs.declared.faults.Reason.TheVariants.{NotACommit, DoesNotFit, NotWhole}
@@ -89,8 +89,8 @@ no_row_fault bytes front c NotWhole one fit fault = fault
 -- rows of commits that fit are not at fault
 no_first_fault : (rows : List (List ℕ)) (cs : List Commit) (row : ℕ) (why : Reason) → AreEncodings rows cs → AllFit empty_content (edits_of (history_of_commits cs)) → IsFirstFault rows row why → ⊥
 no_first_fault rows cs row why all fit first =
-    let s = split rows cs row first.bytes all first.there in
-    let same : first.commits ≡ s.front = AreEncodings-once (take row rows) first.commits s.front first.before.encoded s.before in
+    let s = split rows cs first.index first.bytes all first.there in
+    let same : first.commits ≡ s.front = AreEncodings-once (take first.index rows) first.commits s.front first.before.encoded s.before in
     no_row_fault first.bytes s.front s.here why s.one (fits_there cs s.front s.here s.rest s.is fit)
     (subst (λ ds. IsRowFault first.bytes (history_of_commits ds) why) same first.fault)
 
@@ -117,14 +117,14 @@ module _ (whole : History → Type 0) (ignores : (h : History) → whole (withou
   }
 
   -- a keeper that knows its content, and that a book of this history hands back
-  pub ready_again : (known : Option Kept) (image : Kept → Type 0) (g : History) → IsKept no_base_encoding whole known image g → (k : Kept) → known ≡ Some k → IsReady no_base_encoding whole known image
-  ready_again known image g kept k told h w stands left i =
-      let was = kept k told in
+  pub ready_again : (known : Option Kept) (image : Kept → Type 0) (g : History) → KnowsHistory no_base_encoding known g → LeavesHistory no_base_encoding whole image g → (k : Kept) → known ≡ Some k → IsReady no_base_encoding whole known image
+  ready_again known image g knows leaves k told h w stands left i =
+      let was = knows k told in
       let here = stands k told in
-      let nothing = began k.base g was.0.base in
+      let nothing = began k.base g was.base in
       let nothing' = began k.base h here.base in
-      let same : commits_in g.entries ≡ commits_in h.entries = AreEncodings-once k.rows _ _ was.0.rows here.rows in
-      ⊎_elim (λ s. inl (keeps_same left g h nothing' same s)) (λ m. inr (one_more_same left g h nothing nothing' same m)) (was.1 left i)
+      let same : commits_in g.entries ≡ commits_in h.entries = AreEncodings-once k.rows _ _ was.rows here.rows in
+      ⊎_elim (λ s. inl (keeps_same left g h nothing' same s)) (λ m. inr (one_more_same left g h nothing nothing' same m)) (leaves left i)
 
   undamaged : (sound : (h : History) → whole h → IsSound h) (base : Option (List ℕ)) (rows : List (List ℕ)) (h : History) (row : ℕ) (why : Reason) → whole h → IsBaseOf no_base_encoding base h → AreEncodings rows (commits_in h.entries) → AreDamaged whole base rows row why → ⊥
   undamaged sound (Some b) rows h row why w is all damaged = absurd is

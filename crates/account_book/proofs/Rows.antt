@@ -1,5 +1,5 @@
 -- Rows that encode commits: one more at the end, one way to read them, and one row after the other.
-use Rattle.std.proofs.Common.{◌≡◌, ℕ, ◌+◌, zero, suc, List, [], ◌∷◌, ◌++◌, take, drop, length, slice_get, Option, Some, None, refl, sym, ap, ap₂, ◌∙◌, subst, arith}
+use Rattle.std.proofs.Common.{◌≡◌, ℕ, zero, suc, List, [], ◌∷◌, ◌++◌, take, drop, slice_get, Some, refl, ap, ap₂}
 use Rattle.mail_records.specs.declared.edits.Commit.{Commit}
 use Rattle.record_codec.specs.Offsets.{IsEncodingOf}
 use Rattle.record_codec.proofs.Again.{one_commit}

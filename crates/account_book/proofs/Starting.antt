@@ -1,13 +1,15 @@
 -- What is loaded row by row, and what a book holds when it is opened.
-use Rattle.std.proofs.Common.{◌≡◌, ℕ, zero, suc, ◌+◌, ◌≤◌, List, [], ◌∷◌, ◌++◌, take, drop, length, slice_get, Option, Some, None, Result, Ok, Err, IfErr, IfOk, refl, sym, ap, ◌∙◌, subst, arith}
+use Rattle.std.proofs.Common.{◌≡◌, ℕ, zero, suc, ◌+◌, List, [], ◌∷◌, take, drop, length, Option, Some, None, Result, Ok, Err, IfErr, IfOk, refl, sym, ap, ◌∙◌, subst, arith}
+use Rattle.std.specs.List.{AllByRecursion}
 use Rattle.blob_store.specs.Blobs.{AreBlobsFew}
 use Rattle.keep_port.specs.Keeping.{IsContent, IsUnknownOr, content_loaded}
 use Rattle.keep_port.specs.declared.kept.Kept.{Kept}
 use Rattle.mail_records.specs.Contents.{Held}
 use Rattle.mail_records.specs.Histories.{History, Entry, account_after, blobs_of, empty_history}
 use Rattle.mail_records.proofs.Prefixes.{account_after-all}
-use Rattle.account_book.specs.Keeping.{IsKept, no_base_encoding}
-use Rattle.account_book.specs.Books.{IsBook, refusals_in}
+use Rattle.account_book.specs.Keeping.{KnowsHistory, no_base_encoding}
+use Rattle.account_book.specs.Books.{IsBook, RoseBy, refusals_in}
+use Rattle.account_book.specs.Passes.{IsPassNumber, greatest_pass}
 use Rattle.account_book.specs.Opening.{AreLoaded, IsContentFault, IsEndFault, IsLoadFault, IsLoading, IsOpened, IsRowRefused, IsStartFault, MakesHistory, TakesRow}
 use Rattle.account_book.specs.declared.faults.StartFault.{StartFault}
 use Rattle.account_book.specs.declared.faults.StartFault.TheVariants.{KeeperFault, Damaged, NoMemory}
@@ -32,7 +34,7 @@ loaded_next rows rest rest' row i j l next are is step loaded takes =
 pub rest_next : (rows rest rest' : List (List ℕ)) (row : List ℕ) (i j : ℕ) → rest ≡ drop i rows → rest ≡ row ∷ rest' → j ≡ i + 1 → rest' ≡ drop j rows
 rest_next rows rest rest' row i j are is step = sym (ap (λ k. drop k rows) (sym (next_index i j step)) ∙ rest_dropped i rows row rest' (sym are ∙ is))
 
-pub row_at_fault : (rows rest rest' : List (List ℕ)) (row : List ℕ) (i : ℕ) (l : Loading) (fault : StartFault) → rest ≡ drop i rows → rest ≡ row ∷ rest' → AreLoaded (take i rows) l → ((h : History) → IsLoading l h → IsRowRefused row i h fault) → IsLoadFault rows fault
+pub row_at_fault : (rows rest rest' : List (List ℕ)) (row : List ℕ) (i : ℕ) (l : Loading) (fault : StartFault) → rest ≡ drop i rows → rest ≡ row ∷ rest' → AreLoaded (take i rows) l → ((h : History) → IsLoading l h → IsRowRefused row (i + 1) h fault) → IsLoadFault rows fault
 row_at_fault rows rest rest' row i l fault are is loaded refused = IsLoadFault-row rows i row l fault (rest_there i rows row rest' (sym are ∙ is)) loaded refused
 
 take_short : (i : ℕ) (rows : List (List ℕ)) → drop i rows ≡ [] → take i rows ≡ rows
@@ -53,17 +55,29 @@ count_next rows rest rest' row i is count = let one = ap length is in omega (ari
 
 -- ---- the book
 
-no_refusals : (es : List Entry) (n faults : ℕ) → n ≡ length es → refusals_in (drop n es) ≤ faults
-no_refusals es n faults is =
+no_refusals : (es : List Entry) (n : ℕ) → n ≡ length es → refusals_in (drop n es) ≡ 0
+no_refusals es n is =
     let none : drop n es ≡ [] = ap (λ k. drop k es) is ∙ drop_all es in
-    subst (λ xs. refusals_in xs ≤ faults) (sym none) (omega arith)
+    ap refusals_in none
 
-pub IsBook_new : (whole : History → Type 0) (known : Option Kept) (image : Kept → Type 0) (faults n : ℕ) (h : History) → n ≡ length h.entries → whole h → IsKept no_base_encoding whole known image h → IsBook whole known image faults n h
-IsBook_new whole known image faults n h count valid kept = record {
+none_rose : (many faults : ℕ) → many ≡ 0 → RoseBy many faults faults
+none_rose many faults none = omega (arith, none)
+
+take_all : {A : Type 0} (xs : List A) → take (length xs) xs ≡ xs
+take_all [] = refl
+take_all (x ∷ xs) = ap (λ ys. x ∷ ys) (take_all xs)
+
+-- a book that is opened now over the keeper that loaded its content
+pub IsBook_new : (whole : History → Type 0) (known : Option Kept) (image : Kept → Type 0) (faults n greatest : ℕ) (h : History) → n ≡ length h.entries → greatest ≡ greatest_pass h.entries → whole h → KnowsHistory no_base_encoding known h
+    → IsBook whole known image faults known image faults n greatest h
+IsBook_new whole known image faults n greatest h count most valid knows = record {
   valid = valid;
-  kept = kept;
+  kept = record { content = knows; left = λ ready. ready h valid knows };
   count = omega (arith, count);
-  refusals = no_refusals h.entries n faults count;
+  refusals = let none = no_refusals h.entries n count in omega (arith, none);
+  rise = none_rose (refusals_in (drop n h.entries)) faults (no_refusals h.entries n count);
+  greatest_is = most ∙ ap greatest_pass (sym (ap (λ k. take k h.entries) count ∙ take_all h.entries));
+  passes = subst (AllByRecursion IsPassNumber) (sym (ap (λ k. drop k h.entries) count ∙ drop_all h.entries)) tt;
 }
 
 pub opened_all : (h : History) (n : ℕ) → n ≡ length h.entries → account_after h n ≡ h
@@ -78,10 +92,10 @@ opened_over kept k k' old content h same is after makes =
     subst (λ z. IsOpened old (kept z) h) (sym same) (record { content = content; loaded = record { content_is = is; kept = after }; makes = makes })
 
 -- why a book is not opened over a content that was loaded
-pub fault_loaded : (whole : History → Type 0) (content : Kept) (old new : Option Kept) (before now : ℕ) (fault : StartFault) → IsContent new content → IsUnknownOr (content_loaded (Ok content) old) new → IsContentFault whole content fault → IsStartFault whole old new before now fault
-fault_loaded whole content old new before now KeeperFault is after f = absurd f
-fault_loaded whole content old new before now (Damaged row why) is after f = (content, record { content_is = is; kept = after }, f)
-fault_loaded whole content old new before now NoMemory is after f = tt
+pub fault_loaded : (whole : History → Type 0) (content : Kept) (old new : Option Kept) (before now : ℕ) (fault : StartFault) → IsContent new content → IsUnknownOr (content_loaded (Ok content) old) new → now ≡ before → IsContentFault whole content fault → IsStartFault whole old new before now fault
+fault_loaded whole content old new before now KeeperFault is after same f = absurd f
+fault_loaded whole content old new before now (Damaged row why) is after same f = (same, (content, record { content_is = is; kept = after }, f))
+fault_loaded whole content old new before now NoMemory is after same f = same
 
 -- a content that was loaded is as before
 pub as_before : (content : Kept) (old new : Option Kept) → IsUnknownOr (content_loaded (Ok content) old) new → (k t : Kept) → old ≡ Some k → new ≡ Some t → t ≡ k

@@ -1,5 +1,5 @@
 -- What comes of a commit more.
-use Rattle.std.proofs.Common.{◌≡◌, ◌↔◌, ℕ, ◌+◌, List, [], ◌∷◌, ◌++◌, Option, Some, None, Result, Ok, Err, IfOk, refl, sym, ap, ◌∙◌, subst, arith}
+use Rattle.std.proofs.Common.{◌≡◌, ℕ, List, ◌++◌, Option, Result, Ok, Err, IfOk, refl, sym, ap, ◌∙◌, subst}
 use Rattle.mail_records.specs.Contents.{Content}
 use Rattle.mail_records.specs.Edits.{AllFit, after_edits}
 use Rattle.mail_records.specs.Histories.{History, Committed, blobs_of, content_of, grown}
@@ -9,7 +9,7 @@ use Rattle.blob_store.specs.Blobs.{AreBlobsFew}
 use Rattle.mail_records.specs.declared.edits.Edit.{Edit}
 use Rattle.account_book.specs.Growing.{IsGrown}
 use Rattle.account_book.specs.declared.growing.Grown.{Grown}
-use Rattle.account_book.specs.Opening.{IsLoading, IsTaken}
+use Rattle.account_book.specs.Opening.{IsTaken}
 use Rattle.account_book.specs.declared.loading.Loading.{Loading}
 use Rattle.account_book.proofs.Few.{AreBlobsFew-front}
 

@@ -1,5 +1,5 @@
 -- How an account keeps its history, and what holds of each account.
-use Rattle.std.specs.Prelude.{◌≡◌, ◌↔◌, ℕ, ◌≤◌, ◌+◌, ◌^◌, Bool, IsTrue, true, false, not, if◌then◌else◌, List, [], ◌∷◌, take, drop, filter, length, map}
+use Rattle.std.specs.Prelude.{◌≡◌, ◌↔◌, ℕ, ◌≤◌, Bool, IsTrue, true, false, not, if◌then◌else◌, List, [], ◌∷◌, take, drop, filter, length, map}
 use Rattle.mail_records.specs.Contents.{Content, NextAtMost}
 use Rattle.mail_records.specs.Edits.{AllFit, AllKeepThread}
 use Rattle.mail_records.specs.Histories.{History, Entry, Committed, Refused, IsFounded, is_refused, edits_of, content_of, blobs_of, end_of, max_position}

@@ -1,17 +1,20 @@
 -- What contracts see of a book, and what holds of each.
-use Rattle.std.specs.Prelude.{◌≡◌, ℕ, ◌≤◌, Bool, true, false, List, drop, filter, length, Option, Result, Ok, Err}
+use Rattle.std.specs.Prelude.{◌≡◌, ℕ, ◌+◌, ◌-◌, ◌^◌, ◌≤◌, min, Bool, true, false, List, drop, filter, length, take, Option, Result, Ok, Err}
+use Rattle.std.specs.List.{AllByRecursion}
 use Rattle.jm_edge.specs.Causes.{Rose}
 use Rattle.keep_port.specs.declared.kept.Kept.{Kept}
 use Rattle.mail_records.specs.Histories.{History, Entry, Committed, Refused, grown, is_refused}
 use Rattle.mail_records.specs.declared.edits.Commit.{Commit}
 use Rattle.account_book.specs.Keeping.{IsKept, no_base_encoding}
+use Rattle.account_book.specs.Passes.{IsPassNumber, greatest_pass}
 
 -- A book: its rules, its keeper, and its account's history. `opened` is the history that the book
 -- was opened with, which has `before` entries, and `since` has the entries since. So the history is
--- `opened` grown by `since`.
+-- `opened` grown by `since`. `opened_over` is the keeper as it was then, once it was loaded.
 pub record BookView (K R : Type 0) : Type 0 where
   pub rules : R
   pub keeper : K
+  pub opened_over : K
   pub history : History
   pub opened : History
   pub before : ℕ
@@ -21,14 +24,25 @@ pub record BookView (K R : Type 0) : Type 0 where
 abbrev pub refusals_in : List Entry → ℕ
 refusals_in entries = length (filter is_refused entries)
 
--- The account is valid, the keeper keeps its history, and the refusals since it was opened
--- are at most the faults of the keeper's `append`.
-pub record IsBook (whole : History → Type 0) (known : Option Kept) (image : Kept
-    → Type 0) (faults before : ℕ) (h : History) : Type 0 where
+-- a count of faults rose by as many at least, or is at the end of its 64 bits
+abbrev pub RoseBy : ℕ → ℕ → ℕ → Type 0
+RoseBy many before now = min (before + many) (2 ^ 64 - 1) ≤ now
+
+-- The account is valid, and the keeper keeps its history. The refusals since it was opened are at
+-- most the faults of the keeper's `append`, which rose by as many since. `greatest` is the greatest
+-- pass of the entries that it was opened with. Each pass since is a number of 64 bits. What ends in
+-- `then` is what the keeper knew, what a crash might leave of it, and its faults, when the account
+-- was opened.
+pub record IsBook (whole : History → Type 0) (known_then : Option Kept) (image_then : Kept
+    → Type 0) (faults_then : ℕ) (known : Option Kept) (image : Kept → Type 0)
+    (faults before greatest : ℕ) (h : History) : Type 0 where
   pub valid : whole h
-  pub kept : IsKept no_base_encoding whole known image h
+  pub kept : IsKept no_base_encoding whole known_then image_then known image h
   pub count : before ≤ length h.entries
   pub refusals : refusals_in (drop before h.entries) ≤ faults
+  pub rise : RoseBy (refusals_in (drop before h.entries)) faults_then faults
+  pub greatest_is : greatest ≡ greatest_pass (take before h.entries)
+  pub passes : AllByRecursion IsPassNumber (drop before h.entries)
 
 -- what a commit makes of the history: it is entered where it was kept (true), the mark of a refusal
 -- is where the keeper refused it (false), and nothing is if memory ran out

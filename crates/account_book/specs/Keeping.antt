@@ -42,20 +42,33 @@ abbrev pub LeavesHistory : (List ℕ → History → Type 0) → (History → Ty
 LeavesHistory encodes whole image h =
     (k : Kept) → image k → KeepsHistory encodes k h ⊎ IsOneMore encodes whole k h
 
--- If a keeper knows its content, that keeps the history, and a crash leaves each commit of the
--- history, complete and in order, and at most one commit more.
-abbrev pub IsKept : (List ℕ → History → Type 0) → (History → Type 0) → Option Kept
-    → (Kept → Type 0) → History → Type 0
-IsKept encodes whole known image h =
-    (k : Kept) → known ≡ Some k → KeepsHistory encodes k h × LeavesHistory encodes whole image h
+-- if a keeper knows its content, that keeps the history
+abbrev pub KnowsHistory : (List ℕ → History → Type 0) → Option Kept → History → Type 0
+KnowsHistory encodes known h = (k : Kept) → known ≡ Some k → KeepsHistory encodes k h
 
--- What is asked of a keeper before an account is opened over it: whatever valid history its content
--- keeps, a crash leaves that, or that with one commit more. A keeper that knows its content is
--- ready if a crash leaves nothing else, as after an `append` or a `replace` that returned Ok, or if
--- a book returned it. One that doesn't know its content is ready only if it promises nothing of a
+-- a crash leaves the history and nothing else, if the keeper knew its content before
+abbrev pub LeavesOnly : (List ℕ → History → Type 0) → Option Kept → (Kept → Type 0) → History
+    → Type 0
+LeavesOnly encodes known image h =
+    (k left : Kept) → known ≡ Some k → image left → KeepsHistory encodes left h
+
+-- A keeper is ready: whatever valid history it may keep, a crash leaves that, or that with one
+-- commit more. If the keeper knows its content, the histories are those that its content keeps. So
+-- it is ready if a crash leaves nothing but its content, as after an `append` or a `replace` that
+-- returned Ok, or if a book returned it with a known content. If the keeper doesn't know its
+-- content, the histories are all valid ones. So it is ready then only if it promises nothing of a
 -- crash.
 abbrev pub IsReady : (List ℕ → History → Type 0) → (History → Type 0) → Option Kept
     → (Kept → Type 0) → Type 0
 IsReady encodes whole known image =
-    (h : History) → whole h → ((k : Kept) → known ≡ Some k → KeepsHistory encodes k h)
-    → LeavesHistory encodes whole image h
+    (h : History) → whole h → KnowsHistory encodes known h → LeavesHistory encodes whole image h
+
+-- What holds of a keeper, which was as `then` says when its content was loaded, and the history
+-- that the content has become. If the keeper knows its content, that keeps the history. If the
+-- keeper was ready then, a crash leaves each commit of the history, complete and in order, and at
+-- most one commit more, whether or not the keeper knows its content now.
+pub record IsKept (encodes : List ℕ → History → Type 0) (whole : History → Type 0)
+    (known_then : Option Kept) (image_then : Kept → Type 0) (known : Option Kept)
+    (image : Kept → Type 0) (h : History) : Type 0 where
+  pub content : KnowsHistory encodes known h
+  pub left : IsReady encodes whole known_then image_then → LeavesHistory encodes whole image h

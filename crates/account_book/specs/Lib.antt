@@ -3,9 +3,8 @@ pub mod Replies
 pub mod Plans
 pub mod Accounts
 pub mod Keeping
+pub mod Passes
 pub mod Growing
 pub mod Opening
 pub mod Books
 pub mod Laws
-pub mod TestRules
-pub mod TestRulesLaws

@@ -1,8 +1,7 @@
 -- How the rows of a keeper make a history, and which of them is at fault.
-use Rattle.std.specs.Prelude.{◌≡◌, ℕ, ◌+◌, List, take, map, length, Result, Ok, Option, Some, None, ◌⊎◌, MatchOption, slice_get, ⊤}
+use Rattle.std.specs.Prelude.{◌≡◌, ℕ, ◌+◌, List, take, map, length, Ok, Option, Some, None, ◌⊎◌, MatchOption, slice_get, ⊤}
 use Rattle.blob_store.specs.Blobs.{AreBlobsFew}
 use Rattle.jm_edge.specs.Causes.{Rose}
-use Rattle.jm_edge.specs.declared.fault.EdgeFault.{EdgeFault}
 use Rattle.keep_port.specs.Keeping.{IsContent, IsUnknownOr, content_loaded}
 use Rattle.keep_port.specs.declared.kept.Kept.{Kept}
 use Rattle.mail_records.specs.Contents.{empty_content}
@@ -10,7 +9,7 @@ use Rattle.mail_records.specs.Edits.{AllFit}
 use Rattle.mail_records.specs.Histories.{History, Committed, blobs_of, content_of, edits_of, empty_history, grown}
 use Rattle.mail_records.specs.declared.edits.Commit.{Commit}
 use Rattle.record_codec.specs.Offsets.{IsEncodingOf, IsFaultOffset}
-use Rattle.account_book.specs.Keeping.{AreEncodings}
+use Rattle.account_book.specs.Keeping.{AreEncodings, IsReady}
 use Rattle.account_book.specs.declared.faults.Reason.{Reason}
 use Rattle.account_book.specs.declared.faults.Reason.TheVariants.{NotACommit, DoesNotFit, NotWhole}
 use Rattle.account_book.specs.declared.faults.StartFault.{StartFault}
@@ -35,29 +34,33 @@ IsRowFault bytes h DoesNotFit = (c : Commit) × IsEncodingOf bytes c
     × (¬ AllFit (content_of h) c.edits)
 IsRowFault bytes h NotWhole = ⊥
 
--- the row of this index is the first that is at fault: those before it are commits that fit
+-- This row, counted from 1, is the first that is at fault: those before it are commits that fit.
 pub record IsFirstFault (rows : List (List ℕ)) (row : ℕ) (why : Reason) : Type 0 where
+  pub index : ℕ
+  pub row_is : row ≡ index + 1
   pub commits : List Commit
-  pub before : AreTaken (take row rows) commits
+  pub before : AreTaken (take index rows) commits
   pub bytes : List ℕ
-  pub there : slice_get rows row ≡ Some bytes
+  pub there : slice_get rows index ≡ Some bytes
   pub fault : IsRowFault bytes (history_of_commits commits) why
 
--- all rows are commits that fit, but the account is not valid: the last row is named
+-- All rows are commits that fit, but the account is not valid. The last row is named, counted from
+-- 1.
 pub record IsNotWhole (whole : History → Type 0) (rows : List (List ℕ)) (row : ℕ)
     (why : Reason) : Type 0 where
   pub commits : List Commit
   pub all : AreTaken rows commits
   pub invalid : ¬ whole (history_of_commits commits)
-  pub last : row + 1 ≡ length rows
+  pub last : row ≡ length rows
   pub reason : why ≡ NotWhole
 
--- a base is a fault of row 0, which is no commit from its first byte on
+-- a base is row 0, and at fault: it is no commit from its first byte on
 abbrev pub AreDamaged : (History → Type 0) → Option (List ℕ) → List (List ℕ) → ℕ → Reason → Type 0
 AreDamaged whole (Some base) rows row why = (row ≡ 0) × (why ≡ NotACommit 0)
 AreDamaged whole None rows row why = IsFirstFault rows row why ⊎ IsNotWhole whole rows row why
 
--- A content is damaged at this row, counted from 0, for this reason.
+-- A content is damaged at this row, for this reason. A base is row 0, and the rows are counted from
+-- 1.
 abbrev pub IsDamaged : (History → Type 0) → Kept → ℕ → Reason → Type 0
 IsDamaged whole k row why = AreDamaged whole k.base k.rows row why
 
@@ -80,18 +83,30 @@ pub record IsOpened (old new : Option Kept) (h : History) : Type 0 where
   pub loaded : WasLoaded content old new
   pub makes : MakesHistory content h
 
+-- a crash leaves nothing but what it might have left before, or what the content is
+abbrev pub IsLeftBefore : (Kept → Type 0) → Option Kept → (Kept → Type 0) → Type 0
+IsLeftBefore old known new = (k : Kept) → new k → old k ⊎ (known ≡ Some k)
+
+-- A keeper that was ready is so once it is loaded, unless it lost its knowledge of its content.
+abbrev pub IsReadyLoaded : (List ℕ → History → Type 0) → (History → Type 0) → Option Kept
+    → (Kept → Type 0) → Option Kept → (Kept → Type 0) → Type 0
+IsReadyLoaded encodes whole known image loaded image_loaded =
+    IsReady encodes whole known image → (loaded ≡ None → known ≡ None)
+    → IsReady encodes whole loaded image_loaded
+
 -- a known content is the same afterwards, or unknown
 abbrev pub IsAsBefore : Option Kept → Option Kept → Type 0
 IsAsBefore old new = (k t : Kept) → old ≡ Some k → new ≡ Some t → t ≡ k
 
--- Why a book is not opened: the keeper's count of faults of `load` rose; or the content that was
--- loaded is damaged at this row; or memory ran out.
+-- Why a book is not opened: the keeper's count of faults of `load` rose; or, with no fault of
+-- `load`, the content that was loaded is damaged at this row, or memory ran out.
 abbrev pub IsStartFault : (History → Type 0) → Option Kept → Option Kept → ℕ → ℕ → StartFault
     → Type 0
 IsStartFault whole old new before now KeeperFault = Rose before now
 IsStartFault whole old new before now (Damaged row why) =
-    (content : Kept) × WasLoaded content old new × IsDamaged whole content row why
-IsStartFault whole old new before now NoMemory = ⊤
+    (now ≡ before) × ((content : Kept) × WasLoaded content old new
+    × IsDamaged whole content row why)
+IsStartFault whole old new before now NoMemory = now ≡ before
 
 -- ---- one row after the other
 
@@ -114,14 +129,14 @@ pub record TakesRow (bytes : List ℕ) (h : History) (next : Loading) : Type 0 w
   pub fits : AllFit (content_of h) commit.edits
   pub is : IsLoading next (grown h (Committed commit))
 
--- why the commit of the row of this index is not taken
+-- why the commit of this row is not taken
 abbrev pub IsCommitRefused : Commit → ℕ → History → StartFault → Type 0
 IsCommitRefused commit row h KeeperFault = ⊥
 IsCommitRefused commit row h (Damaged r why) =
     (r ≡ row) × (why ≡ DoesNotFit) × (¬ AllFit (content_of h) commit.edits)
 IsCommitRefused commit row h NoMemory = ⊤
 
--- why the row of this index is not taken
+-- why this row is not taken
 abbrev pub IsRowRefused : List ℕ → ℕ → History → StartFault → Type 0
 IsRowRefused bytes row h KeeperFault = ⊥
 IsRowRefused bytes row h (Damaged r why) = (r ≡ row) × IsRowFault bytes h why

@@ -268,10 +268,22 @@ impl Account {
         } = commit;
         let end = log.end();
         let count = more.len() as u64;
-        let grown = grow(alloc, content, end, edits.as_slice(), blobs, more)?;
+        let grown = match grow(alloc, content, end, edits.as_slice(), blobs, more) {
+            Ok(grown) => grown,
+            Err(fault) => {
+                let_go(base, log, entries, edits);
+                return Err(fault);
+            }
+        };
         match grown {
-            Grown::Misfit => Ok(None),
-            Grown::Overfull(content) => Ok(Some(Loading::Overfull(content))),
+            Grown::Misfit => {
+                let_go(base, log, entries, edits);
+                Ok(None)
+            }
+            Grown::Overfull(content) => {
+                let_go(base, log, entries, edits);
+                Ok(Some(Loading::Overfull(content)))
+            }
             Grown::Fitting(applied, blobs) => {
                 let entry = Entry {
                     stamp,
@@ -291,6 +303,14 @@ impl Account {
             }
         }
     }
+}
+
+// Lets go of what an account holds besides its content and its blobs, and of edits.
+fn let_go(base: Content, log: Log, entries: Vec<Entry>, edits: Edits) {
+    drop(base);
+    drop(log);
+    drop(entries);
+    drop(edits);
 }
 
 // The account of what it holds.

@@ -3,44 +3,56 @@ ghost use Rattle.std.specs.Prelude.{◌≡◌, ◌≤◌, ◌+◌, ◌++◌, ◌
 ghost use Rattle.std.specs.List.{AllByRecursion};
 ghost use Rattle.blob_store.specs.Blobs.{AreBlobsFew};
 ghost use Rattle.jm_edge.specs.Causes.{Rose};
+ghost use Rattle.keep_port.specs.Keeping.{IsContent};
 ghost use Rattle.keep_port.specs.declared.kept.Kept.{Kept as TheKept};
 ghost use Rattle.mail_records.specs.Commits.{IsFormed};
 ghost use Rattle.mail_records.specs.Edits.{AllFit, IsSmall};
 ghost use Rattle.mail_records.specs.Histories.{Committed, History, IsSound, Refused, account_after, blobs_of, content_of, edits_of, grown, grown_by};
+ghost use Rattle.mail_records.specs.declared.edits.Commit.{Commit as TheCommit};
 ghost use Rattle.mail_records.specs.declared.edits.Stamp.{Stamp as TheStamp};
 ghost use Rattle.record_codec.specs.Sizes.{edit_bytes};
 ghost use Rattle.account_book.specs.Accounts.{IsBounded};
-ghost use Rattle.account_book.specs.Books.{IsEntered, IsFaultCounted, refusals_in};
-ghost use Rattle.account_book.specs.Keeping.{IsKept, IsReady, no_base_encoding};
-ghost use Rattle.account_book.specs.Opening.{IsAsBefore, IsContentFault, IsOpened, IsStartFault, MakesHistory};
+ghost use Rattle.account_book.specs.Books.{IsEntered, IsFaultCounted, RoseBy, refusals_in};
+ghost use Rattle.account_book.specs.Keeping.{IsKept, IsReady, LeavesOnly, no_base_encoding};
+ghost use Rattle.account_book.specs.Opening.{IsAsBefore, IsContentFault, IsLeftBefore, IsOpened, IsReadyLoaded, IsStartFault, MakesHistory};
+ghost use Rattle.account_book.specs.Passes.{greatest_pass, named_since, numbered_since, pass_from};
 ghost use Rattle.account_book.specs.Plans.{last_moment};
 ghost use Rattle.account_book.specs.Replies.{IsReply, IsWithin, NoneRefused, commit_of};
 
 use crate::commits::keep_commit;
+use crate::passes::find_greatest_pass;
 use crate::plans::refusal;
 use crate::start::load_content;
 use crate::{Account, Call, Done, Out, Plan, Rules, StartFault};
+use account_lock::AccountView;
 use jm_base::NoMemory;
 use jm_edge::EdgeFault;
 use keep_port::{Keeper, Kept};
 use mail_records::{Commit, Stamp};
 use std::alloc::Global;
 use std::marker::Model;
+use std::snapshot::Snapshot;
 
 /// The book of an account, which performs its calls by rules and keeps what they change. Contracts
 /// see the rules, the keeper, the account's history, and of it what the book was opened with and
 /// the entries since.
 ///
-/// The account is always valid by the rules. If the keeper knows its content, whatever a crash
-/// leaves of it holds every commit of the account, complete and in order, and at most one commit
-/// more, with which the account is valid too ([`Book::keeps`]).
+/// The account is always valid by the rules. If the keeper was ready when the book was opened,
+/// whatever a crash leaves of it holds every commit of the account, complete and in order, and at
+/// most one commit more, with which the account is valid too ([`Book::keeps`]). Whoever was told of
+/// a change can rely on it: right after a commit is entered, a crash leaves the account and nothing
+/// more ([`Book::perform`]).
 #[derive(Drop)]
 pub struct Book<K: Keeper, R: Rules> {
     rules: R,
     keeper: K,
+    // The keeper as it was once it was loaded. Only contracts see it.
+    opened_over: Snapshot<K>,
     account: Account,
     // How many entries the account had when the book was opened.
     before: u64,
+    // The greatest pass of those entries.
+    greatest: u64,
 }
 
 impl<K: Keeper, R: Rules> Model for Book<K, R> {
@@ -53,14 +65,27 @@ impl<K: Keeper, R: Rules> Model for Book<K, R> {
     ghost view = { λ b. record {
       rules = b.rules;
       keeper = b.keeper;
+      opened_over = b.opened_over.value;
       history = b.account.history;
       opened = account_after b.account.history b.before;
       before = b.before;
       since = drop b.before b.account.history.entries;
     } };
 
-    ghost invariant = { λ b. IsBook (R.is_whole b.rules) (K.kept b.keeper) (K.image b.keeper)
-        (K.append_faults b.keeper) b.before b.account.history };
+    ghost invariant = { λ b. IsBook (R.is_whole b.rules) (K.kept b.opened_over.value)
+        (K.image b.opened_over.value) (K.append_faults b.opened_over.value)
+        (K.kept b.keeper) (K.image b.keeper) (K.append_faults b.keeper) b.before b.greatest
+        b.account.history };
+}
+
+impl<K: Keeper, R: Rules> AccountView for Book<K, R> {
+    ghost use Rattle.account_book.specs.Passes.{numbered_since};
+
+    ghost entries = { λ b. numbered_since b.opened b.since };
+
+    ghost before = { λ b. b.before };
+
+    ghost opening = { λ b. b.opened };
 }
 
 // The answer to a change, by whether it was kept.
@@ -71,26 +96,34 @@ fn answer_of(kept: bool, out: Out, refused: Out) -> Out
 }
 
 impl<K: Keeper, R: Rules> Book<K, R> {
-    /// Opens an account over its keeper, which is loaded once. Requires that a crash would leave
-    /// nothing but what the keeper's content is, or that with one commit more (`ready`).
+    /// Opens an account over its keeper, which is loaded once and never written.
     ///
     /// Fails with `KeeperFault` only if the keeper's count of faults of `load` rose, and with
     /// `Damaged` if and only if what was loaded is no valid account: the row is the first one,
-    /// counted from 0, that is no commit or doesn't fit; if there is none, the last row. Fails with
-    /// `NoMemory` if memory runs out. The keeper comes back with what it keeps.
+    /// counted from 1, that is no commit or doesn't fit; if there is none, the last row. A base
+    /// would be row 0. Fails with `NoMemory` if memory runs out. The keeper comes back with what it
+    /// keeps.
+    ///
+    /// What the book promises of a crash, it promises if the keeper is ready once it is loaded. So
+    /// it is if it was ready before, and did not lose its knowledge of its content (`ready`).
     pub fn start(alloc: Global, mut keeper: K, rules: R) -> Result<Book<K, R>, (StartFault, K)>
-        requires ready { IsReady no_base_encoding (R.is_whole rules) (K.kept keeper)
-            (K.image keeper) }
         ensures rules { IfOk result (λ b. b.rules ≡ rules) }
         ensures opened { IfOk result (λ b. IsOpened (K.kept keeper) (K.kept b.keeper) b.history) }
+        ensures opened_over { IfOk result (λ b. b.opened_over ≡ b.keeper) }
+        ensures ready { IfOk result (λ b. IsReadyLoaded no_base_encoding (R.is_whole rules)
+            (K.kept keeper) (K.image keeper) (K.kept b.keeper) (K.image b.keeper)) }
+        ensures left { IfOk result (λ b. IsLeftBefore (K.image keeper) (K.kept b.keeper)
+            (K.image b.keeper)) }
         ensures all { IfOk result (λ b. b.opened ≡ b.history) }
         ensures since { IfOk result (λ b. b.since ≡ []) }
-        ensures appends { IfOk result (λ b. K.append_faults b.keeper ≡ K.append_faults keeper) }
+        ensures no_faults { IfOk result (λ b. (K.load_faults b.keeper ≡ K.load_faults keeper)
+            × (K.append_faults b.keeper ≡ K.append_faults keeper)
+            × (K.replace_faults b.keeper ≡ K.replace_faults keeper)) }
         ensures cause { IfErr result (λ e. IsStartFault (R.is_whole rules) (K.kept keeper)
             (K.kept e.1) (K.load_faults keeper) (K.load_faults e.1) e.0) }
         ensures same { IfErr result (λ e. IsAsBefore (K.kept keeper) (K.kept e.1)) }
-        ensures image { IfErr result (λ e. (k : TheKept) → K.image e.1 k → K.image keeper k
-            ⊎ (K.kept e.1 ≡ Some k)) }
+        ensures image { IfErr result (λ e. IsLeftBefore (K.image keeper) (K.kept e.1)
+            (K.image e.1)) }
         ensures counts { IfErr result (λ e. (K.append_faults e.1 ≡ K.append_faults keeper)
             × (K.replace_faults e.1 ≡ K.replace_faults keeper)) }
     {
@@ -108,10 +141,10 @@ impl<K: Keeper, R: Rules> Book<K, R> {
         rules: R,
         content: Kept,
     ) -> Result<Book<K, R>, (StartFault, K)>
-        requires kept { (h : History) → R.is_whole rules h → MakesHistory content h
-            → IsKept no_base_encoding (R.is_whole rules) (K.kept keeper) (K.image keeper) h }
+        requires known { IsContent (K.kept keeper) content }
         ensures rules { IfOk result (λ b. b.rules ≡ rules) }
         ensures keeper { IfOk result (λ b. b.keeper ≡ keeper) }
+        ensures opened_over { IfOk result (λ b. b.opened_over ≡ keeper) }
         ensures makes { IfOk result (λ b. MakesHistory content b.history) }
         ensures all { IfOk result (λ b. b.opened ≡ b.history) }
         ensures since { IfOk result (λ b. b.since ≡ []) }
@@ -121,11 +154,14 @@ impl<K: Keeper, R: Rules> Book<K, R> {
         match load_content(alloc, &rules, content) {
             Ok(account) => {
                 let before = account.count();
+                let greatest = find_greatest_pass(&account);
                 let book = Book {
                     rules,
+                    opened_over: Snapshot::of(&keeper),
                     keeper,
                     account,
                     before,
+                    greatest,
                 };
                 Ok(book)
             }
@@ -134,16 +170,20 @@ impl<K: Keeper, R: Rules> Book<K, R> {
     }
 
     /// Closes the book, and returns its keeper, which keeps the account's history. The refusals
-    /// since the book was opened are at most the faults of its `append`. If the keeper knows its
-    /// content, a book can be opened over it again.
+    /// since the book was opened are at most the faults of its `append`, which rose by as many
+    /// since. If the keeper was ready when the book was opened and knows its content now, it is
+    /// ready again.
     pub fn end(self) -> K
         ensures keeper { result ≡ self.keeper }
         ensures valid { R.is_whole self.rules self.history }
-        ensures kept { IsKept no_base_encoding (R.is_whole self.rules) (K.kept result)
-            (K.image result) self.history }
-        ensures ready { (k : TheKept) → K.kept result ≡ Some k
+        ensures kept { IsKept no_base_encoding (R.is_whole self.rules) (K.kept self.opened_over)
+            (K.image self.opened_over) (K.kept result) (K.image result) self.history }
+        ensures ready { IsReady no_base_encoding (R.is_whole self.rules) (K.kept self.opened_over)
+            (K.image self.opened_over) → (k : TheKept) → K.kept result ≡ Some k
             → IsReady no_base_encoding (R.is_whole self.rules) (K.kept result) (K.image result) }
         ensures refusals { refusals_in self.since ≤ K.append_faults result }
+        ensures rise { RoseBy (refusals_in self.since) (K.append_faults self.opened_over)
+            (K.append_faults result) }
     {
         let Book { keeper, .. } = self;
         keeper
@@ -152,13 +192,26 @@ impl<K: Keeper, R: Rules> Book<K, R> {
     /// Does nothing. Its clauses say what holds of each book.
     pub fn keeps(&self)
         ensures valid { R.is_whole self.now.rules self.now.history }
-        ensures kept { IsKept no_base_encoding (R.is_whole self.now.rules) (K.kept self.now.keeper)
+        ensures kept { IsKept no_base_encoding (R.is_whole self.now.rules)
+            (K.kept self.now.opened_over) (K.image self.now.opened_over) (K.kept self.now.keeper)
             (K.image self.now.keeper) self.now.history }
         ensures parts { self.now.history ≡ grown_by self.now.opened self.now.since }
         ensures before { self.now.before ≡ length self.now.opened.entries }
+        ensures passes { named_since self.now.opened (numbered_since self.now.opened
+            self.now.since) ≡ self.now.since }
         ensures refusals { refusals_in self.now.since ≤ K.append_faults self.now.keeper }
+        ensures rise { RoseBy (refusals_in self.now.since) (K.append_faults
+            self.now.opened_over) (K.append_faults self.now.keeper) }
     {
-        let _keeper = &self.keeper;
+        let _greatest = self.greatest;
+    }
+
+    /// Returns the pass for the stamps of whoever shares the book under this number: the number
+    /// counted from the greatest pass of the entries that the book was opened with.
+    pub fn pass_of(&self, number: u64) -> u64
+        ensures { result ≡ pass_from (greatest_pass self.now.opened.entries) number }
+    {
+        self.greatest.wrapping_add(number)
     }
 
     /// Lends the account, which is valid.
@@ -176,9 +229,13 @@ impl<K: Keeper, R: Rules> Book<K, R> {
     /// `serverUnavailable`. A plan that changes something and is within the limit is kept first, as
     /// a commit under the stamp, and then entered. If the keeper refuses it, the call is answered
     /// with `serverFail`, or an upload with `Failed`: the mark of a refusal is then entered under
-    /// the stamp, and content and states are as before. The history grows by nothing else. If
-    /// memory runs out, the history stays as it was; what was to be kept may then still be there
-    /// after a crash, as one commit more.
+    /// the stamp, and content and states are as before. The history grows by nothing else.
+    ///
+    /// If a commit is entered and the keeper knew its content, a crash now leaves the account and
+    /// nothing more. If the keeper refused the commit, or memory ran out, the commit may still be
+    /// there after a crash, as one more than those of the account. If memory runs out, the history
+    /// stays as it was. A call that enters nothing leaves the keeper alone, and the count of faults
+    /// of `append` rises only with a refusal that is entered.
     #[tactic(auto, using(crate::proofs::Parts::since_idle, crate::proofs::Parts::cause_idle))]
     pub fn perform(
         &mut self,
@@ -190,6 +247,7 @@ impl<K: Keeper, R: Rules> Book<K, R> {
         requires moment { moment ≤ last_moment }
         ensures rules { self.new.rules ≡ self.old.rules }
         ensures opened { self.new.opened ≡ self.old.opened }
+        ensures opened_over { self.new.opened_over ≡ self.old.opened_over }
         ensures reply { IfOk result (λ done. (account : ℕ)
             → IsReply (R.plan_of self.old.rules) edit_bytes self.new.history
             (record {
@@ -208,7 +266,19 @@ impl<K: Keeper, R: Rules> Book<K, R> {
             ⊎ Rose (K.append_faults self.old.keeper) (K.append_faults self.new.keeper)) }
         ensures cause { self.new.history ≡ grown self.old.history (Refused stamp)
             → Rose (K.append_faults self.old.keeper) (K.append_faults self.new.keeper) }
+        ensures settled { (c : TheCommit) → self.new.history ≡ grown self.old.history (Committed c)
+            → LeavesOnly no_base_encoding (K.kept self.old.keeper) (K.image self.new.keeper)
+            self.new.history }
+        ensures load_count { K.load_faults self.new.keeper ≡ K.load_faults self.old.keeper }
+        ensures replace_count { K.replace_faults self.new.keeper
+            ≡ K.replace_faults self.old.keeper }
+        ensures untouched { IfOk result (λ _. self.new.history ≡ self.old.history
+            → self.new.keeper ≡ self.old.keeper) }
+        ensures append_count { IfOk result (λ _. NoneRefused self.old.history self.new.history
+            → K.append_faults self.new.keeper ≡ K.append_faults self.old.keeper) }
         ensures no_memory { OnErr result (self.new.history ≡ self.old.history) }
+        ensures no_fault { OnErr result (K.append_faults self.new.keeper
+            ≡ K.append_faults self.old.keeper) }
     {
         let before = self.account.count();
         let plan = self.planned(alloc, call, moment)?;
@@ -276,13 +346,21 @@ impl<K: Keeper, R: Rules> Book<K, R> {
         requires sound { IsSound (grown self.old.history (Committed commit)) }
         requires keeps { R.is_whole self.old.rules (grown self.old.history (Committed commit)) }
         ensures rules { self.new.rules ≡ self.old.rules }
+        ensures opened_over { self.new.opened_over ≡ self.old.opened_over }
         ensures entered { IsEntered result self.old.history self.new.history commit }
         ensures opened { self.new.opened ≡ self.old.opened }
         ensures since { self.new.since ≡ self.old.since ++ drop
             (length self.old.history.entries) self.new.history.entries }
         ensures cause { IsFaultCounted result (K.append_faults self.old.keeper)
             (K.append_faults self.new.keeper) }
+        ensures settled { (c : TheCommit) → self.new.history ≡ grown self.old.history (Committed c)
+            → LeavesOnly no_base_encoding (K.kept self.old.keeper) (K.image self.new.keeper)
+            self.new.history }
+        ensures load_count { K.load_faults self.new.keeper ≡ K.load_faults self.old.keeper }
+        ensures replace_count { K.replace_faults self.new.keeper
+            ≡ K.replace_faults self.old.keeper }
     {
+        let _pass = commit.stamp.pass;
         let kept = keep_commit(
             alloc,
             &mut self.keeper,

@@ -5,9 +5,10 @@ ghost use Rattle.blob_store.specs.Blobs.{AreBlobsFew};
 ghost use Rattle.mail_records.specs.Commits.{IsFormed};
 ghost use Rattle.mail_records.specs.Edits.{AllFit, IsSmall};
 ghost use Rattle.mail_records.specs.Histories.{Committed, IsSound, blobs_of, content_of, edits_of, grown};
+ghost use Rattle.mail_records.specs.declared.edits.Commit.{Commit as TheCommit};
 ghost use Rattle.record_codec.specs.Sizes.{edit_bytes};
 ghost use Rattle.account_book.specs.Accounts.{IsBounded};
-ghost use Rattle.account_book.specs.Keeping.{IsKept, no_base_encoding};
+ghost use Rattle.account_book.specs.Keeping.{KnowsHistory, LeavesHistory, LeavesOnly, no_base_encoding};
 ghost use Rattle.account_book.specs.Books.{IsEntered, IsFaultCounted};
 ghost use Rattle.account_book.specs.Replies.{IsWithin};
 
@@ -21,7 +22,7 @@ use std::alloc::Global;
 
 /// Appends a commit to a keeper, and enters it in the account if the keeper takes it. If the keeper
 /// refuses it, the mark of that is entered. With the commit the edits take so many bytes. All
-/// memory is taken before the keeper is asked; the encoded commit is given back.
+/// memory is taken before the keeper is asked; that of the encoded commit is freed.
 pub(crate) fn keep_commit<K: Keeper, R: Rules>(
     alloc: Global,
     keeper: &mut K,
@@ -40,12 +41,16 @@ pub(crate) fn keep_commit<K: Keeper, R: Rules>(
     requires sound { IsSound (grown account.old.history (Committed commit)) }
     requires valid { R.is_whole rules.now account.old.history }
     requires keeps { R.is_whole rules.now (grown account.old.history (Committed commit)) }
-    requires kept { IsKept no_base_encoding (R.is_whole rules.now) (K.kept keeper.old)
-        (K.image keeper.old) account.old.history }
+    requires content { KnowsHistory no_base_encoding (K.kept keeper.old) account.old.history }
     ensures entered { IsEntered result account.old.history account.new.history commit }
     ensures valid { R.is_whole rules.now account.new.history }
-    ensures kept { IsKept no_base_encoding (R.is_whole rules.now) (K.kept keeper.new)
+    ensures content { KnowsHistory no_base_encoding (K.kept keeper.new) account.new.history }
+    ensures left { LeavesHistory no_base_encoding (R.is_whole rules.now) (K.image keeper.old)
+        account.old.history → LeavesHistory no_base_encoding (R.is_whole rules.now)
         (K.image keeper.new) account.new.history }
+    ensures settled { (c : TheCommit) → account.new.history ≡ grown account.old.history
+        (Committed c) → LeavesOnly no_base_encoding (K.kept keeper.old) (K.image keeper.new)
+        account.new.history }
     ensures cause { IsFaultCounted result (K.append_faults keeper.old)
         (K.append_faults keeper.new) }
     ensures load_count { K.load_faults keeper.new ≡ K.load_faults keeper.old }

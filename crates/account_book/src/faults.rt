@@ -17,8 +17,8 @@ pub enum Reason {
 pub enum StartFault {
     /// The keeper could not load what it keeps.
     KeeperFault,
-    /// What is kept is damaged. The row, counted from 0, is the first one at fault. It is the last
-    /// row where only the account that all rows make is at fault.
+    /// What is kept is damaged. A base is row 0, and the rows are counted from 1. The row is the
+    /// first one at fault. If only the account that all rows make is at fault, it is the last row.
     Damaged { row: u64, reason: Reason },
     /// Memory ran out.
     NoMemory,

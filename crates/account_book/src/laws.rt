@@ -6,9 +6,10 @@ ghost use Rattle.mail_records.specs.States.{state_at, state_of};
 ghost use Rattle.mail_records.specs.declared.edits.Edit.{Edit};
 ghost use Rattle.mail_records.specs.declared.edits.Stamp.{Stamp};
 ghost use Rattle.jm_base.specs.declared.identifiers.Kind.{Kind};
+ghost use Rattle.keep_port.specs.Keeping.{LeavesContent};
 ghost use Rattle.keep_port.specs.declared.kept.Kept.{Kept};
 ghost use Rattle.account_book.specs.Accounts.{without_refusals};
-ghost use Rattle.account_book.specs.Keeping.{IsOneMore, KeepsHistory, no_base_encoding};
+ghost use Rattle.account_book.specs.Keeping.{IsOneMore, IsReady, KeepsHistory, no_base_encoding};
 ghost use Rattle.account_book.specs.Opening.{IsDamaged, MakesHistory};
 ghost use Rattle.account_book.specs.Replies.{IsReply};
 ghost use Rattle.account_book.specs.declared.faults.Reason.{Reason};
@@ -18,6 +19,7 @@ ghost use Rattle.account_book.specs.declared.plans.Plan.{Plan};
 ghost use Rattle.account_book.specs.declared.plans.Point.{Point};
 
 use crate::Rules;
+use keep_port::Keeper;
 
 /// What was the reply to a call at a point of a history is so at the same point of each history
 /// that the history grows to.
@@ -59,5 +61,16 @@ pub fn kept_accounts_open_again<R: Rules>(rules: &R)
     ensures same { (k : Kept) (h g : History) → KeepsHistory no_base_encoding k h → MakesHistory k g
         → g ≡ without_refusals h }
 {
+    let _rules = rules;
+}
+
+/// A keeper of which a crash leaves its content, and nothing else, is ready for every account, as
+/// after an `append` or a `replace` that returned Ok. So is a [`keep_port::MemoryKeeper`] that was
+/// just made.
+pub fn clean_keepers_are_ready<K: Keeper, R: Rules>(keeper: &K, rules: &R)
+    ensures { LeavesContent (K.kept keeper.now) (K.image keeper.now) → IsReady no_base_encoding
+        (R.is_whole rules.now) (K.kept keeper.now) (K.image keeper.now) }
+{
+    let _keeper = keeper;
     let _rules = rules;
 }

@@ -1,5 +1,5 @@
 // Rows of a keeper, which are read one after the other.
-ghost use Rattle.std.specs.Prelude.{IfOk, IfErr, Some};
+ghost use Rattle.std.specs.Prelude.{◌≡◌, Err, IfOk, IfErr, Some};
 ghost use Rattle.mail_records.specs.Histories.{History};
 ghost use Rattle.account_book.specs.Opening.{AreLoaded, IsCommitRefused, IsLoadFault, IsLoading, IsRowRefused, IsTaken, TakesRow};
 
@@ -52,7 +52,7 @@ fn loading_with(
     }
 }
 
-// Takes the commit of the row of this index.
+// Takes the commit of this row.
 fn take_commit(
     alloc: Global,
     loading: Loading,
@@ -74,7 +74,15 @@ fn take_commit(
     }
 }
 
-// Takes the row of this index.
+// Lets go of what is loaded, and answers why.
+fn stop(loading: Loading, fault: StartFault) -> Result<Loading, StartFault>
+    ensures { result ≡ Err fault }
+{
+    drop(loading);
+    Err(fault)
+}
+
+// Takes this row.
 fn take_row(alloc: Global, loading: Loading, bytes: &[u8], row: u64) -> Result<Loading, StartFault>
     ensures ok { IfOk result (λ l. (h : History) → IsLoading loading h → TakesRow bytes.now h l) }
     ensures err { IfErr result (λ e. (h : History) → IsLoading loading h
@@ -82,16 +90,16 @@ fn take_row(alloc: Global, loading: Loading, bytes: &[u8], row: u64) -> Result<L
 {
     match decode(alloc, bytes) {
         Ok(commit) => take_commit(alloc, loading, commit, row),
-        Err(CodecFault::NotACommit(place)) => Err(StartFault::Damaged {
-            row,
-            reason: Reason::NotACommit(place),
-        }),
-        Err(CodecFault::NoMemory) => Err(StartFault::NoMemory),
+        Err(CodecFault::NotACommit(place)) => {
+            let reason = Reason::NotACommit(place);
+            stop(loading, StartFault::Damaged { row, reason })
+        }
+        Err(CodecFault::NoMemory) => stop(loading, StartFault::NoMemory),
     }
 }
 
 #[tactic(auto, using(crate::proofs::Starting::loaded_first, crate::proofs::Starting::loaded_all))]
-/// Takes all rows, each once. The memory of a row is given back once it is read.
+/// Takes all rows, each once. The memory of a row is freed once it is read.
 pub(crate) fn load_rows(alloc: Global, rows: Rows) -> Result<Loading, StartFault>
     ensures ok { IfOk result (AreLoaded rows) }
     ensures err { IfErr result (IsLoadFault rows) }
@@ -99,13 +107,14 @@ pub(crate) fn load_rows(alloc: Global, rows: Rows) -> Result<Loading, StartFault
     let _count = rows.len() as u64;
     let mut loading = Loading::Fitting(Account::new(alloc));
     let mut rest = VecDeque::from_vec(rows.into_vec());
-    let mut row = 0u64;
+    let mut taken = 0u64;
     while let Some(bytes) = rest.pop_front() {
+        let row = taken + 1;
         match take_row(alloc, loading, bytes.as_slice(), row) {
             Ok(next) => loading = next,
             Err(fault) => return Err(fault),
         }
-        row += 1;
+        taken = row;
     }
     Ok(loading)
 }

@@ -1,5 +1,5 @@
 // What a keeper keeps is read as an account.
-ghost use Rattle.std.specs.Prelude.{◌≡◌, IfOk, IfErr};
+ghost use Rattle.std.specs.Prelude.{◌≡◌, Err, IfOk, IfErr};
 ghost use Rattle.mail_records.specs.Histories.{History};
 ghost use Rattle.account_book.specs.Opening.{IsContentFault, IsEndFault, IsLoading, MakesHistory};
 
@@ -7,6 +7,14 @@ use crate::loading::{Loading, load_rows};
 use crate::{Account, Reason, Rules, StartFault};
 use keep_port::Kept;
 use std::alloc::Global;
+
+// Lets go of an account, and answers why.
+fn stop(account: Account, fault: StartFault) -> Result<Account, StartFault>
+    ensures { result ≡ Err fault }
+{
+    drop(account);
+    Err(fault)
+}
 
 // Returns the account, if it is valid.
 fn valid_account<R: Rules>(
@@ -21,15 +29,15 @@ fn valid_account<R: Rules>(
 {
     match rules.whole(alloc, &account) {
         Ok(true) => Ok(account),
-        Ok(false) => Err(StartFault::Damaged {
-            row: last,
-            reason: Reason::NotWhole,
-        }),
-        Err(_) => Err(StartFault::NoMemory),
+        Ok(false) => {
+            let reason = Reason::NotWhole;
+            stop(account, StartFault::Damaged { row: last, reason })
+        }
+        Err(_) => stop(account, StartFault::NoMemory),
     }
 }
 
-// Returns the account that the rows make, if it is valid. The last row has this index.
+// Returns the account that the rows make, if it is valid. This is the last row.
 fn loaded_account<R: Rules>(
     alloc: Global,
     rules: &R,
@@ -67,7 +75,8 @@ pub(crate) fn load_content<R: Rules>(
             reason: Reason::NotACommit(0),
         });
     }
-    let last = (rows.len() as u64).saturating_sub(1);
+    let count = rows.len();
+    let last = count as u64;
     match load_rows(alloc, rows) {
         Ok(loading) => loaded_account(alloc, rules, loading, last),
         Err(fault) => Err(fault),

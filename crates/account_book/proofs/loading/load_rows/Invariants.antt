@@ -4,9 +4,9 @@ use Rattle.account_book.proofs.loading.load_rows.Given as goal
 
 abbrev pub invariant-loop-bytes : goal.invariant-loop-bytes
 invariant-loop-bytes l = record {
-  rest : l.rest.items ≡ drop l.row l.fn.rows;
-  loaded : AreLoaded (take l.row l.fn.rows) l.loading;
-  count : l.row + length l.rest.items ≡ length l.fn.rows;
+  rest : l.rest.items ≡ drop l.taken l.fn.rows;
+  loaded : AreLoaded (take l.taken l.fn.rows) l.loading;
+  count : l.taken + length l.rest.items ≡ length l.fn.rows;
   fits : l._count ≡ length l.fn.rows;
 }
 

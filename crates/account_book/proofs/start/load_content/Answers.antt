@@ -1,7 +1,7 @@
-use Rattle.std.proofs.Common.{rules, ◌≡◌, ◌-◌, None, length, refl}
+use Rattle.std.proofs.Common.{rules, ◌≡◌, None, length, refl}
 use Rattle.account_book.specs.Opening.{IsContentFault, MakesHistory}
 use Rattle.account_book.proofs.Answering.{IfErr-weaken, IfOk-weaken}
-use Rattle.account_book.proofs.Opened.{MakesHistory-loaded, base_at_fault, content_at_fault, content_damaged}
+use Rattle.account_book.proofs.Opened.{MakesHistory-loaded, content_at_fault, content_damaged}
 use Rattle.account_book.proofs.start.load_content.Goals as goal
 
 pub returns-in-Ok-clause-makes : goal.returns-in-Ok-clause-makes
@@ -17,9 +17,9 @@ returns-in-Ok-clause-err g c =
     let whole = g.R.Rules.is_whole c.args.rules.now in
     let laws = g.met.R.Rules g.world.𝓛 g.world.𝓜 g.world.𝓡 ((λ s x. x), (λ x. x), (λ x. x), λ x. x) in
     let none : k.base ≡ None = search rules in
-    let last : c.saturating_sub-last.result ≡ length k.rows - 1 = search rules in
+    let last : c.len-count.result ≡ length k.rows = search rules in
     IfErr-weaken c.loaded_account.result _ (IsContentFault whole k)
-    (λ e end. content_damaged whole (laws.empty c.args.rules.now) k k.rows c.in-Ok.loading c.saturating_sub-last.result e none refl c.in-Ok.ensures.ok last end) c.loaded_account.ensures.err
+    (λ e end. content_damaged whole (laws.empty c.args.rules.now) k k.rows c.in-Ok.loading c.len-count.result e none refl c.in-Ok.ensures.ok last end) c.loaded_account.ensures.err
 
 pub returns-clause-err : goal.returns-clause-err
 returns-clause-err g c =

@@ -1,20 +1,25 @@
-use Rattle.std.proofs.Common.{◌≡◌, ◌++◌, drop, length, ap, ◌∙◌, subst}
-use Rattle.mail_records.specs.Histories.{account_after}
-use Rattle.account_book.specs.Books.{IsEntered}
-use Rattle.account_book.proofs.Parts.{count_entered, opened_entered, refusals_entered, since_entered}
+use Rattle.std.proofs.Common.{◌≡◌, ◌++◌, drop, length, ap, ◌∙◌, subst, arith}
+use Rattle.mail_records.specs.Histories.{Committed, grown}
+use Rattle.mail_records.specs.declared.edits.Commit.{Commit}
+use Rattle.account_book.specs.Keeping.{LeavesOnly, no_base_encoding}
+use Rattle.account_book.proofs.Parts.{count_entered, greatest_entered, opened_entered, passes_entered, refusals_entered, rise_entered, since_entered}
 use Rattle.account_book.proofs.book.Book.enter.Goals as goal
 
 pub invariant_of-self : goal.invariant_of-self
 invariant_of-self g c =
     let h = c.self.inside.account.history in
     let k = c.keep_commit-kept.new.account.history in
+    let r = c.keep_commit-kept.result in
+    let was = c.self.invariant in
+    let is = c.keep_commit-kept.ensures.entered in
     record {
       valid = c.keep_commit-kept.ensures.valid;
-      kept = c.keep_commit-kept.ensures.kept;
-      count = count_entered c.keep_commit-kept.result h k c.args.commit c.self.inside.before c.self.invariant.count c.keep_commit-kept.ensures.entered;
-      refusals =
-          refusals_entered c.keep_commit-kept.result h k c.args.commit c.self.inside.before _ _
-          c.self.invariant.count c.keep_commit-kept.ensures.entered c.keep_commit-kept.ensures.cause c.count-count.ensures.fits c.self.invariant.refusals;
+      kept = record { content = c.keep_commit-kept.ensures.content; left = λ ready. c.keep_commit-kept.ensures.left (was.kept.left ready) };
+      count = count_entered r h k c.args.commit c.self.inside.before was.count is;
+      refusals = refusals_entered r h k c.args.commit c.self.inside.before _ _ was.count is c.keep_commit-kept.ensures.cause c.count-count.ensures.fits was.refusals;
+      rise = rise_entered r h k c.args.commit c.self.inside.before _ _ _ was.count is c.keep_commit-kept.ensures.cause was.rise;
+      greatest_is = greatest_entered r h k c.args.commit c.self.inside.before c.self.inside.greatest was.count is was.greatest_is;
+      passes = passes_entered r h k c.args.commit c.self.inside.before was.count is (omega arith) was.passes;
     }
 
 pub returns-clause-opened : goal.returns-clause-opened
@@ -27,3 +32,9 @@ returns-clause-since g c =
     let k = c.keep_commit-kept.new.account.history in
     subst (λ v. drop c.self.inside.before k.entries ≡ v.since ++ drop (length v.history.entries) k.entries) c.self.view_is
     (since_entered c.keep_commit-kept.result c.self.inside.account.history k c.args.commit c.self.inside.before c.self.invariant.count c.keep_commit-kept.ensures.entered)
+
+pub returns-clause-settled : goal.returns-clause-settled
+returns-clause-settled g c =
+    let k = c.keep_commit-kept.new.account.history in
+    let image = g.K.Keeper.image c.keep_commit-kept.new.keeper in
+    subst (λ v. (e : Commit) → k ≡ grown v.history (Committed e) → LeavesOnly no_base_encoding (g.K.Keeper.kept v.keeper) image k) c.self.view_is c.keep_commit-kept.ensures.settled

@@ -1,9 +1,10 @@
-use Rattle.std.proofs.Common.{rules, ◌≡◌, inl, length}
+use Rattle.std.proofs.Common.{rules, ◌≡◌, inl, length, refl}
 use Rattle.jm_base.specs.declared.memory.NoMemory.{NoMemory}
+use Rattle.mail_records.specs.Histories.{Committed}
 use Rattle.record_codec.specs.Sizes.{edit_bytes}
 use Rattle.account_book.specs.Replies.{IsIdle, IsWithin, commit_of}
-use Rattle.account_book.proofs.Answering.{IsReply-entered, IsReply-unavailable, kept_entered, none_of_same}
-use Rattle.account_book.proofs.Parts.{begins_entered, cause_entered}
+use Rattle.account_book.proofs.Answering.{IsReply-entered, IsReply-unavailable, kept_entered, none_of_same, unrefused_counted}
+use Rattle.account_book.proofs.Parts.{begins_entered, cause_entered, entered_grows, not_grown}
 use Rattle.account_book.proofs.book.Book.perform.Goals as goal
 
 pub returns-in_default-clause-reply : goal.returns-in_default-clause-reply
@@ -51,3 +52,14 @@ returns-in_default-clause-kept g c = inl (none_of_same c.args.self.now.history)
 pub returns-clause-kept : goal.returns-clause-kept
 returns-clause-kept g c =
     kept_entered c.enter.result c.args.self.now.history c.enter.new.self.history (commit_of c.in_ok-plan.plan c.args.stamp) _ _ c.enter.ensures.entered c.enter.ensures.cause
+
+pub returns-in_default-clause-settled : goal.returns-in_default-clause-settled
+returns-in_default-clause-settled g c commit grows = absurd (not_grown c.args.self.now.history c.args.self.now.history (Committed commit) refl grows)
+
+pub returns-clause-untouched : goal.returns-clause-untouched
+returns-clause-untouched g c same =
+    absurd (entered_grows NoMemory c.in_ok-kept.kept c.args.self.now.history c.enter.new.self.history (commit_of c.in_ok-plan.plan c.args.stamp) c.in_ok-kept.ensures.entered same)
+
+pub returns-clause-append_count : goal.returns-clause-append_count
+returns-clause-append_count g c none =
+    unrefused_counted NoMemory c.in_ok-kept.kept c.args.self.now.history c.enter.new.self.history (commit_of c.in_ok-plan.plan c.args.stamp) _ _ c.in_ok-kept.ensures.entered c.in_ok-kept.ensures.cause none

@@ -1,16 +1,10 @@
-use Rattle.std.proofs.Common.{◌≡◌, ◌⊎◌, Some, ap, sym, subst}
-use Rattle.keep_port.specs.declared.kept.Kept.{Kept}
-use Rattle.account_book.specs.Opening.{IsAsBefore, IsOpened, IsStartFault}
+use Rattle.std.proofs.Common.{◌≡◌, sym, ◌∙◌, subst}
+use Rattle.account_book.specs.Keeping.{no_base_encoding}
+use Rattle.account_book.specs.Opening.{IsAsBefore, IsLeftBefore, IsOpened, IsReadyLoaded, IsStartFault}
 use Rattle.account_book.proofs.Answering.{IfErr-both, IfErr-weaken, IfOk-both, IfOk-weaken}
-use Rattle.account_book.proofs.Opened.{IsKept-opened}
+use Rattle.account_book.proofs.Opened.{ready_loaded}
 use Rattle.account_book.proofs.Starting.{as_before, as_unknown, fault_loaded, opened_over}
 use Rattle.account_book.proofs.book.Book.start.Goals as goal
-
-pub over-requires-clause-kept : goal.over-requires-clause-kept
-over-requires-clause-kept g c κs within =
-    λ h valid makes.
-    IsKept-opened (g.R.Rules.is_whole c.args.rules) (g.K.Keeper.kept c.args.keeper) (g.K.Keeper.kept c.load.new.self) (g.K.Keeper.image c.args.keeper) (g.K.Keeper.image c.load.new.self)
-    c.in-Ok.content h c.requires.ready valid makes c.in-Ok.ensures.loaded c.in-Ok.ensures.kept c.load.ensures.image
 
 pub returns-in-Ok-clause-opened : goal.returns-in-Ok-clause-opened
 returns-in-Ok-clause-opened g c =
@@ -19,11 +13,36 @@ returns-in-Ok-clause-opened g c =
     (λ b same makes. opened_over kept c.load.new.self b.keeper (kept c.args.keeper) c.in-Ok.content b.history same c.in-Ok.ensures.loaded c.in-Ok.ensures.kept makes)
     c.over.ensures.keeper c.over.ensures.makes
 
-pub returns-in-Ok-clause-appends : goal.returns-in-Ok-clause-appends
-returns-in-Ok-clause-appends g c =
-    let faults = g.K.Keeper.append_faults in
-    IfOk-weaken c.over.result _ (λ b. faults b.keeper ≡ faults c.args.keeper)
-    (λ b same. subst (λ z. faults z ≡ faults c.args.keeper) (sym same) c.load.ensures.append_count)
+pub returns-in-Ok-clause-opened_over : goal.returns-in-Ok-clause-opened_over
+returns-in-Ok-clause-opened_over g c =
+    IfOk-both c.over.result _ _ (λ b. b.opened_over ≡ b.keeper) (λ b over same. over ∙ sym same) c.over.ensures.opened_over c.over.ensures.keeper
+
+pub returns-in-Ok-clause-ready : goal.returns-in-Ok-clause-ready
+returns-in-Ok-clause-ready g c =
+    let whole = g.R.Rules.is_whole c.args.rules in
+    let kept = g.K.Keeper.kept in
+    let image = g.K.Keeper.image in
+    IfOk-weaken c.over.result _ (λ b. IsReadyLoaded no_base_encoding whole (kept c.args.keeper) (image c.args.keeper) (kept b.keeper) (image b.keeper))
+    (λ b same. subst (λ z. IsReadyLoaded no_base_encoding whole (kept c.args.keeper) (image c.args.keeper) (kept z) (image z)) (sym same)
+    (ready_loaded whole (kept c.args.keeper) (kept c.load.new.self) (image c.args.keeper) (image c.load.new.self) c.in-Ok.content c.in-Ok.ensures.kept c.load.ensures.image))
+    c.over.ensures.keeper
+
+pub returns-in-Ok-clause-left : goal.returns-in-Ok-clause-left
+returns-in-Ok-clause-left g c =
+    let kept = g.K.Keeper.kept in
+    let image = g.K.Keeper.image in
+    IfOk-weaken c.over.result _ (λ b. IsLeftBefore (image c.args.keeper) (kept b.keeper) (image b.keeper))
+    (λ b same. subst (λ z. IsLeftBefore (image c.args.keeper) (kept z) (image z)) (sym same) c.load.ensures.image)
+    c.over.ensures.keeper
+
+pub returns-in-Ok-clause-no_faults : goal.returns-in-Ok-clause-no_faults
+returns-in-Ok-clause-no_faults g c =
+    let loads = g.K.Keeper.load_faults in
+    let appends = g.K.Keeper.append_faults in
+    let replaces = g.K.Keeper.replace_faults in
+    let k = c.args.keeper in
+    IfOk-weaken c.over.result _ (λ b. (loads b.keeper ≡ loads k) × (appends b.keeper ≡ appends k) × (replaces b.keeper ≡ replaces k))
+    (λ b same. subst (λ z. (loads z ≡ loads k) × (appends z ≡ appends k) × (replaces z ≡ replaces k)) (sym same) (c.in-Ok.ensures.cause, c.load.ensures.append_count, c.load.ensures.replace_count))
     c.over.ensures.keeper
 
 pub returns-in-Ok-clause-cause : goal.returns-in-Ok-clause-cause
@@ -34,7 +53,7 @@ returns-in-Ok-clause-cause g c =
     let old = kept c.args.keeper in
     IfErr-both c.over.result _ _ (λ e. IsStartFault whole old (kept e.1) (loads c.args.keeper) (loads e.1) e.0)
     (λ e fault same. subst (λ z. IsStartFault whole old (kept z) (loads c.args.keeper) (loads z) e.0) (sym same)
-    (fault_loaded whole c.in-Ok.content old (kept c.load.new.self) (loads c.args.keeper) (loads c.load.new.self) e.0 c.in-Ok.ensures.loaded c.in-Ok.ensures.kept fault))
+    (fault_loaded whole c.in-Ok.content old (kept c.load.new.self) (loads c.args.keeper) (loads c.load.new.self) e.0 c.in-Ok.ensures.loaded c.in-Ok.ensures.kept c.in-Ok.ensures.cause fault))
     c.over.ensures.fault c.over.ensures.same
 
 pub returns-in-Ok-clause-same : goal.returns-in-Ok-clause-same
@@ -48,8 +67,8 @@ pub returns-in-Ok-clause-image : goal.returns-in-Ok-clause-image
 returns-in-Ok-clause-image g c =
     let kept = g.K.Keeper.kept in
     let image = g.K.Keeper.image in
-    IfErr-weaken c.over.result _ (λ e. (k : Kept) → image e.1 k → image c.args.keeper k ⊎ (kept e.1 ≡ Some k))
-    (λ e same. subst (λ z. (k : Kept) → image z k → image c.args.keeper k ⊎ (kept z ≡ Some k)) (sym same) c.load.ensures.image)
+    IfErr-weaken c.over.result _ (λ e. IsLeftBefore (image c.args.keeper) (kept e.1) (image e.1))
+    (λ e same. subst (λ z. IsLeftBefore (image c.args.keeper) (kept z) (image z)) (sym same) c.load.ensures.image)
     c.over.ensures.same
 
 pub returns-in-Ok-clause-counts : goal.returns-in-Ok-clause-counts
