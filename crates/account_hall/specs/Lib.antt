@@ -1,0 +1,5 @@
+pub mod Histories
+pub mod Calls
+pub mod Sessions
+pub mod Halls
+pub mod Building

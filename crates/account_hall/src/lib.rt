@@ -1,0 +1,23 @@
+//! A hall: several accounts, each behind a lock, and the sessions that share them.
+//!
+//! A session has a pass for each account and a trail, the points of its calls. It may be used by
+//! one thread while other threads use other sessions. Contracts say of each call that its answer
+//! is the defined reply at a point of the account's history not before what the session had seen,
+//! and of each session that its entries are exactly those of its points
+//! (`specs/Sessions.antt`).
+#![tactic(auto)]
+
+mod build;
+mod calls;
+mod front;
+mod hall;
+mod limits;
+mod named;
+mod passes;
+
+pub use build::build_hall;
+pub use front::{AdmitFault, Front};
+pub use hall::Hall;
+pub use limits::MAX_SESSIONS;
+pub use named::Named;
+pub use passes::{Passes, Trail};
