@@ -1,0 +1,46 @@
+-- What was written when a response was sent, or was not sent whole.
+use Rattle.std.proofs.Common.{◌≡◌, ◌≤◌, inl, inr, ℕ, Bool, true, false, ◌||◌, List, take, Option, Some, refl, sym, subst}
+use Rattle.std.specs.Io.KnownBytes.{Appends}
+use Rattle.jm_edge.specs.Causes.{Rose}
+use Rattle.http_wire.specs.Responses.{IsCutShort}
+use Rattle.http_parts.specs.declared.fault.WireFault.{WireFault}
+use Rattle.http_parts.specs.declared.fault.WireFault.TheVariants.{WriteFault as NotWritten, NoMemory as OutOfMemory}
+use Rattle.jmap_http.proofs.Nexts.{rose_later}
+use Rattle.jmap_http.specs.Connections.{sent_bytes, unavailable_bytes}
+use Rattle.jmap_http.specs.Endings.{IsPrefixPut, IsUnsent, IsSent, IsRefusalSent, end_of}
+use Rattle.jmap_http.specs.declared.response.Response.{Response}
+use Rattle.jmap_http.specs.declared.served.Served.{Served}
+use Rattle.jmap_http.specs.declared.served.Served.TheVariants.{End, CutOff, ReadFault, WriteFault, Limit, NoMemory, Refused}
+
+pub unsent : (e : WireFault) (bytes : List ℕ) (old mid new : Option (List ℕ)) (p q r : ℕ) (served : Served) → IsCutShort e old mid bytes → (e ≡ NotWritten → Rose p q)
+    → (e ≡ NotWritten → (served ≡ WriteFault) × (new ≡ mid)) → (e ≡ OutOfMemory → (served ≡ NoMemory) × IsPrefixPut mid new unavailable_bytes) → q ≤ r → IsUnsent bytes old new p r served
+unsent e bytes old mid new p q r served (inl cut) rose failed stopped low =
+    let f = failed cut.0 in
+    subst (λ z. IsUnsent bytes old new p r z) (sym f.0) ((cut.1, subst (λ z. Appends old z (take cut.1 bytes)) (sym f.1) cut.2), rose_later p q r (rose cut.0) low)
+unsent e bytes old mid new p q r served (inr none) rose failed stopped low =
+    let s = stopped none.0 in
+    subst (λ z. IsUnsent bytes old new p r z) (sym s.0) (subst (λ z. IsPrefixPut z new unavailable_bytes) none.1 s.1)
+
+pub sent_whole : (asks at_limit : Bool) (r : Response) (old new : Option (List ℕ)) (puts puts' : ℕ) → Appends old new (sent_bytes r (asks || at_limit)) → IsSent asks at_limit r old new puts puts' (end_of asks at_limit)
+sent_whole true at_limit r old new puts puts' h = (refl, h)
+sent_whole false true r old new puts puts' h = (refl, refl, h)
+sent_whole false false r old new puts puts' h = (refl, refl, h)
+
+pub unsent_response : (asks at_limit : Bool) (r : Response) (old new : Option (List ℕ)) (puts puts' : ℕ) (served : Served) → IsUnsent (sent_bytes r (asks || at_limit)) old new puts puts' served
+    → IsSent asks at_limit r old new puts puts' (Some served)
+unsent_response asks at_limit r old new puts puts' WriteFault h = h
+unsent_response asks at_limit r old new puts puts' NoMemory h = h
+unsent_response asks at_limit r old new puts puts' End h = absurd h
+unsent_response asks at_limit r old new puts puts' (CutOff count) h = absurd h
+unsent_response asks at_limit r old new puts puts' ReadFault h = absurd h
+unsent_response asks at_limit r old new puts puts' Limit h = absurd h
+unsent_response asks at_limit r old new puts puts' (Refused status) h = absurd h
+
+pub unsent_refusal : (r : Response) (status : ℕ) (old new : Option (List ℕ)) (puts puts' : ℕ) (served : Served) → IsUnsent (sent_bytes r true) old new puts puts' served → IsRefusalSent r status old new puts puts' served
+unsent_refusal r status old new puts puts' WriteFault h = h
+unsent_refusal r status old new puts puts' NoMemory h = h
+unsent_refusal r status old new puts puts' End h = absurd h
+unsent_refusal r status old new puts puts' (CutOff count) h = absurd h
+unsent_refusal r status old new puts puts' ReadFault h = absurd h
+unsent_refusal r status old new puts puts' Limit h = absurd h
+unsent_refusal r status old new puts puts' (Refused s) h = absurd h

@@ -1,0 +1,9 @@
+pub mod Cuts
+pub mod Targets
+pub mod Authorization
+pub mod Session
+pub mod Steps
+pub mod Responses
+pub mod Views
+pub mod Connections
+pub mod Endings

@@ -1,0 +1,22 @@
+//! Requests of a connection, answered over any port (RFC 8620; RFC 9112).
+#![tactic(auto)]
+
+mod answer;
+mod authorization;
+mod connection;
+mod cuts;
+mod limits;
+mod media;
+mod port;
+mod refusals;
+mod response;
+mod served;
+mod session;
+mod targets;
+
+pub use answer::respond;
+pub use connection::serve_requests;
+pub use limits::{MAX_REQUESTS_PER_CONNECTION, MAX_SESSIONS};
+pub use port::{Stored, UserPort};
+pub use response::Response;
+pub use served::Served;
