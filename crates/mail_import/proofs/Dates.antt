@@ -1,8 +1,8 @@
 -- Dates that are read are of the years 0001 to 9999.
-use Rattle.std.proofs.Common.{◌≡◌, ◌≤ℤ◌, ◌*ℤ◌, ◌+ℤ◌, ◌*◌, ◌+◌, ℕ, ◌≤◌, ℤ, pos, negsuc, Bool, true, false, cond, ◌&&◌, List, Option, Some, None, refl, sym, ap, ◌∙◌, subst, arith, int_le, codes}
+use Rattle.std.proofs.Common.{◌≡◌, ◌≤ℤ◌, ◌*ℤ◌, ◌+ℤ◌, ◌*◌, ◌+◌, ℕ, ◌≤◌, ℤ, pos, negsuc, Bool, true, false, cond, ◌&&◌, List, Option, Some, None, refl, subst, arith, int_le, codes}
 use Rattle.std.specs.Prelude.{nat_le}
 use Rattle.std.specs.Option.{ForSome}
-use Rattle.std.specs.Prelude.{option_and_then, option_map, unwrap_or}
+use Rattle.std.specs.Prelude.{option_and_then}
 use Rattle.std.proofs.lemmas.Bool.{and_parts}
 use Rattle.std.proofs.lemmas.Bool.Decides.{nat_tests}
 use Rattle.std.proofs.lemmas.Int.{ints}
@@ -13,7 +13,7 @@ use Rattle.jm_base.specs.UtcDates.{DateTime, IsDay, IsTime, IsUtcDate, date_time
 use Rattle.jm_base.specs.declared.identifiers.UtcDate.{UtcDate}
 use Rattle.jm_base.specs.declared.utc_dates.TheConstants.{FIRST_TIMESTAMP, LAST_TIMESTAMP}
 use Rattle.jm_base.proofs.Days.{day_bounds}
-use Rattle.filter_terms.specs.Dates.{is_day, is_time, is_utc_text, utc_seconds}
+use Rattle.utc_dates.specs.Dates.{is_day, is_time, is_utc_text, utc_seconds}
 use Rattle.header_forms.specs.Dates.{if_in_range, date_time_in as zoned_in, unix_seconds, utc_of}
 use Rattle.header_forms.specs.Texts.{on_one_line}
 use Rattle.header_forms.specs.declared.date_time.ZonedDateTime.{ZonedDateTime}

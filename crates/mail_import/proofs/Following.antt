@@ -1,5 +1,5 @@
 -- A planner keeps in step with the course of imports.
-use Rattle.std.proofs.Common.{◌≡◌, ℕ, ◌+◌, ◌-◌, ◌<◌, ◌≤◌, ◌^◌, true, false, List, [], ◌∷◌, ◌++◌, length, map, drop, get_or, Option, Some, None, is_some, unwrap_or, option_map, option_and_then, refl, sym, ap, ap₂, ◌∙◌, subst, arith, length-append, codes}
+use Rattle.std.proofs.Common.{◌≡◌, ℕ, ◌+◌, ◌<◌, ◌≤◌, false, List, [], ◌∷◌, ◌++◌, length, map, drop, get_or, Option, Some, None, is_some, unwrap_or, sym, ap, ap₂, ◌∙◌, subst, arith, length-append, codes}
 use Rattle.std.specs.List.{AllByRecursion}
 use Rattle.std.specs.Option.{option_or}
 use Rattle.std.proofs.lemmas.List.{drop_more}
@@ -15,19 +15,18 @@ use Rattle.mail_records.specs.declared.records.Email.{Email}
 use Rattle.mail_records.specs.declared.records.Mailbox.{Mailbox}
 use Rattle.mail_records.specs.declared.records.Summary.{Summary}
 use Rattle.mail_records.proofs.Growth.{AreNumbered-after_edit, all_map}
-use Rattle.mail_counts.specs.Touched.{rising}
-use Rattle.mail_counts.specs.Views.{mailbox_named}
 use Rattle.mail_counts.proofs.Growth.{put-last, lookup-above}
-use Rattle.mailbox_set.specs.Creates.{Create}
-use Rattle.mailbox_set.specs.Properties.{identifier}
+use Rattle.set_parts.specs.Arguments.{Create}
+use Rattle.set_parts.specs.Names.{keywords_in, mailboxes_in}
+use Rattle.set_parts.specs.Views.{HoldIds, create_of}
+use Rattle.set_parts.specs.declared.arguments.SentCreate.{SentCreate}
+use Rattle.set_parts.specs.declared.set_errors.SetError.{SetError}
 use Rattle.thread_assign.specs.Threads.{joined_thread}
-use Rattle.mail_import.specs.Imports.{Progress, after_check, after_import, after_imports, after_made, created_tree, email_of, error_tree, made_under, next_after, no_source, refusal_of}
-use Rattle.mail_import.specs.News.{thread_if_related}
-use Rattle.mail_import.specs.Properties.{Sent, keywords_in, received_in, sent_in, set_in, source_in, unless_empty}
-use Rattle.mail_import.specs.Views.{Follows, HasNumbersFor, HoldIds, create_of}
-use Rattle.mail_import.specs.declared.arguments.Draft.{Draft}
+use Rattle.mail_import.specs.Imports.{Progress, after_check, after_import, after_imports, after_made, created_tree, email_of, error_of, made_under, next_after, no_blob}
+use Rattle.mail_import.specs.NewEmails.{thread_if_related}
+use Rattle.mail_import.specs.Properties.{Sent, blob_in, received_in, sent_in}
+use Rattle.mail_import.specs.Views.{Follows, HasNumbersFor}
 use Rattle.mail_import.specs.declared.planner.Planner.{Planner}
-use Rattle.mail_import.specs.declared.refusal.Refusal.{Refusal}
 use Rattle.mail_import.proofs.Joining.{joined_append, or_assoc, related_same}
 
 -- ---- an email after all others
@@ -72,13 +71,13 @@ entered c d e thread v is numbered number same links subject = record {
 
 pub record Adds (c : Content) (p q : Planner) (creation : List ℕ) (e : Email) : Type 0 where
   pub next_email : q.next_email ≡ p.next_email + 1
-  pub next_thread : q.next_thread ≡ next_after (option_or (joined_thread c.emails e.summary) (joined_thread p.news.content.emails e.summary)) p.next_thread
-  pub threads : (u : Summary) → joined_thread q.news.content.emails u ≡ option_or (joined_thread p.news.content.emails u) (thread_if_related u e.thread e.summary)
+  pub next_thread : q.next_thread ≡ next_after (option_or (joined_thread c.emails e.summary) (joined_thread p.new_emails.content.emails e.summary)) p.next_thread
+  pub threads : (u : Summary) → joined_thread q.new_emails.content.emails u ≡ option_or (joined_thread p.new_emails.content.emails u) (thread_if_related u e.thread e.summary)
   pub ids : (made : List Created) → HoldIds p.ids made → HoldIds q.ids (made ++ made_under creation e ∷ [])
   pub fresh : q.fresh.items ≡ p.fresh.items ++ made_under creation e ∷ []
   pub edits : q.edits.items ≡ p.edits.items ++ PutEmail e false ∷ []
   pub created : q.created ≡ put_member creation (created_tree e) p.created
-  pub refused : q.refused ≡ p.refused
+  pub not_created : q.not_created ≡ p.not_created
 
 pub Follows-made : (c : Content) (p q : Planner) (s : Progress) (creation : List ℕ) (e : Email) → Adds c p q creation e → Follows c p s → e.number ≡ s.content.next_email → Follows c q (after_made s creation e)
 Follows-made c p q s creation e adds f is =
@@ -92,7 +91,7 @@ Follows-made c p q s creation e adds f is =
       threads = λ u.
           joined-new s.content e u f.numbered is
           ∙ (ap (λ o. option_or o (thread_if_related u e.thread e.summary)) (f.threads u)
-          ∙ (or_assoc (joined_thread c.emails u) (joined_thread p.news.content.emails u) (thread_if_related u e.thread e.summary)
+          ∙ (or_assoc (joined_thread c.emails u) (joined_thread p.new_emails.content.emails u) (thread_if_related u e.thread e.summary)
           ∙ ap (λ o. option_or (joined_thread c.emails u) o) (sym (adds.threads u))));
       next_email = adds.next_email ∙ ap (λ n. n + 1) (f.next_email ∙ sym is);
       next_thread = adds.next_thread ∙ ap₂ (λ o n. next_after o n) (sym (f.threads e.summary)) f.next_thread;
@@ -100,50 +99,45 @@ Follows-made c p q s creation e adds f is =
       fresh = adds.fresh ∙ ap (λ xs. xs ++ made_under creation e ∷ []) f.fresh;
       edits = adds.edits ∙ ap (λ xs. xs ++ PutEmail e false ∷ []) f.edits;
       created = adds.created ∙ ap (put_member creation (created_tree e)) f.created;
-      refused = adds.refused ∙ f.refused;
+      not_created = adds.not_created ∙ f.not_created;
     }
 
 pub numbers-fewer : (n : ℕ) (p : Planner) → HasNumbersFor (n + 1) p → HasNumbersFor n p
-numbers-fewer n p h = record { email = omega (arith, h.email); thread = omega (arith, h.thread); news = h.news; numbered = h.numbered }
+numbers-fewer n p h = record { email = omega (arith, h.email); thread = omega (arith, h.thread); new_emails = h.new_emails; numbered = h.numbered }
 
 next_at_most : (o : Option ℕ) (n : ℕ) → next_after o n ≤ n + 1
 next_at_most None n = omega arith
 next_at_most (Some t) n = omega arith
 
 pub numbers-made : (n : ℕ) (p q : Planner) (o : Option ℕ) → HasNumbersFor (n + 1) p → q.next_email ≡ p.next_email + 1 → q.next_thread ≡ next_after o p.next_thread
-    → q.news.content.next_email ≡ p.news.content.next_email + 1 → AreNumbered q.news.content → HasNumbersFor n q
+    → q.new_emails.content.next_email ≡ p.new_emails.content.next_email + 1 → AreNumbered q.new_emails.content → HasNumbersFor n q
 numbers-made n p q o h email thread news numbered =
     let up = next_at_most o p.next_thread in
-    record { email = omega (arith, h.email, email); thread = omega (arith, h.thread, thread, up); news = omega (arith, h.news, email, news); numbered = numbered }
+    record { email = omega (arith, h.email, email); thread = omega (arith, h.thread, thread, up); new_emails = omega (arith, h.new_emails, email, news); numbered = numbered }
 
 -- ---- the steps of an import
 
 -- the properties that are sent, by the mailboxes alone
 abbrev sent_by : (blobs : List (List ℕ)) (made : List Created) (ms : List (List ℕ × Tree)) (rows : List Mailbox) → Sent
 sent_by blobs made ms rows = record {
-  source = source_in blobs (find (codes "blobId") ms);
+  blob = blob_in blobs (find (codes "blobId") ms);
   keywords = keywords_in (find (codes "keywords") ms);
-  mailboxes =
-      option_map rising
-      (option_and_then unless_empty
-      (option_and_then
-      (set_in (λ s. option_and_then (λ t. option_map mailbox_number (mailbox_named rows t)) (identifier made s)))
-      (find (codes "mailboxIds") ms)));
+  mailboxes = mailboxes_in (map mailbox_number rows) made (find (codes "mailboxIds") ms);
   received = received_in (find (codes "receivedAt") ms);
 }
 
 pub sent_same : (blobs : List (List ℕ)) (made : List Created) (ms : List (List ℕ × Tree)) (c d : Content) → c.mailboxes ≡ d.mailboxes → sent_in blobs c made ms ≡ sent_in blobs d made ms
 sent_same blobs made ms c d same = ap (sent_by blobs made ms) same
 
-pub import_step : (blobs : List (List ℕ)) (moment : ℕ) (s : Progress) (x : Create) (c : Content) (a : Sent) (n : ℕ) (o : Option Refusal) → s.content.mailboxes ≡ c.mailboxes
-    → a ≡ sent_in blobs c s.made x.members → length s.content.emails ≡ n → refusal_of n a ≡ o
-    → after_import blobs moment s x ≡ after_check s x.creation (email_of s moment a (unwrap_or a.source no_source)) o
-import_step blobs moment s x c a n o mailboxes sent count refused =
+pub import_step : (blobs : List (List ℕ)) (moment : ℕ) (s : Progress) (x : Create) (c : Content) (a : Sent) (n : ℕ) (o : Option SetError) → s.content.mailboxes ≡ c.mailboxes
+    → a ≡ sent_in blobs c s.made x.members → length s.content.emails ≡ n → error_of n a ≡ o
+    → after_import blobs moment s x ≡ after_check s x.creation (email_of s moment a (unwrap_or a.blob no_blob)) o
+import_step blobs moment s x c a n o mailboxes sent count error =
     let is : sent_in blobs s.content s.made x.members ≡ a = sent_same blobs s.made x.members s.content c mailboxes ∙ sym sent in
-    ap (λ (b : Sent). after_check s x.creation (email_of s moment b (unwrap_or b.source no_source)) (refusal_of (length s.content.emails) b)) is
-    ∙ ap (after_check s x.creation (email_of s moment a (unwrap_or a.source no_source))) (ap (λ k. refusal_of k a) count ∙ refused)
+    ap (λ (b : Sent). after_check s x.creation (email_of s moment b (unwrap_or b.blob no_blob)) (error_of (length s.content.emails) b)) is
+    ∙ ap (after_check s x.creation (email_of s moment a (unwrap_or a.blob no_blob))) (ap (λ k. error_of k a) count ∙ error)
 
-pub imports_step : (blobs : List (List ℕ)) (moment : ℕ) (s : Progress) (ds : List Draft) (i : ℕ) (e : Draft) → i < length ds → e ≡ get_or ds i e
+pub imports_step : (blobs : List (List ℕ)) (moment : ℕ) (s : Progress) (ds : List SentCreate) (i : ℕ) (e : SentCreate) → i < length ds → e ≡ get_or ds i e
     → after_imports blobs moment s (map create_of (drop i ds)) ≡ after_imports blobs moment (after_import blobs moment s (create_of e)) (map create_of (drop (i + 1) ds))
 imports_step blobs moment s ds i e lt is =
     ap (λ xs. after_imports blobs moment s (map create_of xs)) (drop_more ds i e lt)

@@ -1,12 +1,12 @@
 -- The thread that a new email joins, among emails with one more.
-use Rattle.std.proofs.Common.{◌≡◌, ℕ, Bool, true, false, cond, ◌&&◌, List, [], ◌∷◌, ◌++◌, find, Option, Some, None, option_map, refl, sym, ap, ◌∙◌, subst, bytes_eq}
+use Rattle.std.proofs.Common.{◌≡◌, ℕ, Bool, true, false, cond, ◌&&◌, List, [], ◌∷◌, ◌++◌, find, Option, Some, None, option_map, refl, ap, ◌∙◌, subst, bytes_eq}
 use Rattle.std.specs.List.{AllByRecursion}
 use Rattle.std.specs.Option.{option_or}
 use Rattle.std.proofs.lemmas.Option.{none-some, same_Some}
 use Rattle.mail_records.specs.declared.records.Email.{Email}
 use Rattle.mail_records.specs.declared.records.Summary.{Summary}
 use Rattle.thread_assign.specs.Threads.{is_related, joined_thread, share_link}
-use Rattle.mail_import.specs.News.{thread_if_related}
+use Rattle.mail_import.specs.NewEmails.{thread_if_related}
 
 last_one : (e : Email) (b : Bool) → option_map (λ (x : Email). x.thread) (cond b (Some e) None) ≡ cond b (Some e.thread) None
 last_one e true = refl

@@ -1,6 +1,5 @@
-pub mod Parts
 pub mod Dates
-pub mod Sent
+pub mod SentMembers
 pub mod Joining
 pub mod NewThreads
 pub mod Accepting

@@ -4,14 +4,13 @@ use Rattle.std.specs.List.{AllByRecursion}
 use Rattle.std.specs.List.Sorted.{IsStrictlySortedBy}
 use Rattle.std.specs.Ordering.{nat_cmp}
 use Rattle.std.specs.declared.cmp.Ordering.TheVariants.{Less}
-use Rattle.std.proofs.lemmas.Bool.{cases_Bool}
 use Rattle.std.proofs.lemmas.List.Kept.{IsStrictlySortedBy-filter}
 use Rattle.mail_records.specs.Contents.{Content, thread_at}
 use Rattle.mail_records.specs.declared.edits.Edit.{Edit}
 use Rattle.mail_records.specs.declared.edits.Edit.TheVariants.{PutEmail}
 use Rattle.mail_records.specs.Edits.{named_thread}
 use Rattle.mail_records.specs.declared.records.Email.{Email}
-use Rattle.mail_counts.specs.Touched.{is_one_of, rising, threads_named, touched_threads, with_number}
+use Rattle.mail_counts.specs.Touched.{is_one_of, threads_named, touched_threads, with_number}
 use Rattle.mail_counts.specs.TidyBut.{AreInTurn, AreNewThreadsNext, new_threads}
 use Rattle.mail_counts.proofs.Sorted.{is_one_of-rising, rise-rising}
 

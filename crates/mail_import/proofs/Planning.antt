@@ -1,5 +1,5 @@
 -- The plan of imports, from what its parts are.
-use Rattle.std.proofs.Common.{◌≡◌, ℕ, List, Option, false, nat_lt, ◌++◌, length, if◌then◌else◌, sym, ap, ap₂, ◌∙◌}
+use Rattle.std.proofs.Common.{◌≡◌, ℕ, List, ◌++◌, ap, ap₂, ◌∙◌}
 use Rattle.jm_base.specs.declared.identifiers.Kind.TheVariants.{Email as OfEmail}
 use Rattle.jm_json.specs.Tree.{Tree, object, fields_of}
 use Rattle.jm_json.specs.declared.invocation.Created.{Created}
@@ -8,35 +8,25 @@ use Rattle.mail_records.specs.Histories.{History, Floors, blobs_of, content_of, 
 use Rattle.jm_base.specs.declared.identifiers.Id.{Id}
 use Rattle.mail_records.specs.declared.edits.Edit.{Edit}
 use Rattle.mail_counts.specs.DerivedEdits.{derived_edits}
-use Rattle.mail_counts.specs.Plans.{Ground, ground_of_history, present_state, state_after}
-use Rattle.method_args.specs.declared.TheConstants.{MAX_OBJECTS_PER_CALL}
-use Rattle.mailbox_set.specs.Creates.{Create}
-use Rattle.mailbox_set.specs.Plans.{Outcome, Plan, ground_of, is_other_state, planned, state_mismatch, too_large}
+use Rattle.mail_counts.specs.Plans.{Ground, present_state, state_after}
+use Rattle.set_parts.specs.Outcomes.{Plan, ground_of}
 use Rattle.state_log.specs.Logs.{Notes, IsLogOf, ids_in}
 use Rattle.state_log.proofs.Agreement.{ids_in-log}
-use Rattle.mail_import.specs.Imports.{Progress, after_imports}
-use Rattle.mail_import.specs.Plans.{all_edits, beginning, import_in, import_outcome, outcome_of_imports, plan_after, reply_members}
+use Rattle.mail_import.specs.Imports.{Progress}
+use Rattle.mail_import.specs.Plans.{all_edits, import_in, import_outcome, plan_after, reply_members}
 
-pub plan_from_parts : (g : Ground) (account : List ℕ) (s : Progress) (before after : ℕ) (created refused : List (List ℕ × Tree)) (reply : Tree) (own more edits : List Edit) (made : List Created)
-    → reply ≡ object (fields_of (reply_members account before after created refused)) → before ≡ present_state OfEmail g → after ≡ state_after OfEmail g edits
-    → created ≡ s.created → refused ≡ s.refused → own ≡ s.edits → more ≡ derived_edits g.content own → edits ≡ own ++ more → made ≡ s.fresh
+pub plan_from_parts : (g : Ground) (account : List ℕ) (s : Progress) (before after : ℕ) (created not_created : List (List ℕ × Tree)) (reply : Tree) (own more edits : List Edit) (made : List Created)
+    → reply ≡ object (fields_of (reply_members account before after created not_created)) → before ≡ present_state OfEmail g → after ≡ state_after OfEmail g edits
+    → created ≡ s.created → not_created ≡ s.not_created → own ≡ s.edits → more ≡ derived_edits g.content own → edits ≡ own ++ more → made ≡ s.fresh
     → (let p : Plan = record { reply = reply; edits = edits; made = made } in p) ≡ plan_after g account s
-plan_from_parts g account s before after created refused reply own more edits made is was new c r o d e m =
+plan_from_parts g account s before after created not_created reply own more edits made is was new c r o d e m =
     let all : edits ≡ all_edits g.content s = e ∙ (ap (λ es. own ++ es) d ∙ ap (λ es. es ++ derived_edits g.content es) o) in
     let newer : after ≡ state_after OfEmail g (all_edits g.content s) = new ∙ ap (state_after OfEmail g) all in
-    let members : reply_members account before after created refused ≡ reply_members account (present_state OfEmail g) (state_after OfEmail g (all_edits g.content s)) s.created s.refused =
-    ap₂ (λ b a. reply_members account b a created refused) was newer ∙ ap₂ (λ x y. reply_members account (present_state OfEmail g) (state_after OfEmail g (all_edits g.content s)) x y) c r in
+    let members : reply_members account before after created not_created ≡ reply_members account (present_state OfEmail g) (state_after OfEmail g (all_edits g.content s)) s.created s.not_created =
+    ap₂ (λ b a. reply_members account b a created not_created) was newer ∙ ap₂ (λ x y. reply_members account (present_state OfEmail g) (state_after OfEmail g (all_edits g.content s)) x y) c r in
     let tree = is ∙ ap (λ ms. object (fields_of ms)) members in
     ap (λ (t : Tree). let p : Plan = record { reply = t; edits = edits; made = made } in p) tree
-    ∙ ap₂ (λ (x : List Edit) (y : List Created). let p : Plan = record { reply = object (fields_of (reply_members account (present_state OfEmail g) (state_after OfEmail g (all_edits g.content s)) s.created s.refused)); edits = x; made = y } in p) all m
-
--- the outcome of imports that are few, where no other state is asked for
-pub outcome_from_plan : (g : Ground) (blobs : List (List ℕ)) (made : List Created) (moment : ℕ) (account : List ℕ) (wanted : Option (List ℕ)) (xs : List Create) (p : Plan) → nat_lt MAX_OBJECTS_PER_CALL (length xs) ≡ false
-    → is_other_state (present_state OfEmail g) wanted ≡ false → p ≡ plan_after g account (after_imports blobs moment (beginning g.content made) xs) → outcome_of_imports g blobs made moment account wanted xs ≡ planned p
-outcome_from_plan g blobs made moment account wanted xs p few same is =
-    let next = planned (plan_after g account (after_imports blobs moment (beginning g.content made) xs)) in
-    ap (λ b. if b then too_large else (if is_other_state (present_state OfEmail g) wanted then state_mismatch else next)) few
-    ∙ (ap (λ b. if b then state_mismatch else next) same ∙ ap planned (sym is))
+    ∙ ap₂ (λ (x : List Edit) (y : List Created). let p : Plan = record { reply = object (fields_of (reply_members account (present_state OfEmail g) (state_after OfEmail g (all_edits g.content s)) s.created s.not_created)); edits = x; made = y } in p) all m
 
 same_ground : (c d : Content) (m n : ℕ) (e f : Floors) (x y : List Id) → c ≡ d → m ≡ n → e ≡ f → x ≡ y
     → (let g : Ground = record { content = c; floor = m; floors = e; ids = x } in g) ≡ record { content = d; floor = n; floors = f; ids = y }

@@ -1,15 +1,12 @@
 -- What the plan of an import promises.
-use Rattle.std.proofs.Common.{◌≡◌, ◌≢◌, ℕ, zero, suc, ◌+◌, ◌-◌, ◌<◌, ◌≤◌, Bool, true, false, not, cond, ◌||◌, eqb, List, [], ◌∷◌, ◌++◌, length, nat_lt, if◌then◌else◌, Option, Some, None, is_some, unwrap_or, refl, sym, ap, ◌∙◌, subst, arith, true≢false, eqb-true, eq-eqb, length-append, ⊎_elim, ◌⊎◌, inl, inr}
+use Rattle.std.proofs.Common.{◌≡◌, ℕ, zero, suc, ◌<◌, ◌≤◌, Bool, true, false, ◌||◌, eqb, List, [], ◌∷◌, ◌++◌, length, nat_lt, Option, Some, None, is_some, unwrap_or, refl, sym, ap, ◌∙◌, subst, arith, true≢false, eqb-true, eq-eqb, length-append, ⊎_elim, ◌⊎◌, inl, inr}
 use Rattle.std.specs.List.{AllByRecursion}
-use Rattle.std.proofs.lemmas.Option.{none-some, same_Some}
+use Rattle.std.proofs.lemmas.Option.{none-some}
 use Rattle.jm_base.specs.declared.identifiers.Kind.TheVariants.{Email as OfEmail}
 use Rattle.jm_json.specs.Tree.{Tree}
-use Rattle.jm_json.specs.Find.{as_object}
-use Rattle.jm_json.specs.Order.{put as put_member}
 use Rattle.jm_json.specs.declared.invocation.Created.{Created}
-use Rattle.mail_records.specs.Contents.{Content, AreNumbered, AreTables, email_at, email_number, thread_at, thread_number}
-use Rattle.mail_records.specs.Edits.{AllFit, AllKeepThread, after_edit, after_edits}
-use Rattle.mail_records.specs.Tables.{lookup}
+use Rattle.mail_records.specs.Contents.{Content, AreNumbered, AreTables, thread_at, thread_number}
+use Rattle.mail_records.specs.Edits.{AllFit, after_edit, after_edits}
 use Rattle.mail_records.specs.declared.edits.Edit.{Edit}
 use Rattle.mail_records.specs.declared.edits.Edit.TheVariants.{PutMailbox, DropMailbox, PutEmail, DropEmail, PutThread, DropThread}
 use Rattle.mail_records.specs.declared.records.Email.{Email}
@@ -22,30 +19,30 @@ use Rattle.mail_counts.specs.CountsFlag.{AreCountsFlagsRight}
 use Rattle.mail_counts.specs.Derived.{AllKeepCounts, LeavesEmails}
 use Rattle.mail_counts.specs.DerivedEdits.{derived_edits}
 use Rattle.mail_counts.specs.Plans.{Ground, present_state}
-use Rattle.mail_counts.specs.Tidy.{IsTidy, IsTidyEmail, IsThere, ancestor, parent_of}
-use Rattle.mail_counts.specs.TidyBut.{AreMailboxesTidyButCounts, IsPlacedBelow, IsTidyButThreadsAndCounts, LeaveTidyButThreadsAndCounts, LeavesThreads}
+use Rattle.mail_counts.specs.Tidy.{IsTidy, IsTidyEmail, ancestor, parent_of}
+use Rattle.mail_counts.specs.TidyBut.{IsPlacedBelow, IsTidyButThreadsAndCounts, LeaveTidyButThreadsAndCounts, LeavesThreads}
 use Rattle.mail_counts.specs.Touched.{is_one_of, threads_named, touched_threads}
 use Rattle.mail_counts.proofs.Growth.{lookup-above}
 use Rattle.mail_counts.proofs.Followed.{derived_flags, derived_leaves}
 use Rattle.mail_counts.proofs.TidyAgain.{made_tidy}
-use Rattle.method_args.specs.declared.TheConstants.{MAX_OBJECTS_PER_CALL}
-use Rattle.mailbox_set.specs.Arguments.{account_in, if_in_state}
-use Rattle.mailbox_set.specs.Creates.{Create}
-use Rattle.mailbox_set.specs.Plans.{Outcome, Plan, invalid, is_other_state, planned, state_mismatch, too_large}
+use Rattle.set_parts.specs.Arguments.{Create, account_in}
+use Rattle.set_parts.specs.Outcomes.{Plan, planned}
+use Rattle.set_parts.specs.Responses.{HasNewState}
+use Rattle.set_parts.specs.declared.set_errors.SetError.{SetError}
+use Rattle.set_parts.proofs.Parts.{all_append, all_push}
+use Rattle.set_parts.proofs.Rejecting.{plan_of_planned}
 use Rattle.mail_summary.specs.Summaries.{summary}
 use Rattle.thread_assign.specs.Threads.{joined_thread}
-use Rattle.plan_promises.specs.Planned.{AllKeepMessages, HaveOneMessage, IsDelivered, IsFiled, IsPlanned, KeepsMessage, PutsEmail, PutsNewEmail}
+use Rattle.plan_promises.specs.Planned.{AllKeepMessages, IsDelivered, IsFiled, IsPlanned, KeepsMessage, PutsEmail, PutsNewEmail}
 use Rattle.plan_promises.proofs.Planned.{planned_mailboxes, threads_kept}
-use Rattle.mail_import.specs.Arguments.{imports_in, invalid_argument}
-use Rattle.mail_import.specs.Imports.{Progress, after_check, after_import, after_imports, after_made, email_of, next_after, no_source, refusal_of, thread_for}
-use Rattle.mail_import.specs.Plans.{HasNewState, all_edits, beginning, import_outcome, outcome_of_arguments, outcome_of_imports, outcome_of_members, plan_after}
+use Rattle.mail_import.specs.Arguments.{count_imports, forms, imports_in}
+use Rattle.mail_import.specs.Imports.{Progress, after_check, after_import, after_imports, after_made, email_of, error_of, next_after, no_blob, thread_for}
+use Rattle.mail_import.specs.Plans.{all_edits, beginning, import_outcome, plan_after, plan_in}
 use Rattle.mail_import.specs.Properties.{sent_in}
-use Rattle.mail_import.specs.declared.refusal.Refusal.{Refusal}
 use Rattle.mail_import.proofs.Accepting.{IsNewEmail, new_email}
 use Rattle.mail_import.proofs.Following.{Fits-new_email, emails-new, not_there, numbered-new}
 use Rattle.mail_import.proofs.Joining.{joined_known}
 use Rattle.mail_import.proofs.NewThreads.{AreNamed, named_push, one_push, threads_next}
-use Rattle.mail_import.proofs.Parts.{all_append, all_push}
 
 -- ---- what each edit of an import is
 
@@ -244,7 +241,7 @@ led_made blobs c s creation e led new is =
       named = named_more c s.edits e o s.next_thread is up taken.1 led.named;
     }
 
-led_check : (blobs : List (List ℕ)) (c : Content) (s : Progress) (creation : List ℕ) (e : Email) (o : Option Refusal) → Led blobs c s → (o ≡ None → IsNewEmail blobs s.content e) → e.thread ≡ thread_for s e.summary
+led_check : (blobs : List (List ℕ)) (c : Content) (s : Progress) (creation : List ℕ) (e : Email) (o : Option SetError) → Led blobs c s → (o ≡ None → IsNewEmail blobs s.content e) → e.thread ≡ thread_for s e.summary
     → Led blobs c (after_check s creation e o)
 led_check blobs c s creation e None led new is = led_made blobs c s creation e led (new refl) is
 led_check blobs c s creation e (Some r) led new is = record {
@@ -263,7 +260,7 @@ led_imports blobs moment c [] s le led = led
 led_imports blobs moment c (x ∷ xs) s le led =
     let a = sent_in blobs s.content s.made x.members in
     led_imports blobs moment c xs (after_import blobs moment s x) le
-    (led_check blobs c s x.creation (email_of s moment a (unwrap_or a.source no_source)) (refusal_of (length s.content.emails) a) led
+    (led_check blobs c s x.creation (email_of s moment a (unwrap_or a.blob no_blob)) (error_of (length s.content.emails) a) led
     (λ none. new_email blobs moment s x.members le none) refl)
 
 -- ---- where they begin
@@ -349,19 +346,19 @@ promised_edits blobs c s tidy puts led =
     fit_rest [] more d fit = fit
     fit_rest (e ∷ es) more d fit = fit_rest es more (after_edit d e) fit.1
 
-puts_check : (s : Progress) (creation : List ℕ) (e : Email) (o : Option Refusal) → AllByRecursion puts_email s.edits → AllByRecursion puts_email (after_check s creation e o).edits
+puts_check : (s : Progress) (creation : List ℕ) (e : Email) (o : Option SetError) → AllByRecursion puts_email s.edits → AllByRecursion puts_email (after_check s creation e o).edits
 puts_check s creation e None all = all_push puts_email s.edits (PutEmail e false) all refl
 puts_check s creation e (Some r) all = all
 
 puts_imports : (blobs : List (List ℕ)) (moment : ℕ) (xs : List Create) (s : Progress) → AllByRecursion puts_email s.edits → AllByRecursion puts_email (after_imports blobs moment s xs).edits
 puts_imports blobs moment [] s all = all
 puts_imports blobs moment (x ∷ xs) s all =
-    puts_imports blobs moment xs (after_import blobs moment s x) (puts_check s x.creation _ (refusal_of (length s.content.emails) (sent_in blobs s.content s.made x.members)) all)
+    puts_imports blobs moment xs (after_import blobs moment s x) (puts_check s x.creation _ (error_of (length s.content.emails) (sent_in blobs s.content s.made x.members)) all)
 
 -- what a plan is promised to be
 pub record Promised (g : Ground) (blobs : List (List ℕ)) (moment : ℕ) (p : Plan) : Type 0 where
   pub planned : moment ≤ last_moment → IsTidy g.content → IsPlanned summary blobs g.content p.edits
-  pub new_state : HasNewState g p.reply p.edits
+  pub new_state : HasNewState OfEmail g p.reply p.edits
   pub flags : AreTables g.content → AreCountsFlagsRight g.content p.edits
 
 promised_imports : (g : Ground) (blobs : List (List ℕ)) (made : List Created) (moment : ℕ) (account : List ℕ) (xs : List Create) → Promised g blobs moment (plan_after g account (after_imports blobs moment (beginning g.content made) xs))
@@ -376,36 +373,10 @@ promised_imports g blobs made moment account xs =
           (derived_flags c (after_edits c s.edits) (touched_threads s.edits) (AreTables-after_edits s.edits c tables).mailboxes);
     }
 
-planned_same : (p q : Plan) → planned p ≡ planned q → p ≡ q
-planned_same p q e = cc
-
-not_large : (p : Plan) → too_large ≢ planned p
-not_large p e = cc
-
-not_mismatch : (p : Plan) → state_mismatch ≢ planned p
-not_mismatch p e = cc
-
-not_invalid : (k : List ℕ) (p : Plan) → invalid k ≢ planned p
-not_invalid k p e = cc
-
-promised_at : (g : Ground) (blobs : List (List ℕ)) (moment : ℕ) (a b : Bool) (p q : Plan) → Promised g blobs moment p → (if a then too_large else (if b then state_mismatch else planned p)) ≡ planned q → Promised g blobs moment q
-promised_at g blobs moment true b p q h e = absurd (not_large q e)
-promised_at g blobs moment false true p q h e = absurd (not_mismatch q e)
-promised_at g blobs moment false false p q h e = subst (Promised g blobs moment) (planned_same p q e) h
-
-promised_arguments : (g : Ground) (blobs : List (List ℕ)) (made : List Created) (moment : ℕ) (ms : List (List ℕ × Tree)) (o : Option (List ℕ)) (q : Plan) → outcome_of_arguments g blobs made moment ms o ≡ planned q → Promised g blobs moment q
-promised_arguments g blobs made moment ms (Some k) q e = absurd (not_invalid k q e)
-promised_arguments g blobs made moment ms None q e =
-    let xs = imports_in ms in
-    promised_at g blobs moment (nat_lt MAX_OBJECTS_PER_CALL (length xs)) (is_other_state (present_state OfEmail g) (if_in_state ms)) (plan_after g (account_in ms) (after_imports blobs moment (beginning g.content made) xs)) q
-    (promised_imports g blobs made moment (account_in ms) xs) e
-
-promised_members : (g : Ground) (blobs : List (List ℕ)) (made : List Created) (moment : ℕ) (o : Option (List (List ℕ × Tree))) (q : Plan) → outcome_of_members g blobs made moment o ≡ planned q → Promised g blobs moment q
-promised_members g blobs made moment None q e = absurd (not_invalid [] q e)
-promised_members g blobs made moment (Some ms) q e = promised_arguments g blobs made moment ms (invalid_argument ms) q e
-
 pub promised : (g : Ground) (blobs : List (List ℕ)) (args : Tree) (made : List Created) (moment : ℕ) (q : Plan) → import_outcome g blobs args made moment ≡ planned q → Promised g blobs moment q
-promised g blobs args made moment q e = promised_members g blobs made moment (as_object args) q e
+promised g blobs args made moment q e =
+    plan_of_planned (Promised g blobs moment) forms count_imports (present_state OfEmail g) (plan_in g blobs made moment)
+    (λ ms. promised_imports g blobs made moment (account_in ms) (imports_in ms)) args q e
 
 -- a plan promises what plans do, at each moment up to the end of the year 9999
 pub planned_import : (g : Ground) (blobs : List (List ℕ)) (args : Tree) (made : List Created) (moment : ℕ) (p : Plan) → moment ≤ last_moment → IsTidy g.content → import_outcome g blobs args made moment ≡ planned p

@@ -1,12 +1,10 @@
 -- The arguments of an Email/import, and its imports (RFC 8621, 4.8).
-use Rattle.std.specs.Prelude.{ℕ, List, [], ◌∷◌, Option, unwrap_or, codes}
-use Rattle.std.specs.List.{filter_map}
+use Rattle.std.specs.Prelude.{ℕ, List, [], ◌∷◌, length, codes}
 use Rattle.jm_json.specs.Tree.{Tree}
-use Rattle.method_args.specs.Arguments.{Form, find_invalid, object_in}
+use Rattle.method_args.specs.Arguments.{Form}
 use Rattle.method_args.specs.declared.form.Presence.TheVariants.{Required, Nullable}
 use Rattle.method_args.specs.declared.form.Shape.TheVariants.{String, Objects}
-use Rattle.mailbox_set.specs.Arguments.{create_in}
-use Rattle.mailbox_set.specs.Creates.{Create}
+use Rattle.set_parts.specs.Arguments.{Create, creates_named}
 
 -- The arguments in byte order, in which they are checked.
 abbrev pub forms : List Form
@@ -16,10 +14,10 @@ forms =
     ∷ record { name = codes "ifInState"; presence = Nullable; shape = String }
     ∷ []
 
--- the first argument in byte order that is missing or does not have its form
-abbrev pub invalid_argument : List (List ℕ × Tree) → Option (List ℕ)
-invalid_argument ms = find_invalid forms ms
-
 -- the imports, each an EmailImport object under its creation id, in byte order of these
 abbrev pub imports_in : List (List ℕ × Tree) → List Create
-imports_in ms = filter_map create_in (unwrap_or (object_in (codes "emails") ms) [])
+imports_in ms = creates_named (codes "emails") ms
+
+-- how many imports there are
+abbrev pub count_imports : List (List ℕ × Tree) → ℕ
+count_imports ms = length (imports_in ms)

@@ -1,10 +1,10 @@
--- One import: why it is refused, the email that it creates, and what is reported of it (RFC 8621,
+-- One import: why it is rejected, the email that it creates, and what is reported of it (RFC 8621,
 -- 4.8; RFC 8620, 5.3).
 use Rattle.std.specs.Prelude.{ℕ, pos, ◌+◌, List, [], ◌∷◌, ◌++◌, length, Bool, false, not, ◌||◌, nat_lt, nat_le, Option, Some, None, is_some, unwrap_or, if◌then◌else◌, codes}
 use Rattle.jm_base.specs.Ids.{id_text}
 use Rattle.jm_base.specs.declared.identifiers.UtcDate.{UtcDate}
 use Rattle.jm_base.specs.declared.identifiers.Kind.TheVariants.{Email as OfEmail, Thread as OfThread}
-use Rattle.jm_json.specs.Tree.{Tree, number, text, list, object, trees_of, fields_of}
+use Rattle.jm_json.specs.Tree.{Tree, number, text, object, fields_of}
 use Rattle.jm_json.specs.Order.{put}
 use Rattle.jm_json.specs.declared.invocation.Created.{Created}
 use Rattle.blob_ids.specs.BlobIds.{blob_id_text}
@@ -16,21 +16,22 @@ use Rattle.mail_records.specs.declared.records.Email.{Email}
 use Rattle.mail_records.specs.declared.records.Summary.{Summary}
 use Rattle.mail_records.specs.declared.edits.Edit.{Edit}
 use Rattle.mail_records.specs.declared.edits.Edit.TheVariants.{PutEmail}
-use Rattle.mail_summary.specs.Received.{received as received_moment}
+use Rattle.mail_summary.specs.Received.{received}
 use Rattle.mail_summary.specs.Summaries.{summary}
 use Rattle.thread_assign.specs.Threads.{joined_thread}
-use Rattle.mailbox_set.specs.Creates.{Create}
-use Rattle.mail_import.specs.Properties.{Sent, Source, date_of, sent_in}
-use Rattle.mail_import.specs.declared.refusal.Faults.{Faults}
-use Rattle.mail_import.specs.declared.refusal.Refusal.{Refusal}
-use Rattle.mail_import.specs.declared.refusal.Refusal.TheVariants.{Invalid, TooManyKeywords, TooManyMailboxes, OverQuota}
+use Rattle.set_parts.specs.Arguments.{Create}
+use Rattle.set_parts.specs.SetErrors.{error_tree}
+use Rattle.set_parts.specs.declared.set_errors.SetError.{SetError}
+use Rattle.set_parts.specs.declared.set_errors.SetError.TheVariants.{InvalidProperties, TooManyKeywords, TooManyMailboxes, OverQuota}
+use Rattle.mail_import.specs.Properties.{NamedBlob, Sent, date_of, sent_in}
+use Rattle.mail_import.specs.declared.errors.Faults.{Faults}
 
--- ---- refusals
+-- ---- errors
 
 -- which properties are invalid
 abbrev pub faults_of : Sent → Faults
 faults_of a = record {
-  blob = not (is_some a.source);
+  blob = not (is_some a.blob);
   keywords = not (is_some a.keywords);
   mailboxes = not (is_some a.mailboxes);
   received = not (is_some a.received);
@@ -39,11 +40,23 @@ faults_of a = record {
 abbrev pub is_faulty : Faults → Bool
 is_faulty f = f.blob || f.keywords || f.mailboxes || f.received
 
--- Why an import is refused that would be one more of so many emails: the first reason in this
--- order. None if it creates its email.
-abbrev pub refusal_of : ℕ → Sent → Option Refusal
-refusal_of emails a =
-    if is_faulty (faults_of a) then Some (Invalid (faults_of a))
+-- the name of a property, if it is invalid
+abbrev pub name_if : Bool → List ℕ → List (List ℕ)
+name_if invalid name = if invalid then name ∷ [] else []
+
+-- the names of the invalid properties, in byte order
+abbrev pub invalid_names : Faults → List (List ℕ)
+invalid_names f =
+    ((name_if f.blob (codes "blobId")
+    ++ name_if f.keywords (codes "keywords"))
+    ++ name_if f.mailboxes (codes "mailboxIds"))
+    ++ name_if f.received (codes "receivedAt")
+
+-- The error of an import that would be one more of so many emails: the first one in this order
+-- (RFC 8620, 5.3; RFC 8621, 4.6 and 4.8). None if it creates its email.
+abbrev pub error_of : ℕ → Sent → Option SetError
+error_of emails a =
+    if is_faulty (faults_of a) then Some (InvalidProperties (invalid_names (faults_of a)))
     else (if nat_lt MAX_KEYWORDS_PER_EMAIL (length (unwrap_or a.keywords []))
     then Some TooManyKeywords
     else (if nat_lt MAX_MAILBOXES_PER_EMAIL (length (unwrap_or a.mailboxes []))
@@ -51,43 +64,17 @@ refusal_of emails a =
     else (if nat_le MAX_EMAILS_PER_ACCOUNT emails then Some OverQuota
     else None)))
 
--- the name of a property, if it is invalid
-abbrev pub name_if : Bool → List ℕ → List Tree
-name_if invalid name = if invalid then text name ∷ [] else []
-
--- the names of the invalid properties, in byte order
-abbrev pub invalid_names : Faults → List Tree
-invalid_names f =
-    ((name_if f.blob (codes "blobId")
-    ++ name_if f.keywords (codes "keywords"))
-    ++ name_if f.mailboxes (codes "mailboxIds"))
-    ++ name_if f.received (codes "receivedAt")
-
--- a SetError of this type, with nothing else
-abbrev pub error_of_type : List ℕ → Tree
-error_of_type name = object (fields_of ((codes "type", text name) ∷ []))
-
--- the SetError of a refusal (RFC 8620, 5.3; RFC 8621, 4.6 and 4.8)
-abbrev pub error_tree : Refusal → Tree
-error_tree (Invalid f) =
-    object (fields_of
-    ((codes "properties", list (trees_of (invalid_names f)))
-    ∷ (codes "type", text (codes "invalidProperties")) ∷ []))
-error_tree TooManyKeywords = error_of_type (codes "tooManyKeywords")
-error_tree TooManyMailboxes = error_of_type (codes "tooManyMailboxes")
-error_tree OverQuota = error_of_type (codes "overQuota")
-
 -- ---- the email
 
 -- When the email was received: the date that is sent, else that of the newest Received field of the
--- message, which is its first, else the moment of the call, in seconds since the beginning of 1970
--- (RFC 8621, 4.8: receivedAt).
-abbrev pub received_at : ℕ → List ℕ → Option UtcDate → UtcDate
-received_at moment bytes (Some date) = date
-received_at moment bytes None = unwrap_or (received_moment bytes) (date_of (pos moment))
+-- message, which is its first, else the timestamp of the call in Unix seconds (RFC 8621, 4.8:
+-- receivedAt).
+abbrev pub received_at : ℕ → Option UtcDate → Option UtcDate → UtcDate
+received_at moment field (Some date) = date
+received_at moment field None = unwrap_or field (date_of (pos moment))
 
-abbrev pub no_source : Source
-no_source = record { number = 0; bytes = [] }
+abbrev pub no_blob : NamedBlob
+no_blob = record { number = 0; bytes = [] }
 
 -- How far the imports of a call have come: the content with the emails that they created, the next
 -- number of a thread, what the request has created up to here and what this call has created of it,
@@ -99,7 +86,7 @@ pub record Progress : Type 0 where
   pub fresh : List Created
   pub edits : List Edit
   pub created : List (List ℕ × Tree)
-  pub refused : List (List ℕ × Tree)
+  pub not_created : List (List ℕ × Tree)
 
 -- The thread of a new email with this summary: the one that it joins, also one that an email of the
 -- same call began, else the next one (RFC 8621, 3).
@@ -111,7 +98,7 @@ abbrev pub next_after : Option ℕ → ℕ → ℕ
 next_after joined next = if is_some joined then next else next + 1
 
 -- the email of a message that is imported with these properties
-abbrev pub email_of : Progress → ℕ → Sent → Source → Email
+abbrev pub email_of : Progress → ℕ → Sent → NamedBlob → Email
 email_of s moment a message = record {
   number = s.content.next_email;
   thread = thread_for s (summary message.bytes);
@@ -119,7 +106,7 @@ email_of s moment a message = record {
   mailboxes = unwrap_or a.mailboxes [];
   keywords = unwrap_or a.keywords [];
   size = length message.bytes;
-  received = received_at moment message.bytes (unwrap_or a.received None);
+  received = received_at moment (received message.bytes) (unwrap_or a.received None);
   summary = summary message.bytes;
 }
 
@@ -157,18 +144,18 @@ after_made s creation e = record s {
   created = put creation (created_tree e) s.created;
 }
 
--- after an import that is refused, or else creates this email
-abbrev pub after_check : Progress → List ℕ → Email → Option Refusal → Progress
+-- after an import that is rejected, or else creates this email
+abbrev pub after_check : Progress → List ℕ → Email → Option SetError → Progress
 after_check s creation e None = after_made s creation e
-after_check s creation e (Some refusal) =
-    record s { refused = put creation (error_tree refusal) s.refused }
+after_check s creation e (Some error) =
+    record s { not_created = put creation (error_tree error) s.not_created }
 
--- After an import, in an account with these blobs, at this moment.
+-- After an import into an account with these blobs, at this timestamp in Unix seconds.
 abbrev pub after_import : List (List ℕ) → ℕ → Progress → Create → Progress
 after_import blobs moment s x =
     let a = sent_in blobs s.content s.made x.members in
-    after_check s x.creation (email_of s moment a (unwrap_or a.source no_source))
-    (refusal_of (length s.content.emails) a)
+    after_check s x.creation (email_of s moment a (unwrap_or a.blob no_blob))
+    (error_of (length s.content.emails) a)
 
 -- after imports, one after the other
 abbrev pub after_imports : List (List ℕ) → ℕ → Progress → List Create → Progress

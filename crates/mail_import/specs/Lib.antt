@@ -2,5 +2,5 @@ pub mod Properties
 pub mod Imports
 pub mod Arguments
 pub mod Plans
-pub mod News
+pub mod NewEmails
 pub mod Views

@@ -1,31 +1,29 @@
 -- The response to an Email/import and its edits (RFC 8621, 4.8; RFC 8620, 5.3).
-use Rattle.std.specs.Prelude.{◌≡◌, ℕ, List, [], ◌∷◌, ◌++◌, length, nat_lt, Option, Some, None, if◌then◌else◌, codes}
+use Rattle.std.specs.Prelude.{ℕ, List, [], ◌∷◌, ◌++◌, codes}
 use Rattle.jm_base.specs.Ids.{state_text}
 use Rattle.jm_base.specs.declared.identifiers.Kind.TheVariants.{Email as OfEmail}
 use Rattle.jm_json.specs.Tree.{Tree, text, object, fields_of}
-use Rattle.jm_json.specs.Find.{as_object}
 use Rattle.jm_json.specs.declared.invocation.Created.{Created}
 use Rattle.mail_records.specs.Contents.{Content}
 use Rattle.mail_records.specs.Histories.{History, blobs_of}
 use Rattle.mail_records.specs.declared.edits.Edit.{Edit}
 use Rattle.mail_counts.specs.DerivedEdits.{derived_edits}
 use Rattle.mail_counts.specs.Plans.{Ground, ground_of_history, present_state, state_after}
-use Rattle.method_args.specs.declared.TheConstants.{MAX_OBJECTS_PER_CALL}
-use Rattle.mailbox_set.specs.Arguments.{account_in, if_in_state}
-use Rattle.mailbox_set.specs.Creates.{Create}
-use Rattle.mailbox_set.specs.Plans.{Outcome, Plan, invalid, is_other_state, member_named, object_or_null, planned, state_mismatch, too_large}
-use Rattle.mail_import.specs.Arguments.{imports_in, invalid_argument}
+use Rattle.set_parts.specs.Arguments.{account_in}
+use Rattle.set_parts.specs.Outcomes.{Outcome, Plan, outcome_by}
+use Rattle.set_parts.specs.Responses.{object_or_null}
+use Rattle.mail_import.specs.Arguments.{count_imports, forms, imports_in}
 use Rattle.mail_import.specs.Imports.{Progress, after_imports}
 
 -- the arguments of the response: the account, the states before and after, what was created, and
 -- what was not
 abbrev pub reply_members : List ℕ → ℕ → ℕ → List (List ℕ × Tree) → List (List ℕ × Tree)
     → List (List ℕ × Tree)
-reply_members account before after created refused =
+reply_members account before after created not_created =
     (codes "accountId", text account)
     ∷ (codes "created", object_or_null created)
     ∷ (codes "newState", text (state_text after))
-    ∷ (codes "notCreated", object_or_null refused)
+    ∷ (codes "notCreated", object_or_null not_created)
     ∷ (codes "oldState", text (state_text before))
     ∷ []
 
@@ -42,7 +40,7 @@ beginning c made = record {
   fresh = [];
   edits = [];
   created = [];
-  refused = [];
+  not_created = [];
 }
 
 -- the plan of imports
@@ -50,45 +48,24 @@ abbrev pub plan_after : Ground → List ℕ → Progress → Plan
 plan_after g account s = record {
   reply = object (fields_of
       (reply_members account (present_state OfEmail g)
-      (state_after OfEmail g (all_edits g.content s)) s.created s.refused));
+      (state_after OfEmail g (all_edits g.content s)) s.created s.not_created));
   edits = all_edits g.content s;
   made = s.fresh;
 }
 
--- The outcome of arguments that have their forms: whether there are too many imports, then the
--- state, then the imports.
-abbrev pub outcome_of_imports : Ground → List (List ℕ) → List Created → ℕ → List ℕ
-    → Option (List ℕ) → List Create → Outcome
-outcome_of_imports g blobs made moment account wanted imports =
-    if nat_lt MAX_OBJECTS_PER_CALL (length imports) then too_large
-    else (if is_other_state (present_state OfEmail g) wanted then state_mismatch
-    else planned
-    (plan_after g account (after_imports blobs moment (beginning g.content made) imports)))
-
-abbrev pub outcome_of_arguments : Ground → List (List ℕ) → List Created → ℕ
-    → List (List ℕ × Tree) → Option (List ℕ) → Outcome
-outcome_of_arguments g blobs made moment ms (Some name) = invalid name
-outcome_of_arguments g blobs made moment ms None =
-    outcome_of_imports g blobs made moment (account_in ms) (if_in_state ms) (imports_in ms)
-
-abbrev pub outcome_of_members : Ground → List (List ℕ) → List Created → ℕ
-    → Option (List (List ℕ × Tree)) → Outcome
-outcome_of_members g blobs made moment None = invalid []
-outcome_of_members g blobs made moment (Some ms) =
-    outcome_of_arguments g blobs made moment ms (invalid_argument ms)
+-- The plan of imports that are not rejected as a whole.
+abbrev pub plan_in : Ground → List (List ℕ) → List Created → ℕ → List (List ℕ × Tree) → Plan
+plan_in g blobs made moment ms =
+    plan_after g (account_in ms)
+    (after_imports blobs moment (beginning g.content made) (imports_in ms))
 
 -- The outcome of an Email/import with these arguments, on an account with these blobs, with what
--- the request has created up to here, at a moment in seconds since the beginning of 1970.
+-- the request has created up to here, at a timestamp in Unix seconds.
 abbrev pub import_outcome : Ground → List (List ℕ) → Tree → List Created → ℕ → Outcome
-import_outcome g blobs args made moment = outcome_of_members g blobs made moment (as_object args)
+import_outcome g blobs args made moment =
+    outcome_by forms count_imports (present_state OfEmail g) (plan_in g blobs made moment) args
 
 -- the same, of an account with this history, at its end
 abbrev pub import_in : History → Tree → List Created → ℕ → Outcome
 import_in h args made moment =
     import_outcome (ground_of_history h) (blobs_of h) args made moment
-
--- The new state of a plan is the state of the emails after the plan's edits (RFC 8621, 4.8:
--- `newState`).
-abbrev pub HasNewState : Ground → Tree → List Edit → Type 0
-HasNewState g reply edits =
-    member_named (codes "newState") reply ≡ Some (text (state_text (state_after OfEmail g edits)))

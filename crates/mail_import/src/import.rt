@@ -1,56 +1,54 @@
 // Performs imports (RFC 8621, section 4.8).
-ghost use Rattle.std.specs.Prelude.{◌≡◌, ◌+◌, ◌<◌, ◌^◌, IfOk, OnOk, ℕ, length, map, option_map, unwrap_or};
+ghost use Rattle.std.specs.Prelude.{◌≡◌, ◌+◌, ◌<◌, ◌^◌, ◌++◌, ◌∷◌, [], IfOk, List, OnOk, ℕ, length, map, option_map, unwrap_or};
 ghost use Rattle.std.specs.Option.{option_or};
 ghost use Rattle.jm_json.specs.Order.{put};
-ghost use Rattle.mail_records.specs.Contents.{Content as TheContent};
+ghost use Rattle.jm_json.specs.declared.invocation.Created.{Created as TheCreated};
+ghost use Rattle.mail_records.specs.Contents.{AreNumbered, Content as TheContent};
+ghost use Rattle.mail_records.specs.declared.records.Summary.{Summary as TheSummary};
 ghost use Rattle.thread_assign.specs.Threads.{joined_thread};
-ghost use Rattle.mail_import.specs.Imports.{Progress, after_import, after_imports, after_made, email_of, error_tree, next_after, no_source, received_at, thread_for};
-ghost use Rattle.mail_import.specs.Views.{create_of, Follows, HasNumbersFor, sent_of, source_of};
+ghost use Rattle.set_parts.specs.SetErrors.{error_tree};
+ghost use Rattle.set_parts.specs.Views.{HoldIds, create_of};
+ghost use Rattle.mail_import.specs.NewEmails.{thread_if_related};
+ghost use Rattle.mail_import.specs.Imports.{Progress, after_import, after_imports, after_made, created_tree, email_of, made_under, next_after, no_blob, received_at, thread_for};
+ghost use Rattle.mail_import.specs.Views.{Follows, HasNumbersFor, blob_of, sent_of};
 
-use crate::arguments::Draft;
-use crate::creation_ids::{note_id, read_mailbox_number};
-use crate::news::add_new_email;
+use crate::errors::find_error;
+use crate::new_emails::add_new_email;
 use crate::planner::{Planner, Setting};
-use crate::properties::{Sent, Source, read_sent};
-use crate::refusal::{Refusal, build_error, find_refusal};
+use crate::properties::{NamedBlob, Sent, read_sent};
 use crate::response::{build_created, build_created_object};
 use jm_base::{NoMemory, Numbers, Text, Texts, UtcDate};
+use jm_json::{Created, Members};
 use mail_records::{Content, Edit, Email, Summary};
-use mail_summary::{received_of, summary_of};
+use mail_summary::read_summary_and_receipt;
+use set_parts::{CreatedIds, SentCreate, SetError, build_error, note_id, read_mailbox_number};
 use std::alloc::Global;
 use thread_assign::thread_in;
 
 // Returns when an email was received: the date that is sent, else that of the newest Received
-// field, else the moment of the call.
-fn find_received(
-    alloc: Global,
-    sent: Option<UtcDate>,
-    bytes: &[u8],
-    moment: u64,
-) -> Result<UtcDate, NoMemory>
+// field, else the timestamp of the call.
+fn find_received(sent: Option<UtcDate>, field: Option<UtcDate>, moment: u64) -> UtcDate
     requires { moment < 2 ^ 63 }
-    ensures { IfOk result (λ d. d ≡ received_at moment bytes.now sent) }
+    ensures { result ≡ received_at moment field sent }
 {
+    let call = UtcDate {
+        seconds: moment as i64,
+    };
     match sent {
-        Some(date) => Ok(date),
-        None => {
-            let call = UtcDate {
-                seconds: moment as i64,
-            };
-            Ok(received_of(alloc, bytes)?.unwrap_or(call))
-        }
+        Some(date) => date,
+        None => field.unwrap_or(call),
     }
 }
 
 // Returns the thread that a new email with this summary joins, of the account's or of those that
 // the call began.
-fn find_thread(content: &Content, news: &Content, summary: &Summary) -> Option<u64>
+fn find_thread(content: &Content, new_emails: &Content, summary: &Summary) -> Option<u64>
     ensures { result ≡ option_or (joined_thread content.now.content.emails summary.now)
-        (joined_thread news.now.content.emails summary.now) }
+        (joined_thread new_emails.now.content.emails summary.now) }
 {
     match thread_in(content, summary) {
         Some(thread) => Some(thread),
-        None => thread_in(news, summary),
+        None => thread_in(new_emails, summary),
     }
 }
 
@@ -64,98 +62,150 @@ fn count_thread(joined: Option<u64>, next: u64) -> u64
     }
 }
 
+// A new email, and the thread that it joins. None if it begins a thread.
+struct NewEmail {
+    item: Email,
+    joined: Option<u64>,
+}
+
 fn build_email<'a>(
     alloc: Global,
     setting: &Setting<'a>,
     planner: &Planner<'a>,
     sent: Sent<'a>,
-    source: Source<'a>,
-) -> Result<Email, NoMemory>
+    blob: NamedBlob<'a>,
+) -> Result<NewEmail, NoMemory>
     requires { setting.now.moment < 2 ^ 63 }
     ensures email { IfOk result
         (λ e. (s : Progress) → Follows setting.now.content.now.content planner.now s
-        → e ≡ email_of s setting.now.moment (sent_of sent.entry) (source_of source.entry)) }
-    ensures size { IfOk result (λ e. e.size < 2 ^ 63) }
+        → e.item ≡ email_of s setting.now.moment (sent_of sent.entry) (blob_of blob.entry)) }
+    ensures joined { IfOk result
+        (λ e. (s : Progress) → Follows setting.now.content.now.content planner.now s
+        → e.joined ≡ joined_thread s.content.emails e.item.summary) }
+    ensures size { IfOk result (λ e. e.item.size < 2 ^ 63) }
 {
     let Sent {
-        source: _,
+        blob: _,
         keywords,
         mailboxes,
         received,
     } = sent;
-    let summary = summary_of(alloc, source.bytes)?;
+    let message = read_summary_and_receipt(alloc, blob.bytes)?;
     let date = received.unwrap_or(None);
-    let received = find_received(alloc, date, source.bytes, setting.moment)?;
-    let thread = find_thread(setting.content, &planner.news, &summary);
-    Ok(Email {
+    let received = find_received(date, message.received, setting.moment);
+    let summary = message.summary;
+    let joined = find_thread(setting.content, &planner.new_emails, &summary);
+    let item = Email {
         number: planner.next_email,
-        thread: thread.unwrap_or(planner.next_thread),
-        blob: source.number,
+        thread: joined.unwrap_or(planner.next_thread),
+        blob: blob.number,
         mailboxes: mailboxes.unwrap_or(Numbers::new(alloc)),
         keywords: keywords.unwrap_or(Texts::new(alloc)),
-        size: source.bytes.len() as u64,
+        size: blob.bytes.len() as u64,
         received,
         summary,
-    })
+    };
+    Ok(NewEmail { item, joined })
+}
+
+// Notes a new email under its creation id: what the id means, what was created and what is
+// reported of it, and its links.
+fn note_email<'a>(
+    alloc: Global,
+    ids: &mut CreatedIds<'a>,
+    fresh: &mut Vec<Created>,
+    new_emails: &mut Content,
+    created: &mut Members,
+    creation: &'a Text,
+    item: &Email,
+) -> Result<(), NoMemory>
+    requires numbered { AreNumbered new_emails.old.content }
+    requires next { new_emails.old.content.next_email + 1 < 2 ^ 64 }
+    requires size { item.now.size < 2 ^ 63 }
+    ensures ids { OnOk result ((made : List TheCreated) → HoldIds ids.old made
+        → HoldIds ids.new (made ++ made_under creation.now item.now ∷ [])) }
+    ensures fresh { OnOk result (fresh.new.items
+        ≡ fresh.old.items ++ made_under creation.now item.now ∷ []) }
+    ensures threads { OnOk result
+        ((u : TheSummary) → joined_thread new_emails.new.content.emails u
+        ≡ option_or (joined_thread new_emails.old.content.emails u)
+        (thread_if_related u item.now.thread item.now.summary)) }
+    ensures numbered { OnOk result (AreNumbered new_emails.new.content) }
+    ensures next { OnOk result
+        (new_emails.new.content.next_email ≡ new_emails.old.content.next_email + 1) }
+    ensures created { OnOk result (created.new
+        ≡ put creation.now (created_tree item.now) created.old) }
+{
+    let made = build_created(alloc, creation, item)?;
+    note_id(
+        ids,
+        creation.as_bytes(),
+        read_mailbox_number(made.id.as_bytes()),
+    )?;
+    fresh.push(made)?;
+    add_new_email(alloc, new_emails, item.thread, &item.summary)?;
+    let told = build_created_object(alloc, item)?;
+    created.put(creation.copy()?, told)?;
+    Ok(())
 }
 
 // Enters a new email under its creation id.
 fn enter_email<'a>(
     alloc: Global,
-    content: &Content,
     planner: &mut Planner<'a>,
     creation: &'a Text,
-    item: Email,
+    email: NewEmail,
 ) -> Result<(), NoMemory>
     requires numbers { HasNumbersFor 1 planner.old }
-    requires size { item.size < 2 ^ 63 }
+    requires size { email.item.size < 2 ^ 63 }
     ensures follows { OnOk result
-        ((s : Progress) → Follows content.now.content planner.old s
-        → item.number ≡ s.content.next_email → item.thread ≡ thread_for s item.summary
-        → Follows content.now.content planner.new (after_made s creation.now item)) }
+        ((c : TheContent) (s : Progress) → Follows c planner.old s
+        → email.item.number ≡ s.content.next_email
+        → email.item.thread ≡ thread_for s email.item.summary
+        → email.joined ≡ joined_thread s.content.emails email.item.summary
+        → Follows c planner.new (after_made s creation.now email.item)) }
     ensures numbers { OnOk result
         ((n : ℕ) → HasNumbersFor (n + 1) planner.old → HasNumbersFor n planner.new) }
 {
-    let joined = find_thread(content, &planner.news, &item.summary);
-    let told = build_created_object(alloc, &item)?;
-    let made = build_created(alloc, creation, &item)?;
-    note_id(
+    let NewEmail { item, joined } = email;
+    note_email(
+        alloc,
         &mut planner.ids,
-        creation.as_bytes(),
-        read_mailbox_number(made.id.as_bytes()),
+        &mut planner.fresh,
+        &mut planner.new_emails,
+        &mut planner.created,
+        creation,
+        &item,
     )?;
-    add_new_email(alloc, &mut planner.news, item.thread, &item.summary)?;
-    planner.fresh.push(made)?;
-    planner.created.put(creation.copy()?, told)?;
     planner.edits.push(Edit::PutEmail { item, was: false })?;
     planner.next_email = planner.next_email + 1;
     planner.next_thread = count_thread(joined, planner.next_thread);
     Ok(())
 }
 
-fn refuse_import<'a>(
+fn reject_import<'a>(
     alloc: Global,
     planner: &mut Planner<'a>,
     creation: &'a Text,
-    refusal: Refusal,
+    error: SetError,
 ) -> Result<(), NoMemory>
     ensures follows { OnOk result
         ((c : TheContent) (s : Progress) → Follows c planner.old s → Follows c planner.new
-        (record s { refused = put creation.now (error_tree refusal) s.refused })) }
+        (record s { not_created = put creation.now (error_tree error) s.not_created })) }
     ensures numbers { OnOk result
         ((n : ℕ) → HasNumbersFor (n + 1) planner.old → HasNumbersFor n planner.new) }
 {
-    let told = build_error(alloc, refusal)?;
-    planner.refused.put(creation.copy()?, told)?;
+    let told = build_error(alloc, error)?;
+    planner.not_created.put(creation.copy()?, told)?;
     Ok(())
 }
 
-fn source_or_none<'a>(source: Option<Source<'a>>) -> Source<'a>
-    ensures { source_of result ≡ unwrap_or (option_map source_of source.entry) no_source }
+fn blob_or_none<'a>(blob: Option<NamedBlob<'a>>) -> NamedBlob<'a>
+    ensures { blob_of result ≡ unwrap_or (option_map blob_of blob.entry) no_blob }
 {
-    match source {
-        Some(source) => source,
-        None => Source {
+    match blob {
+        Some(blob) => blob,
+        None => NamedBlob {
             number: 0,
             bytes: &[],
         },
@@ -177,13 +227,13 @@ fn import_email<'a>(
         → Follows setting.now.content.now.content planner.new
         (after_made s creation.now
         (email_of s setting.now.moment (sent_of sent.entry)
-        (unwrap_or (sent_of sent.entry).source no_source)))) }
+        (unwrap_or (sent_of sent.entry).blob no_blob)))) }
     ensures numbers { OnOk result
         ((n : ℕ) → HasNumbersFor (n + 1) planner.old → HasNumbersFor n planner.new) }
 {
-    let source = source_or_none(sent.source);
-    let item = build_email(alloc, setting, planner, sent, source)?;
-    enter_email(alloc, setting.content, planner, creation, item)
+    let blob = blob_or_none(sent.blob);
+    let email = build_email(alloc, setting, planner, sent, blob)?;
+    enter_email(alloc, planner, creation, email)
 }
 
 // Returns how many emails there are with those of the edits, each of which creates one.
@@ -199,14 +249,14 @@ pub fn perform_import<'a>(
     alloc: Global,
     setting: &Setting<'a>,
     planner: &mut Planner<'a>,
-    draft: &Draft<'a>,
+    import: &SentCreate<'a>,
 ) -> Result<(), NoMemory>
     requires numbers { HasNumbersFor 1 planner.old }
     requires moment { setting.now.moment < 2 ^ 63 }
     ensures follows { OnOk result
         ((s : Progress) → Follows setting.now.content.now.content planner.old s
         → Follows setting.now.content.now.content planner.new
-        (after_import setting.now.blobs.now.blobs setting.now.moment s (create_of draft.now))) }
+        (after_import setting.now.blobs.now.blobs setting.now.moment s (create_of import.now))) }
     ensures numbers { OnOk result
         ((n : ℕ) → HasNumbersFor (n + 1) planner.old → HasNumbersFor n planner.new) }
 {
@@ -215,12 +265,12 @@ pub fn perform_import<'a>(
         setting.blobs,
         setting.content,
         &planner.ids,
-        draft.members,
+        import.members,
     )?;
     let emails = count_emails(setting.content, planner.edits.as_slice());
-    match find_refusal(emails, &sent) {
-        Some(refusal) => refuse_import(alloc, planner, draft.creation, refusal),
-        None => import_email(alloc, setting, planner, draft.creation, sent),
+    match find_error(alloc, emails, &sent)? {
+        Some(error) => reject_import(alloc, planner, import.creation, error),
+        None => import_email(alloc, setting, planner, import.creation, sent),
     }
 }
 
@@ -229,18 +279,18 @@ pub fn perform_imports<'a>(
     alloc: Global,
     setting: &Setting<'a>,
     planner: &mut Planner<'a>,
-    drafts: &[Draft<'a>],
+    imports: &[SentCreate<'a>],
 ) -> Result<(), NoMemory>
-    requires numbers { HasNumbersFor (length drafts.now) planner.old }
+    requires numbers { HasNumbersFor (length imports.now) planner.old }
     requires moment { setting.now.moment < 2 ^ 63 }
     ensures { OnOk result
         ((s : Progress) → Follows setting.now.content.now.content planner.old s
         → Follows setting.now.content.now.content planner.new
         (after_imports setting.now.blobs.now.blobs setting.now.moment s
-        (map create_of drafts.now))) }
+        (map create_of imports.now))) }
 {
-    for i in 0..drafts.len() {
-        perform_import(alloc, setting, planner, &drafts[i])?;
+    for i in 0..imports.len() {
+        perform_import(alloc, setting, planner, &imports[i])?;
     }
     Ok(())
 }

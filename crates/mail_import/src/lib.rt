@@ -2,17 +2,14 @@
 #![tactic(auto)]
 
 mod arguments;
-mod creation_ids;
+mod errors;
 mod import;
-mod keywords;
-mod news;
+mod new_emails;
 mod plan;
 mod planner;
 mod properties;
-mod refusal;
 mod response;
-mod sets;
-#[cfg(test)]
-mod tests;
 
+pub use errors::find_error;
 pub use plan::{import_emails, plan_import};
+pub use properties::{NamedBlob, Sent};

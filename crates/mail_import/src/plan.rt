@@ -1,36 +1,36 @@
 // The plan of an Email/import (RFC 8621, section 4.8).
-ghost use Rattle.std.specs.Prelude.{◌≡◌, ◌≤◌, ◌+◌, ◌^◌, ◌<◌, IfErr, IfOk, MatchResult, length, map};
+ghost use Rattle.std.specs.Prelude.{◌≡◌, ◌≤◌, ◌+◌, ◌^◌, ◌<◌, IfErr, IfOk, MatchResult, Some, length, map};
+ghost use Rattle.jm_base.specs.declared.identifiers.TheConstants.{NUMBER_LIMIT};
 ghost use Rattle.jm_json.specs.Json.{tree_of};
 ghost use Rattle.mail_records.specs.Contents.{AreNumbered, AreTables};
-ghost use Rattle.mail_records.specs.Histories.{blobs_of, content_of};
+ghost use Rattle.mail_records.specs.Histories.{blobs_of, content_of, max_position};
 ghost use Rattle.mail_summary.specs.Summaries.{summary};
 ghost use Rattle.mail_counts.specs.CountsFlag.{AreCountsFlagsRight};
-ghost use Rattle.mail_counts.specs.Plans.{ground_of_history};
+ghost use Rattle.mail_counts.specs.Plans.{ground_of_history, present_state};
 ghost use Rattle.mail_counts.specs.Tidy.{IsTidy};
 ghost use Rattle.plan_promises.specs.Planned.{IsPlanned};
 ghost use Rattle.state_log.specs.Logs.{log_end};
 ghost use Rattle.account_book.specs.Accounts.{IsBounded};
 ghost use Rattle.account_book.specs.Plans.{last_moment};
-ghost use Rattle.mailbox_set.specs.Arguments.{account_in, if_in_state};
-ghost use Rattle.mailbox_set.specs.Plans.{ExplainsSet, ground_of, plan_of, planned};
-ghost use Rattle.mail_import.specs.Arguments.{imports_in, invalid_argument};
+ghost use Rattle.set_parts.specs.Outcomes.{ExplainsSet, ground_of, outcome_of_members, plan_of, planned};
+ghost use Rattle.set_parts.specs.Responses.{HasNewState};
+ghost use Rattle.set_parts.specs.Views.{create_of};
+ghost use Rattle.mail_import.specs.Arguments.{count_imports, forms};
 ghost use Rattle.mail_import.specs.Imports.{Progress, after_imports};
-ghost use Rattle.mail_import.specs.Plans.{HasNewState, beginning, import_in, import_outcome, outcome_of_arguments, outcome_of_imports, plan_after};
-ghost use Rattle.mail_import.specs.Views.{Follows, create_of};
+ghost use Rattle.mail_import.specs.Plans.{beginning, import_in, import_outcome, plan_after, plan_in};
+ghost use Rattle.mail_import.specs.Views.{Follows};
 
-use crate::arguments::{
-    Draft, find_invalid_argument, read_account_id, read_if_in_state, read_imports,
-};
+use crate::arguments::check_arguments;
 use crate::import::perform_imports;
 use crate::planner::{Planner, Setting, start_planner};
-use crate::response::{build_response, find_new_state, is_other_state};
+use crate::response::build_response;
 use account_book::Account;
 use blob_store::BlobList;
 use jm_base::{Kind, NoMemory, Text};
 use jm_json::{Created, Json, Made, Members};
 use mail_counts::{SetFault, SetPlan, derived};
 use mail_records::{Content, Edits};
-use method_args::MAX_OBJECTS_PER_CALL;
+use set_parts::{SentCreate, find_new_state, read_account_id, read_creates};
 use state_log::Log;
 use std::alloc::Global;
 
@@ -42,27 +42,29 @@ fn finish_plan<'a>(
     log: &Log,
     planner: Planner<'a>,
 ) -> Result<SetPlan, NoMemory>
-    requires last { log_end log.now ≤ 2 ^ 52 + 2 ^ 26 }
+    requires last { log_end log.now ≤ max_position }
     ensures { IfOk result
         (λ p. (s : Progress) → Follows content.now.content planner.entry s → plan_of p
         ≡ plan_after (ground_of content.now.content log.now) account.now s) }
 {
+    let more = derived(alloc, content, planner.edits.as_slice())?;
     let Planner {
         next_email: _,
         next_thread: _,
-        news: _news,
-        ids: _ids,
+        new_emails,
+        ids,
         fresh,
         edits,
         created,
-        refused,
+        not_created,
     } = planner;
-    let more = derived(alloc, content, edits.as_slice())?;
+    drop(new_emails);
+    drop(ids);
     let mut edits = Edits::from_vec(edits);
     edits.append(more)?;
     let before = log.state_of(Kind::Email);
-    let after = find_new_state(log, edits.as_slice());
-    let reply = build_response(alloc, account, before, after, created, refused)?;
+    let after = find_new_state(log, Kind::Email, edits.as_slice());
+    let reply = build_response(alloc, account, before, after, created, not_created)?;
     Ok(SetPlan {
         reply,
         edits,
@@ -75,62 +77,25 @@ fn perform_all<'a>(
     alloc: Global,
     setting: &Setting<'a>,
     made: &'a [Created],
-    drafts: &[Draft<'a>],
+    imports: &[SentCreate<'a>],
 ) -> Result<Planner<'a>, NoMemory>
     requires numbered { AreNumbered setting.now.content.now.content }
-    requires email { setting.now.content.now.content.next_email + length drafts.now < 2 ^ 53 }
-    requires thread { setting.now.content.now.content.next_thread + length drafts.now < 2 ^ 53 }
+    requires email { setting.now.content.now.content.next_email + length imports.now
+        < NUMBER_LIMIT }
+    requires thread { setting.now.content.now.content.next_thread + length imports.now
+        < NUMBER_LIMIT }
     requires moment { setting.now.moment < 2 ^ 63 }
     ensures { IfOk result
         (λ p. Follows setting.now.content.now.content p
         (after_imports setting.now.blobs.now.blobs setting.now.moment
-        (beginning setting.now.content.now.content made.now) (map create_of drafts.now))) }
+        (beginning setting.now.content.now.content made.now) (map create_of imports.now))) }
 {
     let mut planner = start_planner(alloc, setting.content, made)?;
-    perform_imports(alloc, setting, &mut planner, drafts)?;
+    perform_imports(alloc, setting, &mut planner, imports)?;
     Ok(planner)
 }
 
-// Plans imports: at most [`MAX_OBJECTS_PER_CALL`], if the client asks for no other state.
-fn plan_imports<'a>(
-    alloc: Global,
-    setting: &Setting<'a>,
-    log: &Log,
-    members: &'a Members,
-    made: &'a Made,
-) -> Result<SetPlan, SetFault>
-    requires numbered { AreNumbered setting.now.content.now.content }
-    requires email { setting.now.content.now.content.next_email ≤ 2 ^ 52 + 2 ^ 26 }
-    requires thread { setting.now.content.now.content.next_thread ≤ 2 ^ 52 + 2 ^ 26 }
-    requires last { log_end log.now ≤ 2 ^ 52 + 2 ^ 26 }
-    requires moment { setting.now.moment < 2 ^ 63 }
-    ensures { MatchResult result
-        (λ p. outcome_of_imports (ground_of setting.now.content.now.content log.now)
-        setting.now.blobs.now.blobs made.now setting.now.moment (account_in members.now)
-        (if_in_state members.now) (imports_in members.now) ≡ planned (plan_of p))
-        (λ e. ExplainsSet e
-        (outcome_of_imports (ground_of setting.now.content.now.content log.now)
-        setting.now.blobs.now.blobs made.now setting.now.moment (account_in members.now)
-        (if_in_state members.now) (imports_in members.now))) }
-{
-    let drafts = read_imports(alloc, members)?;
-    if drafts.len() > MAX_OBJECTS_PER_CALL {
-        return Err(SetFault::TooLarge);
-    }
-    let state = log.state_of(Kind::Email);
-    if is_other_state(alloc, state, read_if_in_state(members))? {
-        return Err(SetFault::StateMismatch);
-    }
-    let planner = perform_all(alloc, setting, made.as_slice(), drafts.as_slice())?;
-    Ok(finish_plan(
-        alloc,
-        read_account_id(members),
-        setting.content,
-        log,
-        planner,
-    )?)
-}
-
+// Plans a call with these arguments.
 fn plan_members<'a>(
     alloc: Global,
     setting: &Setting<'a>,
@@ -139,23 +104,31 @@ fn plan_members<'a>(
     made: &'a Made,
 ) -> Result<SetPlan, SetFault>
     requires numbered { AreNumbered setting.now.content.now.content }
-    requires email { setting.now.content.now.content.next_email ≤ 2 ^ 52 + 2 ^ 26 }
-    requires thread { setting.now.content.now.content.next_thread ≤ 2 ^ 52 + 2 ^ 26 }
-    requires last { log_end log.now ≤ 2 ^ 52 + 2 ^ 26 }
+    requires email { setting.now.content.now.content.next_email ≤ max_position }
+    requires thread { setting.now.content.now.content.next_thread ≤ max_position }
+    requires last { log_end log.now ≤ max_position }
     requires moment { setting.now.moment < 2 ^ 63 }
     ensures { MatchResult result
-        (λ p. outcome_of_arguments (ground_of setting.now.content.now.content log.now)
-        setting.now.blobs.now.blobs made.now setting.now.moment members.now
-        (invalid_argument members.now) ≡ planned (plan_of p))
+        (λ p. outcome_of_members forms count_imports
+        (present_state Kind.Email (ground_of setting.now.content.now.content log.now))
+        (plan_in (ground_of setting.now.content.now.content log.now) setting.now.blobs.now.blobs
+        made.now setting.now.moment) (Some members.now) ≡ planned (plan_of p))
         (λ e. ExplainsSet e
-        (outcome_of_arguments (ground_of setting.now.content.now.content log.now)
-        setting.now.blobs.now.blobs made.now setting.now.moment members.now
-        (invalid_argument members.now))) }
+        (outcome_of_members forms count_imports
+        (present_state Kind.Email (ground_of setting.now.content.now.content log.now))
+        (plan_in (ground_of setting.now.content.now.content log.now) setting.now.blobs.now.blobs
+        made.now setting.now.moment) (Some members.now))) }
 {
-    match find_invalid_argument(members) {
-        Some(name) => Err(SetFault::Invalid(Text::from_str(alloc, name)?)),
-        None => plan_imports(alloc, setting, log, members, made),
-    }
+    let imports = read_creates(alloc, members, "emails")?;
+    check_arguments(alloc, members, imports.len(), log.state_of(Kind::Email))?;
+    let planner = perform_all(alloc, setting, made.as_slice(), imports.as_slice())?;
+    Ok(finish_plan(
+        alloc,
+        read_account_id(members),
+        setting.content,
+        log,
+        planner,
+    )?)
 }
 
 /// Returns the plan of an Email/import as [`plan_import`] does, over a content and a log of one
@@ -170,9 +143,9 @@ pub fn import_emails(
     moment: u64,
 ) -> Result<SetPlan, SetFault>
     requires numbered { AreNumbered content.now.content }
-    requires email { content.now.content.next_email ≤ 2 ^ 52 + 2 ^ 26 }
-    requires thread { content.now.content.next_thread ≤ 2 ^ 52 + 2 ^ 26 }
-    requires last { log_end log.now ≤ 2 ^ 52 + 2 ^ 26 }
+    requires email { content.now.content.next_email ≤ max_position }
+    requires thread { content.now.content.next_thread ≤ max_position }
+    requires last { log_end log.now ≤ max_position }
     requires moment { moment ≤ last_moment }
     ensures { MatchResult result
         (λ p. import_outcome (ground_of content.now.content log.now) blobs.now.blobs
@@ -219,8 +192,7 @@ fn plan_over(
 }
 
 /// Returns the plan of an Email/import with these arguments, for a user who may write the account,
-/// at a moment in seconds since the beginning of 1970. `made` is what the request has created up to
-/// here.
+/// at a timestamp in Unix seconds. `made` is what the request has created up to here.
 ///
 /// The arguments are `accountId`, `emails` and `ifInState`; others are ignored. Fails with
 /// `Invalid` and the name of the first argument in byte order that is missing or does not have its
@@ -228,14 +200,14 @@ fn plan_over(
 /// [`MAX_OBJECTS_PER_CALL`] imports, and with `StateMismatch` if `ifInState` is not the text of the
 /// emails' state. The first fault in this order is returned, and nothing is changed.
 ///
-/// Imports are performed in byte order of their creation ids. One that is refused is reported in
+/// Imports are performed in byte order of their creation ids. One that is rejected is reported in
 /// `notCreated` with the first of these reasons, and creates nothing: `invalidProperties` with the
 /// names, `tooManyKeywords`, `tooManyMailboxes`, `overQuota`. The edits put new emails, and then
 /// the threads and the mailboxes that change with them. They fit a tidy account and leave it tidy,
 /// and each new email has its blob's size and summary.
 ///
-/// A call costs what it imports: each message is read once for its summary, and its header once
-/// more for the date of receipt if none is sent; threads are found by the links of the content.
+/// A call costs what it imports: each message is read once, and threads are found by the links of
+/// the content.
 pub fn plan_import(
     alloc: Global,
     account: &Account,
@@ -259,7 +231,8 @@ pub fn plan_import(
         (λ p. AreTables (content_of account.now.history)
         → AreCountsFlagsRight (content_of account.now.history) p.edits) }
     ensures new_state { IfOk result
-        (λ p. HasNewState (ground_of_history account.now.history) (tree_of p.reply) p.edits) }
+        (λ p. HasNewState Kind.Email (ground_of_history account.now.history) (tree_of p.reply)
+        p.edits) }
 {
     plan_over(alloc, account, args, made, moment)
 }

@@ -1,18 +1,19 @@
 // How far the imports of a call have come, and where they begin.
-ghost use Rattle.std.specs.Prelude.{◌≡◌, ◌≤◌, ◌<◌, ◌+◌, ◌^◌, IfOk, ℕ};
+ghost use Rattle.std.specs.Prelude.{◌≡◌, ◌≤◌, ◌<◌, ◌+◌, IfOk, ℕ};
+ghost use Rattle.jm_base.specs.declared.identifiers.TheConstants.{NUMBER_LIMIT};
 ghost use Rattle.mail_records.specs.Contents.{AreNumbered};
 ghost use Rattle.mail_import.specs.Plans.{beginning};
 ghost use Rattle.mail_import.specs.Views.{Follows, HasNumbersFor};
 
-use crate::creation_ids::{CreatedIds, collect_ids};
 use blob_store::BlobList;
 use jm_base::{Kind, NoMemory};
 use jm_json::{Created, Members};
 use mail_records::{Content, Edit};
+use set_parts::{CreatedIds, collect_ids};
 use std::alloc::Global;
 
 /// What imports are performed on: the content of the account before the call, its blobs, and the
-/// moment of the call, in seconds since the beginning of 1970.
+/// timestamp of the call in Unix seconds.
 #[derive(Clone, Copy)]
 pub struct Setting<'a> {
     pub content: &'a Content,
@@ -27,12 +28,12 @@ pub struct Setting<'a> {
 pub struct Planner<'a> {
     pub next_email: u64,
     pub next_thread: u64,
-    pub news: Content,
+    pub new_emails: Content,
     pub ids: CreatedIds<'a>,
     pub fresh: Vec<Created>,
     pub edits: Vec<Edit>,
     pub created: Members,
-    pub refused: Members,
+    pub not_created: Members,
 }
 
 /// Returns a planner before the first import.
@@ -45,18 +46,18 @@ pub fn start_planner<'a>(
     ensures follows { IfOk result
         (λ p. Follows content.now.content p (beginning content.now.content made.now)) }
     ensures numbers { IfOk result
-        (λ p. (n : ℕ) → content.now.content.next_email + n < 2 ^ 53
-        → content.now.content.next_thread + n < 2 ^ 53 → HasNumbersFor n p) }
+        (λ p. (n : ℕ) → content.now.content.next_email + n < NUMBER_LIMIT
+        → content.now.content.next_thread + n < NUMBER_LIMIT → HasNumbersFor n p) }
 {
     let ids = collect_ids(alloc, made)?;
     Ok(Planner {
         next_email: content.next(Kind::Email),
         next_thread: content.next(Kind::Thread),
-        news: Content::new(alloc),
+        new_emails: Content::new(alloc),
         ids,
         fresh: Vec::new(alloc),
         edits: Vec::new(alloc),
         created: Members::new(alloc),
-        refused: Members::new(alloc),
+        not_created: Members::new(alloc),
     })
 }

@@ -3,21 +3,21 @@ ghost use Rattle.std.specs.Prelude.{◌≡◌, IfOk, List, Some, codes, option_m
 ghost use Rattle.jm_json.specs.Find.{find};
 ghost use Rattle.jm_json.specs.Json.{tree_of};
 ghost use Rattle.jm_json.specs.declared.invocation.Created.{Created as TheCreated};
-ghost use Rattle.mail_import.specs.Properties.{date_named, received_in, sent_in, source_in, whole_blob};
-ghost use Rattle.mail_import.specs.Views.{HoldIds, sent_of, source_of};
+ghost use Rattle.set_parts.specs.Views.{HoldIds};
+ghost use Rattle.mail_import.specs.Properties.{blob_in, date_named, received_in, sent_in, whole_blob};
+ghost use Rattle.mail_import.specs.Views.{blob_of, sent_of};
 
-use crate::creation_ids::CreatedIds;
-use crate::sets::{read_keywords, read_mailboxes};
 use blob_ids::{BlobId, read_blob_id};
 use blob_store::BlobList;
 use jm_base::{NoMemory, Numbers, Texts, UtcDate, read_utc};
 use jm_json::{Json, Members};
 use mail_records::Content;
+use set_parts::{CreatedIds, read_keywords, read_mailboxes};
 use std::alloc::Global;
 
 /// A blob of the account: its number and its bytes.
 #[derive(Clone, Copy)]
-pub struct Source<'a> {
+pub struct NamedBlob<'a> {
     pub number: u64,
     pub bytes: &'a [u8],
 }
@@ -25,21 +25,21 @@ pub struct Source<'a> {
 /// The properties that an import sends. None means a value that is invalid.
 #[derive(Drop)]
 pub struct Sent<'a> {
-    pub source: Option<Source<'a>>,
+    pub blob: Option<NamedBlob<'a>>,
     pub keywords: Option<Texts>,
     pub mailboxes: Option<Numbers>,
     /// No date if none is sent.
     pub received: Option<Option<UtcDate>>,
 }
 
-// Lends the blob that an identifier names; that of a part of a message names none.
-fn find_whole_blob<'a>(blobs: &'a BlobList, id: BlobId) -> Option<Source<'a>>
-    ensures { option_map source_of result ≡ whole_blob blobs.now.blobs id.blob id.leaf }
+// Returns the blob that an identifier names; that of a part of a message names none.
+fn find_whole_blob<'a>(blobs: &'a BlobList, id: BlobId) -> Option<NamedBlob<'a>>
+    ensures { option_map blob_of result ≡ whole_blob blobs.now.blobs id.blob id.leaf }
 {
     match id.leaf {
         Some(_) => None,
         None => match blobs.get(id.blob) {
-            Ok(bytes) => Some(Source {
+            Ok(bytes) => Some(NamedBlob {
                 number: id.blob,
                 bytes,
             }),
@@ -48,10 +48,10 @@ fn find_whole_blob<'a>(blobs: &'a BlobList, id: BlobId) -> Option<Source<'a>>
     }
 }
 
-// Lends the blob that `blobId` names.
-fn read_source<'a>(blobs: &'a BlobList, members: &Members) -> Option<Source<'a>>
-    ensures { option_map source_of result
-        ≡ source_in blobs.now.blobs (find (codes "blobId") members.now) }
+// Returns the blob that `blobId` names.
+fn read_blob<'a>(blobs: &'a BlobList, members: &Members) -> Option<NamedBlob<'a>>
+    ensures { option_map blob_of result
+        ≡ blob_in blobs.now.blobs (find (codes "blobId") members.now) }
 {
     let name = members.get("blobId")?.as_text()?;
     find_whole_blob(blobs, read_blob_id(name.as_bytes())?)
@@ -98,7 +98,7 @@ pub fn read_sent<'a>(
     let keywords = read_keywords(alloc, members)?;
     let mailboxes = read_mailboxes(alloc, content, ids, members)?;
     Ok(Sent {
-        source: read_source(blobs, members),
+        blob: read_blob(blobs, members),
         keywords,
         mailboxes,
         received: read_received(members),

@@ -1,53 +1,16 @@
 // The response to an Email/import (RFC 8621, section 4.8).
-ghost use Rattle.std.specs.Prelude.{◌≡◌, ◌+◌, ◌<◌, ◌^◌, IfOk, Some, length, option_map};
+ghost use Rattle.std.specs.Prelude.{◌≡◌, ◌<◌, ◌^◌, IfOk};
 ghost use Rattle.jm_json.specs.Json.{tree_of};
-ghost use Rattle.jm_json.specs.Tree.{fields_of, object, text};
-ghost use Rattle.mail_records.specs.Contents.{Content};
-ghost use Rattle.mail_counts.specs.Plans.{state_after};
-ghost use Rattle.mailbox_set.specs.Plans.{ground_of, is_other_state, object_or_null};
+ghost use Rattle.jm_json.specs.Tree.{fields_of, object};
 ghost use Rattle.mail_import.specs.Imports.{created_tree, email_id, made_under, thread_id};
 ghost use Rattle.mail_import.specs.Plans.{reply_members};
-ghost use Rattle.state_log.specs.Logs.{log_end};
 
 use blob_ids::{BlobId, write_blob_id};
 use jm_base::{Id, Kind, NoMemory, Text, id_text, state_text};
 use jm_json::{Created, Json, Members};
-use mail_counts::state_after;
-use mail_records::{Edit, Email};
-use state_log::Log;
+use mail_records::Email;
+use set_parts::wrap_object;
 use std::alloc::Global;
-
-/// Returns whether a client asks for another state than this one.
-pub fn is_other_state(alloc: Global, state: u64, wanted: Option<&Text>) -> Result<bool, NoMemory>
-    ensures { IfOk result (λ b. b ≡ is_other_state state (option_map (λ t. t.now) wanted.entry)) }
-{
-    match wanted {
-        Some(text) => {
-            let present = state_text(alloc, state)?;
-            Ok(text.as_str() != present.as_str())
-        }
-        None => Ok(false),
-    }
-}
-
-/// Returns the state of the emails after these edits, which follow the last position of the log
-/// (RFC 8620, section 5.3).
-pub fn find_new_state(log: &Log, edits: &[Edit]) -> u64
-    requires room { log_end log.now + length edits.now < 2 ^ 64 }
-    ensures { (c : Content) → result ≡ state_after Kind.Email (ground_of c log.now) edits.now }
-{
-    let before = log.state_of(Kind::Email);
-    state_after(Kind::Email, before, log.end(), edits)
-}
-
-fn wrap_object(members: Members) -> Json
-    ensures { tree_of result ≡ object_or_null members }
-{
-    if members.as_slice().is_empty() {
-        return Json::Null;
-    }
-    Json::Object(members)
-}
 
 /// Builds the arguments of the response: the account, the states before and after, what was
 /// created, and what was not.
@@ -57,11 +20,11 @@ pub fn build_response(
     before: u64,
     after: u64,
     created: Members,
-    refused: Members,
+    not_created: Members,
 ) -> Result<Json, NoMemory>
     ensures { IfOk result
         (λ j. tree_of j
-        ≡ object (fields_of (reply_members account.now before after created refused))) }
+        ≡ object (fields_of (reply_members account.now before after created not_created))) }
 {
     let account = Text::from_str(alloc, account)?;
     let before = state_text(alloc, before)?;
@@ -70,7 +33,7 @@ pub fn build_response(
     reply.set(alloc, "accountId", Json::Text(account))?;
     reply.set(alloc, "created", wrap_object(created))?;
     reply.set(alloc, "newState", Json::Text(after))?;
-    reply.set(alloc, "notCreated", wrap_object(refused))?;
+    reply.set(alloc, "notCreated", wrap_object(not_created))?;
     reply.set(alloc, "oldState", Json::Text(before))?;
     Ok(Json::Object(reply))
 }

@@ -1,11 +1,7 @@
-use Rattle.std.proofs.Common.{◌≡◌, ◌∙◌, ◌+◌, ◌++◌, [], ◌∷◌, false, refl, sym, ap, subst}
-use Rattle.jm_json.specs.Json.{tree_of}
-use Rattle.jm_json.specs.Order.{put as put_member}
-use Rattle.jm_json.specs.declared.invocation.Created.{Created}
+use Rattle.std.proofs.Common.{◌∙◌, ◌+◌, refl, ap}
 use Rattle.mail_records.specs.Contents.{Content}
-use Rattle.mail_records.specs.declared.edits.Edit.TheVariants.{PutEmail}
-use Rattle.mailbox_set.specs.Views.{Means}
-use Rattle.mail_import.specs.Imports.{Progress, created_tree, made_under, next_after}
+use Rattle.mail_records.specs.declared.records.Email.{Email}
+use Rattle.mail_import.specs.Imports.{Progress, next_after}
 use Rattle.mail_import.specs.Views.{Follows}
 use Rattle.mail_import.specs.declared.planner.Planner.{Planner}
 use Rattle.mail_import.proofs.Following.{Adds, Follows-made}
@@ -13,31 +9,26 @@ use Rattle.mail_import.proofs.import.enter_email.Goals as goal
 
 pub returns-clause-follows : goal.returns-clause-follows
 returns-clause-follows c =
-    λ (s : Progress) (f : Follows c.args.content.now.content c.args.planner.now s) number thread.
-    let base : Content = c.args.content.now.content in
+    λ (base : Content) (s : Progress) (f : Follows base c.args.planner.now s) number thread joined.
+    let item : Email = c.args.email.item in
     let p : Planner = c.args.planner.now in
     let q : Planner = record p {
       next_email = p.next_email + 1;
       next_thread = c.count_thread-planner.result;
-      news = c.add_new_email.new.news;
-      ids = c.note_id.new.ids;
-      fresh = c.push.new.self;
-      edits = c.push-2.new.self;
-      created = c.put.new.self;
+      new_emails = c.note_email.new.new_emails;
+      ids = c.note_email.new.ids;
+      fresh = c.note_email.new.fresh;
+      edits = c.push.new.self;
+      created = c.note_email.new.created;
     } in
-    let means : Means (made_under c.args.creation.now c.args.item).id c.read_mailbox_number.result =
-    subst (λ t. Means t c.read_mailbox_number.result) (c.as_bytes-2.ensures.value ∙ ap (λ (y : Created). y.id) c.in_ok-made.ensures) c.read_mailbox_number.ensures in
-    let adds : Adds base p q c.args.creation.now c.args.item = record {
+    let adds : Adds base p q c.args.creation.now item = record {
       next_email = refl;
-      next_thread = c.count_thread-planner.ensures ∙ ap (λ o. next_after o p.next_thread) c.find_thread-joined.ensures;
-      threads = c.in_ok-add_new_email.ensures.threads;
-      ids = λ made knows. c.in_ok-note_id.ensures made (made_under c.args.creation.now c.args.item) knows (sym c.as_bytes.ensures.value) means;
-      fresh = c.in_ok-push.ensures.items ∙ ap (λ v. p.fresh.items ++ v ∷ []) c.in_ok-made.ensures;
-      edits = c.in_ok-push-2.ensures.items;
-      created =
-          c.in_ok-put.ensures.ok
-          ∙ (ap (λ k. put_member k (tree_of c.in_ok-told.told) p.created) c.in_ok-copy.ensures
-          ∙ ap (λ t. put_member c.args.creation.now t p.created) c.in_ok-told.ensures);
-      refused = refl;
+      next_thread = c.count_thread-planner.ensures ∙ ap (λ o. next_after o p.next_thread) (joined ∙ f.threads item.summary);
+      threads = c.in_ok-note_email.ensures.threads;
+      ids = c.in_ok-note_email.ensures.ids;
+      fresh = c.in_ok-note_email.ensures.fresh;
+      edits = c.in_ok-push.ensures.items;
+      created = c.in_ok-note_email.ensures.created;
+      not_created = refl;
     } in
-    Follows-made base p q s c.args.creation.now c.args.item adds f number
+    Follows-made base p q s c.args.creation.now item adds f number

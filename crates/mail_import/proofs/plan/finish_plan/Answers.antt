@@ -1,9 +1,9 @@
-use Rattle.std.proofs.Common.{sym, ap, ◌++◌, ◌∙◌}
+use Rattle.std.proofs.Common.{ap, ◌++◌, ◌∙◌}
 use Rattle.jm_json.specs.Json.{tree_of}
 use Rattle.jm_base.specs.declared.identifiers.Kind.TheVariants.{Email as OfEmail}
 use Rattle.mail_counts.specs.DerivedEdits.{derived_edits}
 use Rattle.mail_counts.specs.Plans.{state_after}
-use Rattle.mailbox_set.specs.Plans.{ground_of}
+use Rattle.set_parts.specs.Outcomes.{ground_of}
 use Rattle.mail_import.specs.Imports.{Progress}
 use Rattle.mail_import.specs.Views.{Follows}
 use Rattle.mail_import.proofs.Planning.{plan_from_parts}
@@ -13,10 +13,10 @@ pub returns : goal.returns
 returns c =
     λ (s : Progress) (f : Follows c.args.content.now.content c.args.planner s).
     let content = c.args.content.now.content in
-    plan_from_parts (ground_of content c.args.log.now) c.args.account.now s c.state_of-before.result c.find_new_state-after.result c.args.planner.created c.args.planner.refused (tree_of c.in_ok-reply.reply)
+    plan_from_parts (ground_of content c.args.log.now) c.args.account.now s c.state_of-before.result c.find_new_state-after.result c.args.planner.created c.args.planner.not_created (tree_of c.in_ok-reply.reply)
     c.args.planner.edits.items c.in_ok-more.more c.append.new.self c.from_vec.result c.in_ok-reply.ensures c.state_of-before.ensures.state
     (c.find_new_state-after.ensures content ∙ ap (state_after OfEmail (ground_of content c.args.log.now)) c.as_slice-2.ensures)
-    f.created f.refused f.edits
+    f.created f.not_created f.edits
     (c.in_ok-more.ensures.more ∙ ap (derived_edits content) c.as_slice.ensures.value)
     (c.in_ok-append.ensures.ok ∙ ap (λ es. es ++ c.in_ok-more.more) c.from_vec-edits.ensures)
     (c.from_vec.ensures ∙ f.fresh)

@@ -1,7 +1,7 @@
-use Rattle.std.proofs.Common.{◌≡◌, sym, ap, subst}
+use Rattle.std.proofs.Common.{◌≡◌, subst}
 use Rattle.std.specs.Prelude.{MatchResult}
 use Rattle.jm_json.specs.Json.{tree_of}
-use Rattle.mailbox_set.specs.Plans.{ExplainsSet, Outcome, plan_of, planned}
+use Rattle.set_parts.specs.Outcomes.{ExplainsSet, Outcome, plan_of, planned}
 use Rattle.mail_counts.specs.declared.plan.SetPlan.{SetPlan}
 use Rattle.mail_counts.specs.declared.plan.SetFault.{SetFault}
 use Rattle.mail_import.proofs.Planning.{same_outcome}

@@ -1,5 +1,5 @@
 -- For private clauses: the thread that a new email joins, if it is that of one more email.
-use Rattle.std.specs.Prelude.{ℕ, ◌&&◌, List, Option, Some, None, bytes_eq, if◌then◌else◌}
+use Rattle.std.specs.Prelude.{ℕ, ◌&&◌, Option, Some, None, bytes_eq, if◌then◌else◌}
 use Rattle.mail_records.specs.declared.records.Summary.{Summary}
 use Rattle.thread_assign.specs.Threads.{share_link}
 

@@ -4,7 +4,7 @@ ghost use Rattle.std.specs.Prelude.{◌≡◌, ◌+◌, ◌<◌, ◌≤◌, ◌^
 ghost use Rattle.std.specs.Option.{option_or};
 ghost use Rattle.mail_records.specs.Contents.{AreNumbered};
 ghost use Rattle.mail_records.specs.declared.records.Summary.{Summary as TheSummary};
-ghost use Rattle.mail_import.specs.News.{thread_if_related};
+ghost use Rattle.mail_import.specs.NewEmails.{thread_if_related};
 ghost use Rattle.thread_assign.specs.Threads.{joined_thread};
 
 use jm_base::{Kind, NoMemory, Numbers, Text, Texts, UtcDate};
@@ -65,20 +65,21 @@ fn build_email(
 /// Adds an email of a thread with this summary to the emails of a call, under a number of its own.
 pub fn add_new_email(
     alloc: Global,
-    news: &mut Content,
+    new_emails: &mut Content,
     thread: u64,
     summary: &Summary,
 ) -> Result<(), NoMemory>
-    requires numbered { AreNumbered news.old.content }
-    requires next { news.old.content.next_email + 1 < 2 ^ 64 }
+    requires numbered { AreNumbered new_emails.old.content }
+    requires next { new_emails.old.content.next_email + 1 < 2 ^ 64 }
     ensures threads { OnOk result
-        ((u : TheSummary) → joined_thread news.new.content.emails u
-        ≡ option_or (joined_thread news.old.content.emails u)
+        ((u : TheSummary) → joined_thread new_emails.new.content.emails u
+        ≡ option_or (joined_thread new_emails.old.content.emails u)
         (thread_if_related u thread summary.now)) }
-    ensures numbered { OnOk result (AreNumbered news.new.content) }
-    ensures next { OnOk result (news.new.content.next_email ≡ news.old.content.next_email + 1) }
+    ensures numbered { OnOk result (AreNumbered new_emails.new.content) }
+    ensures next { OnOk result
+        (new_emails.new.content.next_email ≡ new_emails.old.content.next_email + 1) }
 {
-    let item = build_email(alloc, news.next(Kind::Email), thread, summary)?;
+    let item = build_email(alloc, new_emails.next(Kind::Email), thread, summary)?;
     let edit = Edit::PutEmail { item, was: false };
-    apply(alloc, news, &edit)
+    apply(alloc, new_emails, &edit)
 }

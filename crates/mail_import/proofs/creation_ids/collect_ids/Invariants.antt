@@ -1,6 +1,0 @@
-use Rattle.std.proofs.Common.{take}
-use Rattle.mail_import.specs.Views.{HoldIds}
-use Rattle.mail_import.proofs.creation_ids.collect_ids.Given as goal
-
-abbrev pub invariant-loop-created : goal.invariant-loop-created
-invariant-loop-created l = HoldIds l.ids (take l.created-index l.made)
