@@ -11,11 +11,7 @@ mod mailboxes;
 mod members;
 mod mentions;
 mod parses;
-#[cfg(test)]
-mod record_tests;
 mod records;
-#[cfg(test)]
-mod tests;
 mod threads;
 
 pub use fault::GetFault;

@@ -1,4 +1,4 @@
--- An account that begins over a keeper in memory that keeps nothing.
+-- An account that begins over a keeper in memory whose content is empty.
 use Rattle.std.proofs.Common.{◌≡◌, ◌⊎◌, inl, inr, ℕ, ◌≤◌, ◌^◌, min, List, [], ◌∷◌, Option, Some, None, Ok, refl, sym, ap, ◌∙◌, subst, arith}
 use Rattle.jm_edge.specs.Causes.{Rose}
 use Rattle.keep_port.specs.Keeping.{IsContent, IsUnknownOr, content_loaded}
@@ -44,5 +44,5 @@ module _ (whole : History → Type 0)
   pub only_memory : (old new : Kept) (fault : StartFault) → old ≡ nothing → IsStartFault whole (Some old) (Some new) 0 0 fault → fault ≡ NoMemory
   only_memory old new KeeperFault is cause = absurd (not_risen cause)
   only_memory old new (Damaged row why) is cause =
-      absurd (undamaged nothing empty_history row why valid (inl keeps_nothing) (subst (λ k. IsDamaged whole k row why) (was_nothing cause.0 old new is cause.1) cause.2))
+      absurd (undamaged nothing empty_history row why valid (inl keeps_nothing) (subst (λ k. IsDamaged whole k row why) (was_nothing cause.1.0 old new is cause.1.1) cause.1.2))
   only_memory old new NoMemory is cause = refl

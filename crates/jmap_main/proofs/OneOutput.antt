@@ -32,10 +32,10 @@ use Rattle.account_book.specs.declared.plans.Out.{Out}
 use Rattle.account_book.specs.declared.plans.Plan.{Plan}
 use Rattle.account_book.specs.declared.plans.Point.{Point}
 use Rattle.mail_calls.specs.BlobPlans.{has_room, upload_if, upload_plan}
-use Rattle.mail_calls.specs.Plans.{call_plan, changes_plan, get_plan, method_plan, plan_by, set_plan, query_plan}
+use Rattle.mail_calls.specs.Plans.{call_plan, changes_plan, email_set_plan, get_plan, ground_in, mailbox_set_plan, method_plan, plan_by, set_plan, query_plan, query_changes_plan}
 use Rattle.mail_calls.specs.Methods.{method_named}
 use Rattle.mail_calls.specs.declared.methods.Method.{Method as MailMethod}
-use Rattle.mail_calls.specs.declared.methods.Method.TheVariants.{Get, Changes, MailboxSet, EmailImport, EmailParse, Query}
+use Rattle.mail_calls.specs.declared.methods.Method.TheVariants.{Get, Changes, MailboxSet, EmailSet, EmailImport, EmailParse, Query, QueryChanges}
 use Rattle.batch_lines.specs.Lines.{lines_of}
 use Rattle.batch_lines.specs.Replies.{AreReplies, IsLineReply, IsRequestReply, IsUploadReply, line_text}
 use Rattle.batch_lines.specs.Uploads.{IsAnswerToBytes, IsRejected, IsUploaded, base64_bytes, limit_tree, upload_tree}
@@ -43,7 +43,7 @@ use Rattle.batch_lines.specs.declared.upload.Uploaded.{Uploaded}
 use Rattle.jmap_main.specs.AccountAnswers.{AnswersUnless, IsAccountAnswer, error_alone, account_answers, account_error, account_uploads, asked, asked_upload, point_between, replied_of, uploaded_of}
 use Rattle.jmap_main.specs.Stamps.{AreAlike, unstamped, unstamped_entry}
 use Rattle.jmap_main.proofs.Performed.{at_ends, unchanged}
-use Rattle.jmap_main.proofs.Unstamped.{blobs_unstamped, changes_unstamped, edits_unstamped, get_unstamped, import_unstamped, parse_unstamped, queried_unstamped}
+use Rattle.jmap_main.proofs.Unstamped.{blobs_unstamped, changes_unstamped, edits_unstamped, get_unstamped, import_unstamped, parse_unstamped, queried_unstamped, query_changed_unstamped}
 
 module _ {S : Type 0} (answers : S → Call → List Created → Replied → S → Type 0) (uploads : S → List ℕ → Uploaded → S → Type 0) (Alike : S → S → Type 0)
     (one : (s t : S) (c : Call) (made : List Created) (r q : Replied) (s' t' : S) → Alike s t → answers s c made r s' → answers t c made q t' → (q ≡ r) × Alike s' t')
@@ -158,13 +158,18 @@ module _ {S : Type 0} (answers : S → Call → List Created → Replied → S �
 
 -- ---- the account, whatever stamps its entries have
 
+ground_unstamped : (h : History) → ground_in (unstamped h) ≡ ground_in h
+ground_unstamped h = rw (edits_unstamped h.entries) refl
+
 plan_by_unstamped : (h : History) (c : Call) (made : List Created) (read_only : Bool) (method : Option MailMethod)
     → plan_by (unstamped h) c made read_only 0 method ≡ plan_by h c made read_only 0 method
 plan_by_unstamped h c made read_only None = refl
 plan_by_unstamped h c made read_only (Some (Get kind)) = ap (get_plan c) (get_unstamped h c.args read_only kind)
 plan_by_unstamped h c made read_only (Some (Changes kind)) = ap (changes_plan c) (changes_unstamped h kind c.args)
 plan_by_unstamped h c made read_only (Some (Query kind)) = ap (query_plan c) (queried_unstamped h kind c.args)
-plan_by_unstamped h c made read_only (Some MailboxSet) = rw (edits_unstamped h.entries) refl
+plan_by_unstamped h c made read_only (Some (QueryChanges kind)) = ap (query_changes_plan c) (query_changed_unstamped h kind c.args)
+plan_by_unstamped h c made read_only (Some MailboxSet) = ap (mailbox_set_plan c made) (ground_unstamped h)
+plan_by_unstamped h c made read_only (Some EmailSet) = ap (email_set_plan c made) (ground_unstamped h)
 plan_by_unstamped h c made read_only (Some EmailImport) = ap (set_plan c) (import_unstamped h c.args made 0)
 plan_by_unstamped h c made read_only (Some EmailParse) = ap (get_plan c) (parse_unstamped h c.args)
 

@@ -1,5 +1,5 @@
 -- What is answered from a history is the same whatever stamps its entries have.
-use Rattle.std.proofs.Common.{◌≡◌, ℕ, ◌+◌, zero, suc, List, [], ◌∷◌, ◌++◌, map, length, Bool, cond, Option, Some, None, unwrap_or, refl, ap, ap₂, ◌∙◌, codes}
+use Rattle.std.proofs.Common.{◌≡◌, ℕ, ◌+◌, ◌-◌, zero, suc, drop, List, [], ◌∷◌, ◌++◌, map, length, Bool, cond, Option, Some, None, unwrap_or, refl, ap, ap₂, ◌∙◌, codes}
 use Rattle.jm_base.specs.declared.identifiers.Kind.{Kind}
 use Rattle.jm_base.specs.declared.identifiers.Kind.TheVariants.{Mailbox, Email, Thread}
 use Rattle.jm_json.specs.Find.{as_object}
@@ -17,7 +17,16 @@ use Rattle.change_calls.specs.declared.page.ChangePage.{ChangePage}
 use Rattle.change_calls.specs.Responses.{changes_outcome, invalid_argument, max_in, outcome_by, outcome_of_members, outcome_with, string_in}
 use Rattle.message_texts.specs.Texts.{texts_of_blobs}
 use Rattle.query_engine.specs.Responses.{query_outcome}
-use Rattle.mail_calls.specs.Plans.{queried}
+use Rattle.query_engine.specs.Responses.{Reading, query, invalid, unsupported_filter, unsupported_sort, query_in}
+use Rattle.query_engine.specs.Views.{QueryTree}
+use Rattle.filter_terms.specs.Texts.{MessageTexts}
+use Rattle.jm_base.specs.Splices.{with_index}
+use Rattle.query_engine.specs.Queries.{result_list}
+use Rattle.query_changes.specs.Touched.{touched_by, touches}
+use Rattle.query_changes.specs.declared.delta.Delta.{Delta}
+use Rattle.query_changes.specs.Deltas as delta
+use Rattle.query_changes.specs.Responses as query_change
+use Rattle.mail_calls.specs.Plans.{queried, query_changed}
 use Rattle.jmap_main.specs.Stamps.{unstamped, unstamped_entry}
 
 edits_of_entry : (e : Entry) → entry_edits (unstamped_entry e) ≡ entry_edits e
@@ -102,3 +111,45 @@ pub queried_unstamped : (h : History) (kind : Kind) (args : Tree) → queried (u
 queried_unstamped h kind args =
     ap (λ (bs : List (List ℕ)). query_outcome kind (state_of (unstamped h) kind) (content_of (unstamped h)) (texts_of_blobs (h.base_blobs ++ bs)) args) (blobs_unstamped h.entries)
     ∙ ap (λ (es : List Edit). query_outcome kind (last_position kind h.floor h.floors (map id_of es)) (after_edits h.base es) (texts_of_blobs (blobs_of h)) args) (edits_unstamped h.entries)
+
+-- ---- changes of result lists
+
+-- the changes of a list by the edits of a history
+abbrev delta_by : History → List Edit → QueryTree → (ℕ → MessageTexts) → ℕ → Delta
+delta_by h es q texts s = record {
+  removed = touched_by q (drop (s - h.floor) es) (after_edits h.base es);
+  added = with_index (touches q (drop (s - h.floor) es) (after_edits h.base es)) 0 (result_list q (after_edits h.base es) texts);
+  new_state = last_position q.kind h.floor h.floors (map id_of es);
+  total = length (result_list q (after_edits h.base es) texts);
+}
+
+delta_unstamped : (h : History) (q : QueryTree) (texts : ℕ → MessageTexts) (s : ℕ) → delta.delta_of (unstamped h) q texts s ≡ delta.delta_of h q texts s
+delta_unstamped h q texts s = ap (λ (es : List Edit). delta_by h es q texts s) (edits_unstamped h.entries)
+
+list_since_unstamped : (h : History) (q : QueryTree) (texts : ℕ → MessageTexts) (max : Option ℕ) (o : Option ℕ) → delta.answer_since (unstamped h) q texts max o ≡ delta.answer_since h q texts max o
+list_since_unstamped h q texts max None = refl
+list_since_unstamped h q texts max (Some s) = ap (delta.answer_within max) (delta_unstamped h q texts s)
+
+list_answer_unstamped : (h : History) (q : QueryTree) (texts : ℕ → MessageTexts) (since : List ℕ) (max : Option ℕ) → delta.answer_of (unstamped h) q texts since max ≡ delta.answer_of h q texts since max
+list_answer_unstamped h q texts since max =
+    ap (delta.answer_since (unstamped h) q texts max) (reached_unstamped h q.kind since) ∙ list_since_unstamped h q texts max (reached_state h q.kind since)
+
+list_query_unstamped : (h : History) (texts : ℕ → MessageTexts) (kind : Kind) (ms : List (List ℕ × Tree)) (r : Reading) → query_change.outcome_of_query (unstamped h) texts kind ms r ≡ query_change.outcome_of_query h texts kind ms r
+list_query_unstamped h texts kind ms (query q) =
+    ap (query_change.outcome_by kind ms) (list_answer_unstamped h q texts (string_in (codes "sinceQueryState") ms) (query_change.max_in ms))
+list_query_unstamped h texts kind ms (invalid name) = refl
+list_query_unstamped h texts kind ms (unsupported_filter name) = refl
+list_query_unstamped h texts kind ms (unsupported_sort name) = refl
+
+list_with_unstamped : (h : History) (texts : ℕ → MessageTexts) (kind : Kind) (ms : List (List ℕ × Tree)) (o : Option (List ℕ)) → query_change.outcome_with (unstamped h) texts kind ms o ≡ query_change.outcome_with h texts kind ms o
+list_with_unstamped h texts kind ms (Some name) = refl
+list_with_unstamped h texts kind ms None = list_query_unstamped h texts kind ms (query_in kind ms)
+
+list_members_unstamped : (h : History) (texts : ℕ → MessageTexts) (kind : Kind) (o : Option (List (List ℕ × Tree))) → query_change.outcome_of_members (unstamped h) texts kind o ≡ query_change.outcome_of_members h texts kind o
+list_members_unstamped h texts kind None = refl
+list_members_unstamped h texts kind (Some ms) = list_with_unstamped h texts kind ms (query_change.invalid_argument kind ms)
+
+pub query_changed_unstamped : (h : History) (kind : Kind) (args : Tree) → query_changed (unstamped h) kind args ≡ query_changed h kind args
+query_changed_unstamped h kind args =
+    ap (λ (bs : List (List ℕ)). query_change.query_changes_outcome (unstamped h) (texts_of_blobs (h.base_blobs ++ bs)) kind args) (blobs_unstamped h.entries)
+    ∙ list_members_unstamped h (texts_of_blobs (blobs_of h)) kind (as_object args)

@@ -2,8 +2,12 @@
 // docs/rules.
 mod endings;
 mod grown;
+mod imports;
 mod limits;
+mod lists;
 mod rows;
+mod sets;
+mod uploads;
 
 use crate::ending::Status;
 use crate::run::{NoWorld, run};

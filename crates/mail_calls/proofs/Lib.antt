@@ -3,3 +3,5 @@ pub mod Rooms
 pub mod Changes
 pub mod Queries
 pub mod ValidityTested
+pub mod SharedMessages
+pub mod StateChanges

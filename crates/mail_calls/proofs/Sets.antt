@@ -13,8 +13,8 @@ use Rattle.mail_counts.specs.declared.plan.SetFault.{SetFault}
 use Rattle.state_log.specs.Logs.{Notes, IsLogOf, ids_in}
 use Rattle.state_log.proofs.Agreement.{ids_in-log}
 use Rattle.mail_counts.specs.Plans.{Ground}
-use Rattle.mailbox_set.specs.Plans.{Outcome, ExplainsSet, ground_of, plan_of, set_outcome}
-use Rattle.mailbox_set.specs.Plans as sets
+use Rattle.set_parts.specs.Outcomes.{ExplainsSet, Outcome, ground_of, plan_of}
+use Rattle.set_parts.specs.Outcomes as sets
 use Rattle.account_book.specs.declared.plans.Out.TheVariants.{Replies}
 use Rattle.account_book.specs.declared.plans.Plan.{Plan}
 use Rattle.mail_calls.specs.Plans.{IsOutcomeOf, refused, response_to, set_plan, ground_in}
@@ -25,11 +25,10 @@ same_ground c d m n e f x y content floor floors ids =
     ap₂ (λ (z : Content) (k : ℕ). record { content = z; floor = k; floors = e; ids = x }) content floor
     ∙ ap₂ (λ (z : Floors) (k : List Id). record { content = d; floor = n; floors = z; ids = k }) floors ids
 
--- the outcome over a content and a log that are those of a history
-pub same_outcome : (h : History) (c : Content) (l : Notes) (args : Tree) (made : List Created) → c ≡ content_of h → IsLogOf h l → set_outcome (ground_of c l) args made ≡ set_outcome (ground_in h) args made
-same_outcome h c l args made content log =
-    ap (λ (g : Ground). set_outcome g args made)
-    (same_ground c (content_of h) l.floor h.floor l.floors h.floors (ids_in l.notes) (ids_of h) content log.floor log.floors (ids_in-log h l log))
+-- a content and a log of a history say what the history says
+pub ground_is : (h : History) (c : Content) (l : Notes) → c ≡ content_of h → IsLogOf h l → ground_of c l ≡ ground_in h
+ground_is h c l content log =
+    same_ground c (content_of h) l.floor h.floor l.floors h.floors (ids_in l.notes) (ids_of h) content log.floor log.floors (ids_in-log h l log)
 
 -- a planner's clauses together say which outcome it returned
 pub outcome_told : (r : Result SetPlan SetFault) (o : Outcome) → IfOk r (λ p. o ≡ sets.planned (plan_of p)) → IfErr r (λ e. ExplainsSet e o) → IsOutcomeOf r o

@@ -63,7 +63,7 @@ summaries_tell a b =
 
 -- ---- messages
 
-message_tells : (summary : List ℕ → Summary) (e : Email) (bytes : List ℕ) → Decides (is_message summary e bytes) (IsMessageOf summary e bytes)
+pub message_tells : (summary : List ℕ → Summary) (e : Email) (bytes : List ℕ) → Decides (is_message summary e bytes) (IsMessageOf summary e bytes)
 message_tells summary e bytes =
     same_tells (is_message summary e bytes) _ (IsMessageOf summary e bytes)
     (λ h. record { size = h.0; summary_is = h.1 }) (λ m. (m.size, m.summary_is))

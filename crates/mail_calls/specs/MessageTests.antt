@@ -1,6 +1,6 @@
 -- The tests by which an email's message is found among the blobs of an account. Each is true
 -- exactly where what it tests holds (`Rattle.plan_promises.specs.Messages`).
-use Rattle.std.specs.Prelude.{ℕ, Bool, true, false, ◌&&◌, ◌==◌, List, [], ◌∷◌, length, Option, Some, None, bytes_eq}
+use Rattle.std.specs.Prelude.{ℕ, Bool, true, false, ◌&&◌, ◌==◌, List, [], ◌∷◌, length, Option, Some, None, bytes_eq, slice_get, ◌≡◌}
 use Rattle.std.specs.Bool.{beq}
 use Rattle.std.specs.Ordering.{int_eq}
 use Rattle.jm_base.specs.declared.identifiers.UtcDate.{UtcDate}
@@ -40,3 +40,9 @@ is_message_in summary e (Some bytes) = is_message summary e bytes
 -- the blob that the email names is its message
 abbrev pub has_message : (List ℕ → Summary) → List (List ℕ) → Email → Bool
 has_message summary blobs e = is_message_in summary e (blob_numbered e.blob blobs)
+
+-- an email of this blob among others
+pub record IsSharing (emails : List Email) (blob : ℕ) (e : Email) : Type 0 where
+  pub index : ℕ
+  pub there : slice_get emails index ≡ Some e
+  pub shares : e.blob ≡ blob

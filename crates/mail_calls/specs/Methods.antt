@@ -2,7 +2,7 @@
 use Rattle.std.specs.Prelude.{ℕ, List, codes, bytes_eq, if◌then◌else◌, Option, Some, None}
 use Rattle.jm_base.specs.declared.identifiers.Kind.TheVariants.{Mailbox, Email, Thread}
 use Rattle.mail_calls.specs.declared.methods.Method.{Method}
-use Rattle.mail_calls.specs.declared.methods.Method.TheVariants.{Get, Changes, MailboxSet, EmailImport, EmailParse, Query}
+use Rattle.mail_calls.specs.declared.methods.Method.TheVariants.{Get, Changes, MailboxSet, EmailSet, EmailImport, EmailParse, Query, QueryChanges}
 
 -- the method of a name
 abbrev pub method_named : List ℕ → Option Method
@@ -15,7 +15,10 @@ method_named name =
     else (if bytes_eq name (codes "Email/changes") then Some (Changes Email)
     else (if bytes_eq name (codes "Mailbox/query") then Some (Query Mailbox)
     else (if bytes_eq name (codes "Email/query") then Some (Query Email)
+    else (if bytes_eq name (codes "Mailbox/queryChanges") then Some (QueryChanges Mailbox)
+    else (if bytes_eq name (codes "Email/queryChanges") then Some (QueryChanges Email)
     else (if bytes_eq name (codes "Mailbox/set") then Some MailboxSet
+    else (if bytes_eq name (codes "Email/set") then Some EmailSet
     else (if bytes_eq name (codes "Email/import") then Some EmailImport
     else (if bytes_eq name (codes "Email/parse") then Some EmailParse
-    else None))))))))))
+    else None)))))))))))))

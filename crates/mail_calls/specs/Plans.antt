@@ -1,6 +1,6 @@
 -- What calls on a mail account plan (RFC 8620, 6; RFC 8621). Of the methods the /get and /changes
--- of each kind, the /query of mailboxes and emails, creating by Mailbox/set, Email/import and
--- Email/parse are built.
+-- of each kind, the /query and /queryChanges of mailboxes and emails, Mailbox/set, Email/set
+-- without creates, Email/import and Email/parse are built.
 use Rattle.std.specs.Prelude.{◌≡◌, ℕ, List, [], ◌∷◌, Bool, codes, Option, Some, None, Result, MatchResult}
 use Rattle.jm_json.specs.Call.{Call as Invocation, error_of}
 use Rattle.jm_json.specs.Invocations.{call_of}
@@ -15,14 +15,18 @@ use Rattle.mail_view.specs.Parses.{parse_in}
 use Rattle.mail_counts.specs.Plans.{Ground, ground_of_history}
 use Rattle.mail_counts.specs.declared.plan.SetPlan.{SetPlan}
 use Rattle.mail_counts.specs.declared.plan.SetFault.{SetFault}
-use Rattle.mailbox_set.specs.Plans.{ExplainsSet, Outcome, plan_of, set_outcome}
-use Rattle.mailbox_set.specs.Plans as sets
+use Rattle.mailbox_set.specs.Sets.{mailbox_set_outcome}
+use Rattle.set_parts.specs.Outcomes.{ExplainsSet, Outcome, plan_of}
+use Rattle.set_parts.specs.Outcomes as sets
+use Rattle.email_set.specs.Plans.{email_set_outcome}
 use Rattle.mail_import.specs.Plans.{import_in}
 use Rattle.change_calls.specs.Responses as change
 use Rattle.change_calls.specs.Responses.{changes_outcome}
 use Rattle.message_texts.specs.Texts.{texts_of_blobs}
 use Rattle.query_engine.specs.Responses as queries
 use Rattle.query_engine.specs.Responses.{query_outcome}
+use Rattle.query_changes.specs.Responses as query_change
+use Rattle.query_changes.specs.Responses.{query_changes_outcome}
 use Rattle.account_book.specs.declared.asks.Ask.{Ask}
 use Rattle.account_book.specs.declared.asks.Ask.TheVariants.{Method, Upload, Blob, Fetch, Place, States}
 use Rattle.account_book.specs.declared.asks.Call.{Call}
@@ -33,7 +37,7 @@ use Rattle.account_book.specs.declared.plans.Plan.{Plan}
 use Rattle.mail_calls.specs.BlobPlans.{bytes_named, upload_plan}
 use Rattle.mail_calls.specs.Methods.{method_named}
 use Rattle.mail_calls.specs.declared.methods.Method.{Method as MailMethod}
-use Rattle.mail_calls.specs.declared.methods.Method.TheVariants.{Get, Changes, MailboxSet, EmailImport, EmailParse, Query}
+use Rattle.mail_calls.specs.declared.methods.Method.TheVariants.{Get, Changes, MailboxSet, EmailSet, EmailImport, EmailParse, Query, QueryChanges}
 
 -- nothing is answered, and nothing changed
 abbrev pub silent : Plan
@@ -84,6 +88,22 @@ query_plan c (queries.unsupported_sort_call name) = refused c (codes "unsupporte
 query_plan c queries.no_anchor = refused c (codes "anchorNotFound")
 query_plan c (queries.replied reply) = answered (response_to c reply)
 
+-- the outcome of a call for the changes of a query of a kind over an account with this history,
+-- where texts are those of its blobs
+abbrev pub query_changed : History → Kind → Tree → query_change.Outcome
+query_changed h kind args = query_changes_outcome h (texts_of_blobs (blobs_of h)) kind args
+
+-- the plan of a call for the changes of a query
+abbrev pub query_changes_plan : Invocation → query_change.Outcome → Plan
+query_changes_plan c (query_change.invalid_call name) = refused c (codes "invalidArguments")
+query_changes_plan c (query_change.unsupported_filter_call name) =
+    refused c (codes "unsupportedFilter")
+query_changes_plan c (query_change.unsupported_sort_call name) =
+    refused c (codes "unsupportedSort")
+query_changes_plan c query_change.cannot_tell = refused c (codes "cannotCalculateChanges")
+query_changes_plan c query_change.too_many_changes = refused c (codes "tooManyChanges")
+query_changes_plan c (query_change.replied reply) = answered (response_to c reply)
+
 -- the plan of a set or of an import
 abbrev pub set_plan : Invocation → Outcome → Plan
 set_plan c (sets.invalid name) = refused c (codes "invalidArguments")
@@ -100,9 +120,16 @@ abbrev pub IsOutcomeOf : Result SetPlan SetFault → Outcome → Type 0
 IsOutcomeOf returned o =
     MatchResult returned (λ p. o ≡ sets.planned (plan_of p)) (λ e. ExplainsSet e o)
 
--- what a set of mailboxes is planned on
+-- what a set is planned on
 abbrev pub ground_in : History → Ground
 ground_in h = ground_of_history h
+
+-- the plans of a Mailbox/set and of an Email/set
+abbrev pub mailbox_set_plan : Invocation → List Created → Ground → Plan
+mailbox_set_plan c made g = set_plan c (mailbox_set_outcome g c.args made)
+
+abbrev pub email_set_plan : Invocation → List Created → Ground → Plan
+email_set_plan c made g = set_plan c (email_set_outcome g c.args made)
 
 -- The plan of a method of mail, or of a name that is none's: over an account with this history,
 -- with what the request has made so far, of a user to whom the account is read-only or not, at a
@@ -114,8 +141,12 @@ plan_by h c made read_only moment (Some (Get kind)) =
 plan_by h c made read_only moment (Some (Changes kind)) =
     changes_plan c (changes_outcome h kind c.args)
 plan_by h c made read_only moment (Some (Query kind)) = query_plan c (queried h kind c.args)
+plan_by h c made read_only moment (Some (QueryChanges kind)) =
+    query_changes_plan c (query_changed h kind c.args)
 plan_by h c made read_only moment (Some MailboxSet) =
-    set_plan c (set_outcome (ground_in h) c.args made)
+    mailbox_set_plan c made (ground_in h)
+plan_by h c made read_only moment (Some EmailSet) =
+    email_set_plan c made (ground_in h)
 plan_by h c made read_only moment (Some EmailImport) =
     set_plan c (import_in h c.args made moment)
 plan_by h c made read_only moment (Some EmailParse) = get_plan c (parse_in h c.args)

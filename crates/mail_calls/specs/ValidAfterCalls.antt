@@ -1,25 +1,23 @@
 -- Each plan keeps what a plan must keep.
 use Rattle.std.proofs.Common.{◌≡◌, ℕ, Bool, false, List, [], ◌∷◌, Option, Some, None, refl, sym, ap₂, subst, ◌+◌, ◌≤◌, ◌++◌, true, append-nil, codes, length, nat_lt, nat_le, ltb-true, leb-true, arith, length-append, ◌∙◌}
-use Rattle.std.specs.List.{AllByRecursion}
 use Rattle.jm_json.specs.Call.{Call as Invocation}
 use Rattle.jm_json.specs.Invocations.{call_of}
 use Rattle.jm_json.specs.declared.invocation.Created.{Created}
 use Rattle.mail_records.specs.Histories.{History, blobs_of, content_of}
-use Rattle.mail_records.proofs.Growth.{all_map}
-use Rattle.mail_records.specs.declared.edits.Edit.{Edit}
-use Rattle.mail_records.specs.declared.edits.Edit.TheVariants.{PutMailbox, DropMailbox, PutEmail, DropEmail, PutThread, DropThread}
 use Rattle.mail_counts.specs.CountsFlag.{AreCountsFlagsRight}
-use Rattle.mail_counts.specs.Derived.{LeavesEmails}
 use Rattle.mail_summary.specs.Summaries.{summary}
 use Rattle.mail_view.specs.Gets.{Got, invalid, too_large, got, get_of_kind}
 use Rattle.mail_view.specs.Parses.{parse_in}
-use Rattle.mailbox_set.specs.Plans.{Outcome, set_outcome}
-use Rattle.mailbox_set.specs.Plans as sets
+use Rattle.mailbox_set.specs.Sets.{mailbox_set_outcome}
+use Rattle.set_parts.specs.Outcomes.{Outcome}
+use Rattle.set_parts.specs.Outcomes as sets
 use Rattle.change_calls.specs.Responses as change
 use Rattle.change_calls.specs.Responses.{changes_outcome}
 use Rattle.query_engine.specs.Responses as queries
-use Rattle.mailbox_set.specs.Plans.{PutsNew}
-use Rattle.mailbox_set.proofs.Promising.{promised}
+use Rattle.query_changes.specs.Responses as query_change
+use Rattle.mailbox_set.proofs.Leading.{promised}
+use Rattle.email_set.specs.Plans.{email_set_outcome}
+use Rattle.email_set.proofs.Promising.{promised as emails_promised}
 use Rattle.mail_import.specs.Plans.{import_in}
 use Rattle.mail_import.proofs.Promising.{planned_import, promised as imported}
 use Rattle.account_book.specs.Plans.{last_moment}
@@ -28,24 +26,16 @@ use Rattle.account_book.specs.declared.asks.Ask.TheVariants.{Method, Upload, Blo
 use Rattle.account_book.specs.declared.asks.Call.{Call}
 use Rattle.account_book.specs.declared.plans.Plan.{Plan}
 use Rattle.plan_promises.specs.Planned.{IsPlanned}
-use Rattle.mail_calls.specs.ValidAfterCommits.{IsWholeMail, Keeps, blobs_keep, few_without, idle_keeps, mailboxes_keep, planned_keeps}
+use Rattle.mail_calls.specs.ValidAfterCommits.{IsWholeMail, Keeps, blobs_keep, few_without, idle_keeps, planned_keeps}
 use Rattle.mail_calls.specs.BlobPlans.{has_room, upload_if}
 use Rattle.mail_calls.specs.Laws.{and_both}
 use Rattle.blob_store.specs.Blobs.{AreBlobsFew, byte_count}
 use Rattle.blob_store.specs.declared.limits.TheConstants.{MAX_BLOB_BYTES_PER_ACCOUNT, MAX_BLOBS_PER_ACCOUNT}
 use Rattle.std.proofs.lemmas.List.Sums.{sum-map, sum_by-append}
 use Rattle.mail_calls.specs.Methods.{method_named}
-use Rattle.mail_calls.specs.Plans.{silent, refused, get_plan, changes_plan, set_plan, ground_in, plan_by, ask_plan, call_plan, queried, query_plan}
+use Rattle.mail_calls.specs.Plans.{silent, refused, get_plan, changes_plan, set_plan, ground_in, plan_by, ask_plan, call_plan, queried, query_plan, query_changed, query_changes_plan}
 use Rattle.mail_calls.specs.declared.methods.Method.{Method as MailMethod}
-use Rattle.mail_calls.specs.declared.methods.Method.TheVariants.{Get, Changes, MailboxSet, EmailImport, EmailParse, Query}
-
-leaves_new : (e : Edit) → PutsNew e → LeavesEmails e
-leaves_new (PutMailbox item was counts) puts = refl
-leaves_new (DropMailbox number) puts = absurd puts
-leaves_new (PutEmail item was) puts = absurd puts
-leaves_new (DropEmail number thread) puts = absurd puts
-leaves_new (PutThread item was) puts = absurd puts
-leaves_new (DropThread number) puts = absurd puts
+use Rattle.mail_calls.specs.declared.methods.Method.TheVariants.{Get, Changes, MailboxSet, EmailSet, EmailImport, EmailParse, Query, QueryChanges}
 
 get_keeps : (h : History) (call : Invocation) (g : Got) → IsWholeMail h → Keeps h (get_plan call g)
 get_keeps h call (invalid name) whole = idle_keeps h _ whole refl refl
@@ -66,18 +56,43 @@ query_keeps h call (queries.unsupported_sort_call name) whole = idle_keeps h _ w
 query_keeps h call queries.no_anchor whole = idle_keeps h _ whole refl refl
 query_keeps h call (queries.replied reply) whole = idle_keeps h _ whole refl refl
 
+query_changes_keep : (h : History) (call : Invocation) (o : query_change.Outcome) → IsWholeMail h
+    → Keeps h (query_changes_plan call o)
+query_changes_keep h call (query_change.invalid_call name) whole = idle_keeps h _ whole refl refl
+query_changes_keep h call (query_change.unsupported_filter_call name) whole =
+    idle_keeps h _ whole refl refl
+query_changes_keep h call (query_change.unsupported_sort_call name) whole =
+    idle_keeps h _ whole refl refl
+query_changes_keep h call query_change.cannot_tell whole = idle_keeps h _ whole refl refl
+query_changes_keep h call query_change.too_many_changes whole = idle_keeps h _ whole refl refl
+query_changes_keep h call (query_change.replied reply) whole = idle_keeps h _ whole refl refl
+
 set_keeps : (h : History) (call : Invocation) (made : List Created) (o : Outcome) → IsWholeMail h
-    → set_outcome (ground_in h) call.args made ≡ o → Keeps h (set_plan call o)
+    → mailbox_set_outcome (ground_in h) call.args made ≡ o → Keeps h (set_plan call o)
 set_keeps h call made (sets.invalid name) whole is = idle_keeps h _ whole refl refl
 set_keeps h call made sets.too_large whole is = idle_keeps h _ whole refl refl
 set_keeps h call made sets.state_mismatch whole is = idle_keeps h _ whole refl refl
 set_keeps h call made (sets.planned p) whole is =
+    let blobs = blobs_of h in
     let all = promised (ground_in h) call.args made p is in
-    mailboxes_keep h (set_plan call (sets.planned p)) whole refl
-    (all.fits whole.tidy.numbered)
-    (all_map PutsNew LeavesEmails p.edits leaves_new all.puts)
-    (all.tidy whole.tidy)
-    (all.flags whole.tidy.numbered)
+    planned_keeps h (set_plan call (sets.planned p)) whole
+    (subst (λ (bs : List (List ℕ)). IsPlanned summary bs (content_of h) p.edits)
+    (sym (append-nil blobs)) (all.planned summary blobs whole.tidy))
+    (few_without h (set_plan call (sets.planned p)) whole refl)
+
+email_set_keeps : (h : History) (call : Invocation) (made : List Created) (o : Outcome)
+    → IsWholeMail h → email_set_outcome (ground_in h) call.args made ≡ o
+    → Keeps h (set_plan call o)
+email_set_keeps h call made (sets.invalid name) whole is = idle_keeps h _ whole refl refl
+email_set_keeps h call made sets.too_large whole is = idle_keeps h _ whole refl refl
+email_set_keeps h call made sets.state_mismatch whole is = idle_keeps h _ whole refl refl
+email_set_keeps h call made (sets.planned p) whole is =
+    let blobs = blobs_of h in
+    let all = emails_promised (ground_in h) call.args made p is in
+    planned_keeps h (set_plan call (sets.planned p)) whole
+    (subst (λ (bs : List (List ℕ)). IsPlanned summary bs (content_of h) p.edits)
+    (sym (append-nil blobs)) (all.planned summary blobs whole.tidy))
+    (few_without h (set_plan call (sets.planned p)) whole refl)
 
 -- an import keeps at each moment up to the last
 import_keeps : (h : History) (call : Invocation) (made : List Created) (moment : ℕ) (o : Outcome)
@@ -120,9 +135,15 @@ by_method h P all call made read_only moment import whole (Some (Changes kind)) 
 by_method h P all call made read_only moment import whole (Some (Query kind)) =
     let o = queried h kind call.args in
     all (query_plan call o) (query_keeps h call o whole)
+by_method h P all call made read_only moment import whole (Some (QueryChanges kind)) =
+    let o = query_changed h kind call.args in
+    all (query_changes_plan call o) (query_changes_keep h call o whole)
 by_method h P all call made read_only moment import whole (Some MailboxSet) =
-    let o = set_outcome (ground_in h) call.args made in
+    let o = mailbox_set_outcome (ground_in h) call.args made in
     all (set_plan call o) (set_keeps h call made o whole refl)
+by_method h P all call made read_only moment import whole (Some EmailSet) =
+    let o = email_set_outcome (ground_in h) call.args made in
+    all (set_plan call o) (email_set_keeps h call made o whole refl)
 by_method h P all call made read_only moment import whole (Some EmailImport) = import
 by_method h P all call made read_only moment import whole (Some EmailParse) =
     let g = parse_in h call.args in

@@ -7,13 +7,11 @@ mod laws;
 mod methods;
 mod plans;
 mod rules;
-#[cfg(test)]
-mod tests;
 mod validity;
 
 pub use laws::{
     planned_edits_keep_accounts_valid, plans_say_which_puts_change_only_counts,
-    summaries_can_be_kept,
+    states_change_at_edits_of_their_kind, summaries_can_be_kept,
 };
 pub use methods::Method;
 pub use rules::MailRules;

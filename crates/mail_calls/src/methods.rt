@@ -15,8 +15,13 @@ pub enum Method {
     Changes(Kind),
     /// The `/query` of a kind: `Mailbox/query` or `Email/query` (RFC 8621, sections 2.3 and 4.4).
     Query(Kind),
+    /// The `/queryChanges` of a kind: `Mailbox/queryChanges` or `Email/queryChanges` (RFC 8621,
+    /// sections 2.4 and 4.5).
+    QueryChanges(Kind),
     /// `Mailbox/set` (RFC 8621, section 2.5).
     MailboxSet,
+    /// `Email/set` (RFC 8621, section 4.6).
+    EmailSet,
     /// `Email/import` (RFC 8621, section 4.8).
     EmailImport,
     /// `Email/parse` (RFC 8621, section 4.9).
@@ -51,8 +56,17 @@ pub(crate) fn read_method(name: &str) -> Option<Method>
     if name == "Email/query" {
         return Some(Method::Query(Kind::Email));
     }
+    if name == "Mailbox/queryChanges" {
+        return Some(Method::QueryChanges(Kind::Mailbox));
+    }
+    if name == "Email/queryChanges" {
+        return Some(Method::QueryChanges(Kind::Email));
+    }
     if name == "Mailbox/set" {
         return Some(Method::MailboxSet);
+    }
+    if name == "Email/set" {
+        return Some(Method::EmailSet);
     }
     if name == "Email/import" {
         return Some(Method::EmailImport);

@@ -4,11 +4,14 @@ ghost use Rattle.jm_json.specs.Invocations.{call_of};
 ghost use Rattle.jm_json.specs.Json.{tree_of};
 ghost use Rattle.mail_view.specs.Gets.{get_of_kind};
 ghost use Rattle.mail_view.specs.Parses.{parse_in};
-ghost use Rattle.mailbox_set.specs.Plans.{ExplainsSet, Outcome, set_outcome};
+ghost use Rattle.mailbox_set.specs.Sets.{mailbox_set_outcome};
+ghost use Rattle.set_parts.specs.Outcomes.{ExplainsSet, Outcome};
+ghost use Rattle.email_set.specs.Plans.{email_set_outcome};
 ghost use Rattle.mail_import.specs.Plans.{import_in};
 ghost use Rattle.change_calls.specs.Responses.{ExplainsCall, changes_outcome, replied};
-ghost use Rattle.mail_calls.specs.Plans.{IsOutcomeOf, answered, changes_plan, get_plan, ground_in, method_plan, refused, response_to, set_plan, silent, queried, query_plan};
+ghost use Rattle.mail_calls.specs.Plans.{IsOutcomeOf, answered, changes_plan, get_plan, ground_in, method_plan, refused, response_to, set_plan, silent, queried, query_plan, query_changed, query_changes_plan};
 ghost use Rattle.query_engine.specs.Responses as queries;
+ghost use Rattle.query_changes.specs.Responses as query_change;
 ghost use Rattle.account_book.specs.Accounts.{IsBounded};
 ghost use Rattle.account_book.specs.Plans.{last_moment};
 
@@ -16,6 +19,7 @@ use crate::blobs::{plan_reading, state_in};
 use crate::methods::{Method, read_method};
 use account_book::{Account, Out, Plan};
 use change_calls::{CallFault, answer_changes};
+use email_set::plan_email_set;
 use get_calls::{GetFault, get, parse};
 use jm_base::{Blobs, Kind, NoMemory};
 use jm_json::{Invocation, Invocations, Json, Made, Replied};
@@ -24,6 +28,7 @@ use mail_import::plan_import;
 use mail_records::Edits;
 use mailbox_set::plan_mailbox_set;
 use message_texts::BlobTexts;
+use query_changes::{QueryChangesFault, answer_query_changes};
 use query_engine::{QueryCallFault, answer_query};
 use std::alloc::Global;
 
@@ -196,6 +201,56 @@ fn plan_query(
     }
 }
 
+// Returns the arguments of the response to a call for the changes of a query of a kind.
+fn find_query_changes(
+    alloc: Global,
+    account: &Account,
+    kind: Kind,
+    args: &Json,
+) -> Result<Json, QueryChangesFault>
+    ensures reply { IfOk result (λ j. query_changed account.now.history kind (tree_of args.now)
+        ≡ query_change.replied (tree_of j)) }
+    ensures fault { IfErr result (λ fault. query_change.ExplainsCall fault
+        (query_changed account.now.history kind (tree_of args.now))) }
+{
+    let texts = BlobTexts {
+        alloc,
+        blobs: account.blobs(),
+    };
+    let log = account.log();
+    let content = account.content();
+    answer_query_changes(alloc, log, content, &texts, kind, args)
+}
+
+// Returns the plan of a call for the changes of a query of a kind (RFC 8620, section 5.6).
+fn plan_query_changes(
+    alloc: Global,
+    kind: Kind,
+    account: &Account,
+    call: &Invocation,
+) -> Result<Plan, NoMemory>
+    ensures { IfOk result (λ p. p ≡ query_changes_plan (call_of call.now)
+        (query_changed account.now.history kind (tree_of call.now.args))) }
+{
+    match find_query_changes(alloc, account, kind, &call.args) {
+        Ok(args) => plan_response(alloc, call, args),
+        Err(QueryChangesFault::Invalid(_)) => plan_error(alloc, call, "invalidArguments"),
+        Err(QueryChangesFault::UnsupportedFilter(_)) => plan_error(
+            alloc,
+            call,
+            "unsupportedFilter",
+        ),
+        Err(QueryChangesFault::UnsupportedSort(_)) => plan_error(alloc, call, "unsupportedSort"),
+        Err(QueryChangesFault::CannotCalculate) => plan_error(
+            alloc,
+            call,
+            "cannotCalculateChanges",
+        ),
+        Err(QueryChangesFault::TooMany) => plan_error(alloc, call, "tooManyChanges"),
+        Err(QueryChangesFault::NoMemory) => Err(NoMemory),
+    }
+}
+
 // Returns the plan that answers a set or an import that is rejected with this fault.
 fn answer_set_fault(alloc: Global, call: &Invocation, fault: &SetFault) -> Result<Plan, NoMemory>
     ensures { IfOk result (λ p. (o : Outcome) → ExplainsSet fault.now o
@@ -236,9 +291,24 @@ fn plan_set(
 ) -> Result<Plan, NoMemory>
     requires { IsBounded account.now.history }
     ensures { IfOk result (λ p. p ≡ set_plan (call_of call.now)
-        (set_outcome (ground_in account.now.history) (tree_of call.now.args) made.now)) }
+        (mailbox_set_outcome (ground_in account.now.history) (tree_of call.now.args) made.now)) }
 {
     let returned = plan_mailbox_set(alloc, account.content(), account.log(), &call.args, made);
+    answer_set(alloc, call, returned)
+}
+
+// Returns the plan of an Email/set (RFC 8621, section 4.6).
+fn plan_emails(
+    alloc: Global,
+    account: &Account,
+    call: &Invocation,
+    made: &Made,
+) -> Result<Plan, NoMemory>
+    requires { IsBounded account.now.history }
+    ensures { IfOk result (λ p. p ≡ set_plan (call_of call.now)
+        (email_set_outcome (ground_in account.now.history) (tree_of call.now.args) made.now)) }
+{
+    let returned = plan_email_set(alloc, account.content(), account.log(), &call.args, made);
     answer_set(alloc, call, returned)
 }
 
@@ -280,7 +350,9 @@ pub(crate) fn plan_method(
         Some(Method::Get(kind)) => plan_get(alloc, kind, account, call, read_only),
         Some(Method::Changes(kind)) => plan_changes(alloc, kind, account, call),
         Some(Method::Query(kind)) => plan_query(alloc, kind, account, call),
+        Some(Method::QueryChanges(kind)) => plan_query_changes(alloc, kind, account, call),
         Some(Method::MailboxSet) => plan_set(alloc, account, call, made),
+        Some(Method::EmailSet) => plan_emails(alloc, account, call, made),
         Some(Method::EmailImport) => plan_imports(alloc, account, call, made, moment),
         Some(Method::EmailParse) => plan_parse(alloc, account, call),
     }

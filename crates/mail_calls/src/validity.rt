@@ -1,9 +1,9 @@
 // Whether an account is valid.
-ghost use Rattle.std.specs.Prelude.{◌≡◌, ◌↔◌, IfOk, IsTrue, option_map};
+ghost use Rattle.std.specs.Prelude.{◌≡◌, ◌↔◌, ℕ, List, true, IfOk, IsTrue, MatchOption, ⊤, option_map};
 ghost use Rattle.std.specs.List.{AllByRecursion, list_all};
 ghost use Rattle.jm_base.specs.declared.identifiers.UtcDate.{UtcDate as TheDate};
 ghost use Rattle.mail_summary.specs.Summaries.{summary};
-ghost use Rattle.mail_calls.specs.MessageTests.{are_same_texts, has_message, is_message, is_same_date, is_same_summary};
+ghost use Rattle.mail_calls.specs.MessageTests.{IsSharing, are_same_texts, has_message, is_message, is_same_date, is_same_summary};
 ghost use Rattle.mail_calls.specs.ValidAccounts.{IsWhole};
 
 use account_book::Account;
@@ -75,20 +75,80 @@ fn has_message(alloc: Global, blobs: &BlobList, email: &Email) -> Result<bool, N
     }
 }
 
-// Returns whether the message of each email is among the blobs.
+// Returns an email of this blob among those that were checked: the one of the index that is noted
+// for the blob, if it has the blob.
+fn find_sharing<'a>(checked: &'a [Email], noted: &[usize], blob: u64) -> Option<&'a Email>
+    ensures { MatchOption result ⊤ (λ e. IsSharing checked.now blob e.now) }
+{
+    let Some(index) = noted.get(blob as usize) else {
+        return None;
+    };
+    let Some(email) = checked.get(*index) else {
+        return None;
+    };
+    if email.blob != blob {
+        return None;
+    }
+    Some(email)
+}
+
+// Returns whether an email has the message of another one, which shares its blob and has it.
+#[tactic(auto, using(crate::proofs::SharedMessages::shared_is))]
+fn shares_message(email: &Email, other: &Email) -> bool
+    ensures { (blobs : List (List ℕ)) → other.now.blob ≡ email.now.blob
+        → has_message summary blobs other.now ≡ true
+        → result ≡ has_message summary blobs email.now }
+{
+    if email.size != other.size {
+        return false;
+    }
+    is_same_summary(&email.summary, &other.summary)
+}
+
+// Returns whether the message of an email is among the blobs. It is not summarized again if one of
+// the emails that were checked shares its blob.
+fn has_shared_message(
+    alloc: Global,
+    blobs: &BlobList,
+    checked: &[Email],
+    noted: &[usize],
+    email: &Email,
+) -> Result<bool, NoMemory>
+    requires { list_all (has_message summary blobs.now.blobs) checked.now ≡ true }
+    ensures { IfOk result (λ b. b ≡ has_message summary blobs.now.blobs email.now) }
+{
+    match find_sharing(checked, noted, email.blob) {
+        Some(other) => Ok(shares_message(email, other)),
+        None => has_message(alloc, blobs, email),
+    }
+}
+
+// Notes the index of an email of this blob.
+fn note_blob(noted: &mut [usize], blob: u64, index: usize) {
+    if let Some(place) = noted.get_mut(blob as usize) {
+        *place = index;
+    }
+}
+
+// Returns whether the message of each email is among the blobs. A message that many emails share is
+// summarized once.
 fn have_messages(alloc: Global, blobs: &BlobList, emails: &[Email]) -> Result<bool, NoMemory>
     ensures { IfOk result (λ b. b ≡ list_all (has_message summary blobs.now.blobs) emails.now) }
 {
-    for email in emails {
-        if !has_message(alloc, blobs, email)? {
+    // For each blob the index of the last email that was found to be of it.
+    let mut noted = vec![in alloc; usize::MAX; blobs.all().len().saturating_add(1)]?;
+    for (index, email) in emails.iter().enumerate() {
+        let checked = &emails[..index];
+        if !has_shared_message(alloc, blobs, checked, noted.as_slice(), email)? {
             return Ok(false);
         }
+        note_blob(noted.as_mut_slice(), email.blob, index);
     }
     Ok(true)
 }
 
 /// Returns whether an account is valid. What its edits did one after the other is known already;
-/// its records are checked at the cost of sorting them, and the message of each email is parsed
+/// its records are checked at the cost of sorting them, and each blob that emails have is parsed
 /// once. Fails if an allocation fails.
 pub(crate) fn is_whole(alloc: Global, account: &Account) -> Result<bool, NoMemory>
     ensures { IfOk result (λ b. IsTrue b ↔ IsWhole summary account.now.history) }

@@ -22,6 +22,12 @@ const GET: &str =
 const SET: &str =
     "{\"using\":[\"urn:ietf:params:jmap:mail\"],\"methodCalls\":[[\"Mailbox/set\",{\"accountId\":\"A1\",\"create\":{\"k\":{\"name\":\"N\"}";
 
+const QUERY: &str =
+    "{\"using\":[\"urn:ietf:params:jmap:mail\"],\"methodCalls\":[[\"Email/query\",{\"accountId\":\"A1\",\"filter\":";
+
+const QUERY_OR: &str =
+    "{\"using\":[\"urn:ietf:params:jmap:mail\"],\"methodCalls\":[[\"Email/query\",{\"accountId\":\"A1\",\"filter\":{\"operator\":\"OR\",\"conditions\":[{\"minSize\":1}";
+
 const CALLS: &str =
     "{\"using\":[\"urn:ietf:params:jmap:core\"],\"methodCalls\":[[\"Core/echo\",{},\"0\"]";
 
@@ -108,6 +114,26 @@ const GROWN: &[Grown] = &[
         tail: ECHO,
         count: 127,
         shows: "error:notRequest\"}\n{\"methodResponses\":[[\"Core/echo\",{},\"a\"]],\"sessionState\":\"0\"}\n",
+    },
+    Grown {
+        arguments: "batch",
+        head: QUERY,
+        open: "{\"operator\":\"NOT\",\"conditions\":[",
+        middle: "null",
+        close: "]}",
+        tail: "},\"0\"]]}",
+        count: 60,
+        shows: "\"canCalculateChanges\":true,\"ids\":[],\"limit\":1000,\"position\":0,\"queryState\":\"0\"},\"0\"]]",
+    },
+    Grown {
+        arguments: "batch",
+        head: QUERY_OR,
+        open: ",{\"minSize\":1}",
+        middle: "",
+        close: "",
+        tail: "]}},\"0\"]]}",
+        count: 9_999,
+        shows: "\"canCalculateChanges\":true,\"ids\":[],\"limit\":1000,\"position\":0,\"queryState\":\"0\"},\"0\"]]",
     },
     Grown {
         arguments: "read",

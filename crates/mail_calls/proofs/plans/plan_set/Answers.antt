@@ -1,17 +1,21 @@
-use Rattle.std.proofs.Common.{◌≡◌, IfOk, IfErr, subst}
+use Rattle.std.proofs.Common.{◌≡◌, IfOk, IfErr, ap, subst}
 use Rattle.jm_json.specs.Invocations.{call_of}
 use Rattle.jm_json.specs.Json.{tree_of}
-use Rattle.mailbox_set.specs.Plans.{Outcome, ground_of, set_outcome}
+use Rattle.mail_counts.specs.Plans.{Ground}
+use Rattle.set_parts.specs.Outcomes.{Outcome, ground_of}
+use Rattle.mailbox_set.specs.Sets.{mailbox_set_outcome}
 use Rattle.mail_calls.specs.Plans.{IsOutcomeOf, ground_in}
-use Rattle.mail_calls.proofs.Sets.{answer_to, outcome_told, same_outcome}
+use Rattle.mail_calls.proofs.Sets.{answer_to, outcome_told, ground_is}
 use Rattle.mail_calls.proofs.plans.plan_set.Goals as goal
 
 pub returns : goal.returns
 returns c =
     let h = c.args.account.now.history in
     let args = tree_of c.args.call.now.args in
-    let outcome = set_outcome (ground_of c.content.result.now.content c.log.result.now) args c.args.made.now in
-    let same = same_outcome h c.content.result.now.content c.log.result.now args c.args.made.now c.content.ensures.content c.log.ensures in
-    answer_to c.answer_set.result (call_of c.args.call.now) c.plan_mailbox_set-returned.result (set_outcome (ground_in h) args c.args.made.now)
-    (subst (IsOutcomeOf c.plan_mailbox_set-returned.result) same (outcome_told c.plan_mailbox_set-returned.result outcome c.plan_mailbox_set-returned.ensures.outcome c.plan_mailbox_set-returned.ensures.fault))
+    let made = c.args.made.now in
+    let returned = c.plan_mailbox_set-returned in
+    let outcome = mailbox_set_outcome (ground_of c.content.result.now.content c.log.result.now) args made in
+    let same = ap (λ (g : Ground). mailbox_set_outcome g args made) (ground_is h c.content.result.now.content c.log.result.now c.content.ensures.content c.log.ensures) in
+    answer_to c.answer_set.result (call_of c.args.call.now) returned.result (mailbox_set_outcome (ground_in h) args made)
+    (subst (IsOutcomeOf returned.result) same (outcome_told returned.result outcome returned.ensures.outcome returned.ensures.fault))
     c.answer_set.ensures
