@@ -85,6 +85,19 @@ def shown(data, bodies):
     return str(parsed["subject"]), parsed["date"].datetime, people, leaves, preview, texts
 
 
+def wanted(data, bodies):
+    """What is compared of a message: its subject, its size, its people, and its texts where `bodies` says so."""
+    subject, _, people, _, _, texts = shown(data, bodies)
+    return subject, len(data), people, [text.replace("\r\n", "\n") for text in texts]
+
+
+def found(email, bodies):
+    """The same of an email as the server shows it."""
+    people = [[(one["email"], one["name"] or "") for one in email[name]] for name in ("from", "to") if email[name] is not None]
+    values = email["bodyValues"] if bodies else {}
+    return email["subject"], email["size"], people, [values[part]["value"] for part in sorted(values, key=int)]
+
+
 def seconds(action, rounds):
     took = []
     for _ in range(rounds):
