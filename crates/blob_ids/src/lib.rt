@@ -4,8 +4,6 @@
 
 mod ids;
 mod laws;
-#[cfg(test)]
-mod tests;
 
 pub use ids::{BlobId, read_blob_id, write_blob_id};
 pub use laws::ids_are_read_back;

@@ -10,8 +10,6 @@ mod faults;
 mod laws;
 mod limits;
 mod list;
-#[cfg(test)]
-mod tests;
 
 pub use faults::BlobFault;
 pub use laws::room_is_one_more_within_limits;

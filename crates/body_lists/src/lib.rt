@@ -3,8 +3,6 @@
 
 mod laws;
 mod place;
-#[cfg(test)]
-mod tests;
 mod walk;
 
 pub use laws::lists_of_examples;

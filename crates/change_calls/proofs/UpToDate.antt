@@ -19,7 +19,7 @@ use Rattle.change_calls.proofs.Spans.{content_is}
 
 -- ---- a record that no edit names stays
 
-mailbox_step : (n : ℕ) (c : Content) (e : Edit) → is_id OfMailbox n (id_of e) ≡ false → mailbox_at (after_edit c e) n ≡ mailbox_at c n
+pub mailbox_step : (n : ℕ) (c : Content) (e : Edit) → is_id OfMailbox n (id_of e) ≡ false → mailbox_at (after_edit c e) n ≡ mailbox_at c n
 mailbox_step n c (PutMailbox item was counts) h = lookup-put_other mailbox_number item n h c.mailboxes
 mailbox_step n c (DropMailbox number) h = lookup-without_other mailbox_number number n h c.mailboxes
 mailbox_step n c (PutEmail item was) h = refl
@@ -27,7 +27,7 @@ mailbox_step n c (DropEmail number thread) h = refl
 mailbox_step n c (PutThread item was) h = refl
 mailbox_step n c (DropThread number) h = refl
 
-email_step : (n : ℕ) (c : Content) (e : Edit) → is_id OfEmail n (id_of e) ≡ false → email_at (after_edit c e) n ≡ email_at c n
+pub email_step : (n : ℕ) (c : Content) (e : Edit) → is_id OfEmail n (id_of e) ≡ false → email_at (after_edit c e) n ≡ email_at c n
 email_step n c (PutMailbox item was counts) h = refl
 email_step n c (DropMailbox number) h = refl
 email_step n c (PutEmail item was) h = lookup-put_other email_number item n h c.emails
@@ -44,7 +44,7 @@ thread_step n c (PutThread item was) h = lookup-put_other thread_number item n h
 thread_step n c (DropThread number) h = lookup-without_other thread_number number n h c.threads
 
 module _ {R : Type 0} (at : Content → ℕ → Option R) (kind : Kind) (step : (n : ℕ) (c : Content) (e : Edit) → is_id kind n (id_of e) ≡ false → at (after_edit c e) n ≡ at c n) where
-  stays : (es : List Edit) (c : Content) (n : ℕ) → list_any (is_id kind n) (map id_of es) ≡ false → at (after_edits c es) n ≡ at c n
+  pub stays : (es : List Edit) (c : Content) (n : ℕ) → list_any (is_id kind n) (map id_of es) ≡ false → at (after_edits c es) n ≡ at c n
   stays [] c n h = refl
   stays (e ∷ es) c n h =
       let parts = or_parts (is_id kind n (id_of e)) (list_any (is_id kind n) (map id_of es)) h in

@@ -11,10 +11,8 @@ mod marks;
 mod page;
 mod pages;
 mod response;
-#[cfg(test)]
-mod tests;
 
 pub use laws::{pages_are_exact, pages_bring_up_to_date};
 pub use page::{ChangeFault, ChangePage};
-pub use pages::changes;
-pub use response::{CallFault, answer_changes};
+pub use pages::{changes, find_state};
+pub use response::{CallFault, answer_changes, make_ids};

@@ -35,8 +35,8 @@ fn read_maximum(max: Option<i64>) -> Option<Option<u64>>
     }
 }
 
-// Returns the position that a state's text names, if the log reaches it.
-fn find_state(log: &Log, kind: Kind, text: &[u8]) -> Option<u64>
+/// Returns the position that a state's text names, if the log reaches it.
+pub fn find_state(log: &Log, kind: Kind, text: &[u8]) -> Option<u64>
     ensures state { (h : History) → IsLogOf h log.now → result ≡ reached_state h kind text.now }
     ensures reached { IfSome result (λ s. s ≤ log_end log.now) }
 {

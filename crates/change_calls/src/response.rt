@@ -73,7 +73,8 @@ fn read_string<'a>(members: &'a Members, name: &str) -> &'a str
     }
 }
 
-fn make_ids(alloc: Global, kind: Kind, numbers: &[u64]) -> Result<Items, NoMemory>
+/// Returns the identifiers of records of a kind, by their numbers.
+pub fn make_ids(alloc: Global, kind: Kind, numbers: &[u64]) -> Result<Items, NoMemory>
     ensures { IfOk result (λ ts. ts ≡ id_trees kind numbers.now) }
 {
     let mut ids = Items::with_room(alloc, numbers.len())?;

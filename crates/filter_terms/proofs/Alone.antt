@@ -10,10 +10,10 @@ use Rattle.mail_records.specs.Contents.{email_at}
 use Rattle.mail_records.specs.declared.records.Email.{Email}
 use Rattle.method_args.specs.Arguments.{passes}
 use Rattle.filter_terms.specs.EmailTerms.{email_term_holds, keyword_holds}
-use Rattle.filter_terms.specs.Filters.{by_operator, conditions_say, holds, if_joined, if_term_holds, items_say, list_says, members_hold, operator_in}
+use Rattle.filter_terms.specs.Filters.{by_operator, conditions_match, holds, if_joined, if_term_holds, items_match, list_matches, members_hold, operator_in}
 use Rattle.filter_terms.specs.Laws.{EmailsDecide, MailboxesDecide}
 use Rattle.filter_terms.specs.Names.{operator_of, term_of}
-use Rattle.filter_terms.specs.Targets.{AMailbox, AnEmail, Seen, Target, of_thread, seen_in}
+use Rattle.filter_terms.specs.Targets.{AMailbox, AnEmail, EmailInThread, Target, of_thread, email_in_thread}
 use Rattle.filter_terms.specs.Texts.{MessageTexts}
 use Rattle.filter_terms.specs.ThreadScope.{conditions_wide, is_wide, is_wide_email, is_wide_term, is_wide_test, items_wide, list_wide, members_wide, object_wide}
 use Rattle.filter_terms.specs.declared.terms.KeywordTest.{KeywordTest}
@@ -23,7 +23,7 @@ use Rattle.filter_terms.specs.declared.terms.EmailTerm.TheVariants.{InMailbox, I
 use Rattle.filter_terms.specs.declared.terms.Term.{Term}
 use Rattle.filter_terms.specs.declared.terms.Term.TheVariants.{OfEmail, OfMailbox}
 
-abbrev pub with_thread : Email → List Email → Seen
+abbrev pub with_thread : Email → List Email → EmailInThread
 with_thread e m = record { email = e; thread = m }
 
 abbrev asked : (ℕ → MessageTexts) → Email → List Email → Target
@@ -68,10 +68,10 @@ members_alone kind texts e m n (field k t fs) h =
     ap₂ (λ a b. a && b) (term_alone texts e m n (term_of kind k) t p.0) (members_alone kind texts e m n fs p.1)
 
 -- an operator's conditions count where there is one, and else the members
-chosen : (o : Option Tree) (says says' : List Bool) (all all' a b : Bool) → (a ≡ false → says ≡ says') → (b ≡ false → all ≡ all') → object_wide o a b ≡ false
-    → by_operator o says all ≡ by_operator o says' all'
-chosen None says says' all all' a b f g h = g h
-chosen (Some t) says says' all all' a b f g h = ap (if_joined (operator_of t)) (f h)
+chosen : (o : Option Tree) (conditions conditions' : List Bool) (all all' a b : Bool) → (a ≡ false → conditions ≡ conditions') → (b ≡ false → all ≡ all') → object_wide o a b ≡ false
+    → by_operator o conditions all ≡ by_operator o conditions' all'
+chosen None conditions conditions' all all' a b f g h = g h
+chosen (Some t) conditions conditions' all all' a b f g h = ap (if_joined (operator_of t)) (f h)
 
 conditions_step : (b : Bool) (s s' r r' : List Bool) (v w : Bool) → (v ≡ false → s ≡ s') → (w ≡ false → r ≡ r') → cond b v w ≡ false → cond b s r ≡ cond b s' r'
 conditions_step true s s' r r' v w f g h = f h
@@ -85,17 +85,17 @@ mutual
   alone kind texts e m n (text k) h = refl
   alone kind texts e m n (list ts) h = refl
   alone kind texts e m n (object fs) h =
-      chosen (operator_in (pairs_of fs)) (conditions_say kind (asked texts e m) fs) (conditions_say kind (asked texts e n) fs) (members_hold kind (asked texts e m) fs) (members_hold kind (asked texts e n) fs)
+      chosen (operator_in (pairs_of fs)) (conditions_match kind (asked texts e m) fs) (conditions_match kind (asked texts e n) fs) (members_hold kind (asked texts e m) fs) (members_hold kind (asked texts e n) fs)
       (conditions_wide kind fs) (members_wide kind fs) (conditions_alone kind texts e m n fs) (members_alone kind texts e m n fs) h
 
   conditions_alone : (kind : Kind) (texts : ℕ → MessageTexts) (e : Email) (m n : List Email) (fs : Fields) → conditions_wide kind fs ≡ false
-      → conditions_say kind (asked texts e m) fs ≡ conditions_say kind (asked texts e n) fs
+      → conditions_match kind (asked texts e m) fs ≡ conditions_match kind (asked texts e n) fs
   conditions_alone kind texts e m n no_fields h = refl
   conditions_alone kind texts e m n (field k t fs) h =
-      conditions_step (bytes_eq k (codes "conditions")) (list_says kind (asked texts e m) t) (list_says kind (asked texts e n) t) (conditions_say kind (asked texts e m) fs) (conditions_say kind (asked texts e n) fs)
+      conditions_step (bytes_eq k (codes "conditions")) (list_matches kind (asked texts e m) t) (list_matches kind (asked texts e n) t) (conditions_match kind (asked texts e m) fs) (conditions_match kind (asked texts e n) fs)
       (list_wide kind t) (conditions_wide kind fs) (list_alone kind texts e m n t) (conditions_alone kind texts e m n fs) h
 
-  list_alone : (kind : Kind) (texts : ℕ → MessageTexts) (e : Email) (m n : List Email) (t : Tree) → list_wide kind t ≡ false → list_says kind (asked texts e m) t ≡ list_says kind (asked texts e n) t
+  list_alone : (kind : Kind) (texts : ℕ → MessageTexts) (e : Email) (m n : List Email) (t : Tree) → list_wide kind t ≡ false → list_matches kind (asked texts e m) t ≡ list_matches kind (asked texts e n) t
   list_alone kind texts e m n null h = refl
   list_alone kind texts e m n (boolean b) h = refl
   list_alone kind texts e m n (number z) h = refl
@@ -103,7 +103,7 @@ mutual
   list_alone kind texts e m n (list ts) h = items_alone kind texts e m n ts h
   list_alone kind texts e m n (object fs) h = refl
 
-  items_alone : (kind : Kind) (texts : ℕ → MessageTexts) (e : Email) (m n : List Email) (ts : Trees) → items_wide kind ts ≡ false → items_say kind (asked texts e m) ts ≡ items_say kind (asked texts e n) ts
+  items_alone : (kind : Kind) (texts : ℕ → MessageTexts) (e : Email) (m n : List Email) (ts : Trees) → items_wide kind ts ≡ false → items_match kind (asked texts e m) ts ≡ items_match kind (asked texts e n) ts
   items_alone kind texts e m n no_trees h = refl
   items_alone kind texts e m n (tree t ts) h =
       let p = or_parts (is_wide kind t) (items_wide kind ts) h in
@@ -115,8 +115,8 @@ same_of t texts e m n true is same = ap (λ l. holds OfEmails (asked texts e l) 
 same_of t texts e m n false is same = alone OfEmails texts e m n t is
 
 there : (t : Tree) (texts : ℕ → MessageTexts) (xs ys : List Email) (o : Option Email)
-    → ((e : Email) → o ≡ Some e → holds OfEmails (AnEmail texts (seen_in xs e)) t ≡ holds OfEmails (AnEmail texts (seen_in ys e)) t)
-    → passes (λ s. holds OfEmails (AnEmail texts s) t) (option_map (seen_in xs) o) ≡ passes (λ s. holds OfEmails (AnEmail texts s) t) (option_map (seen_in ys) o)
+    → ((e : Email) → o ≡ Some e → holds OfEmails (AnEmail texts (email_in_thread xs e)) t ≡ holds OfEmails (AnEmail texts (email_in_thread ys e)) t)
+    → passes (λ s. holds OfEmails (AnEmail texts s) t) (option_map (email_in_thread xs) o) ≡ passes (λ s. holds OfEmails (AnEmail texts s) t) (option_map (email_in_thread ys) o)
 there t texts xs ys None f = refl
 there t texts xs ys (Some e) f = f e refl
 
@@ -124,7 +124,7 @@ pub emails_decide : EmailsDecide
 emails_decide t c d texts n h =
     there t texts c.emails d.emails (email_at c n)
     (λ e is. same_of t texts e (of_thread e.thread c.emails) (of_thread e.thread d.emails) (is_wide OfEmails t) refl (λ w. h.thread w e is))
-    ∙ ap (λ o. passes (λ s. holds OfEmails (AnEmail texts s) t) (option_map (seen_in d.emails) o)) h.email
+    ∙ ap (λ o. passes (λ s. holds OfEmails (AnEmail texts s) t) (option_map (email_in_thread d.emails) o)) h.email
 
 pub mailboxes_decide : MailboxesDecide
 mailboxes_decide t c d texts n h = ap (λ o. passes (λ m. holds OfMailboxes (AMailbox m) t) o) h

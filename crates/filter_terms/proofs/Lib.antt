@@ -1,9 +1,9 @@
-pub mod Said
+pub mod Matched
 pub mod Alone
 pub mod Lists
 pub mod ThreadEntries
 pub mod MailboxIds
-pub mod DateTexts
 pub mod Lowered
 pub mod Operators
 pub mod FieldTests
+pub mod Certain

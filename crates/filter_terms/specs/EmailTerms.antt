@@ -1,5 +1,5 @@
--- What each condition of Email/query says of an email (RFC 8621, 4.4.1). A value of a wrong kind,
--- with which no filter is read, says no.
+-- Which emails each condition of Email/query matches (RFC 8621, 4.4.1). With a value of a wrong
+-- kind, with which no filter is read, it matches none.
 use Rattle.std.specs.Prelude.{ℕ, List, Bool, true, false, ◌&&◌, not, nat_le, nat_lt, int_le, int_lt, bytes_eq}
 use Rattle.std.specs.List.{list_any, list_all}
 use Rattle.std.specs.Str.{str_to_ascii_lowercase}
@@ -10,7 +10,7 @@ use Rattle.mail_counts.specs.Counts.{has_keyword}
 use Rattle.mail_counts.specs.Views.{mailbox_id}
 use Rattle.mail_records.specs.declared.records.Email.{Email}
 use Rattle.method_args.specs.Arguments.{as_count, as_flag, as_strings, passes}
-use Rattle.filter_terms.specs.Targets.{Seen}
+use Rattle.filter_terms.specs.Targets.{EmailInThread}
 use Rattle.filter_terms.specs.Texts.{MessageTexts, has_field, has_text}
 use Rattle.filter_terms.specs.Values.{FieldTest, as_date, as_field_test}
 use Rattle.filter_terms.specs.declared.terms.KeywordTest.{KeywordTest}
@@ -32,7 +32,7 @@ abbrev pub is_in_other : List (List ℕ) → Email → Bool
 is_in_other ids e = list_any (λ m. not (list_any (λ id. is_mailbox_id id m) ids)) e.mailboxes
 
 -- the email, or emails of its thread, have the keyword or not
-abbrev pub keyword_holds : Seen → KeywordTest → List ℕ → Bool
+abbrev pub keyword_holds : EmailInThread → KeywordTest → List ℕ → Bool
 keyword_holds s AllInThread k = list_all (λ e. has_keyword k e) s.thread
 keyword_holds s SomeInThread k = list_any (λ e. has_keyword k e) s.thread
 keyword_holds s NoneInThread k = not (list_any (λ e. has_keyword k e) s.thread)
@@ -49,7 +49,7 @@ field_holds m test = has_field m test.name test.needle
 
 -- the condition with this value, of an email in a store whose blobs have these texts; keywords are
 -- compared in lower case, in which they are kept
-abbrev pub email_term_holds : (ℕ → MessageTexts) → Seen → EmailTerm → Tree → Bool
+abbrev pub email_term_holds : (ℕ → MessageTexts) → EmailInThread → EmailTerm → Tree → Bool
 email_term_holds texts s InMailbox t = passes (λ id. is_in_mailbox id s.email) (as_text t)
 email_term_holds texts s InMailboxOtherThan t =
     passes (λ ids. is_in_other ids s.email) (as_strings t)

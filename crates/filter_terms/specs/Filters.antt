@@ -1,5 +1,5 @@
--- What a filter says (RFC 8620, 5.5): null says yes; a condition object says yes where all its
--- members do; an operator joins what its conditions say, of which each is a filter.
+-- What a filter matches (RFC 8620, 5.5): null matches all; a condition object matches where all its
+-- members do; an operator joins its conditions, of which each is a filter.
 use Rattle.std.specs.Prelude.{ℕ, List, [], ◌∷◌, Bool, true, false, ◌&&◌, not, cond, Option, Some, None, codes, bytes_eq}
 use Rattle.std.specs.List.{list_any, list_all}
 use Rattle.jm_base.specs.declared.identifiers.Kind.{Kind}
@@ -13,21 +13,21 @@ use Rattle.method_args.specs.Arguments.{passes}
 use Rattle.filter_terms.specs.EmailTerms.{email_term_holds}
 use Rattle.filter_terms.specs.MailboxTerms.{mailbox_term_holds}
 use Rattle.filter_terms.specs.Names.{operator_of, term_of}
-use Rattle.filter_terms.specs.Targets.{Target, AnEmail, AMailbox, seen_at}
+use Rattle.filter_terms.specs.Targets.{Target, AnEmail, AMailbox, email_in_thread_at}
 use Rattle.filter_terms.specs.Texts.{MessageTexts}
 use Rattle.filter_terms.specs.declared.terms.Operator.{Operator}
 use Rattle.filter_terms.specs.declared.terms.Operator.TheVariants.{And, Or, Not}
 use Rattle.filter_terms.specs.declared.terms.Term.{Term}
 use Rattle.filter_terms.specs.declared.terms.Term.TheVariants.{OfEmail, OfMailbox}
 
--- a condition says no of a record of the other kind, of which it is never asked
+-- a condition matches no record of the other kind, of which it is never asked
 abbrev pub term_holds : Target → Term → Tree → Bool
 term_holds (AnEmail texts s) (OfEmail term) t = email_term_holds texts s term t
 term_holds (AnEmail texts s) (OfMailbox term) t = false
 term_holds (AMailbox m) (OfEmail term) t = false
 term_holds (AMailbox m) (OfMailbox term) t = mailbox_term_holds m term t
 
--- a member with which no filter is read says yes
+-- a member with which no filter is read matches all
 abbrev pub if_term_holds : Target → Option Term → Tree → Bool
 if_term_holds x None t = true
 if_term_holds x (Some term) t = term_holds x term t
@@ -41,7 +41,7 @@ abbrev pub members_hold : Kind → Target → Fields → Bool
 members_hold kind x no_fields = true
 members_hold kind x (field k t fs) = member_holds kind x k t && members_hold kind x fs
 
--- what an operator makes of what its conditions say: NOT says yes where none does
+-- whether an operator matches, by whether its conditions do: NOT matches where none does
 abbrev pub joined : Operator → List Bool → Bool
 joined And bs = list_all (λ b. b) bs
 joined Or bs = list_any (λ b. b) bs
@@ -67,31 +67,31 @@ abbrev mutual
   holds kind x (text s) = true
   holds kind x (list ts) = true
   holds kind x (object fs) =
-      by_operator (operator_in (pairs_of fs)) (conditions_say kind x fs) (members_hold kind x fs)
+      by_operator (operator_in (pairs_of fs)) (conditions_match kind x fs) (members_hold kind x fs)
 
-  -- what each filter of the list `conditions` says
-  pub conditions_say : Kind → Target → Fields → List Bool
-  conditions_say kind x no_fields = []
-  conditions_say kind x (field k t fs) =
-      cond (bytes_eq k (codes "conditions")) (list_says kind x t) (conditions_say kind x fs)
+  -- whether each filter of the list `conditions` matches
+  pub conditions_match : Kind → Target → Fields → List Bool
+  conditions_match kind x no_fields = []
+  conditions_match kind x (field k t fs) =
+      cond (bytes_eq k (codes "conditions")) (list_matches kind x t) (conditions_match kind x fs)
 
-  pub list_says : Kind → Target → Tree → List Bool
-  list_says kind x null = []
-  list_says kind x (boolean b) = []
-  list_says kind x (number z) = []
-  list_says kind x (text s) = []
-  list_says kind x (list ts) = items_say kind x ts
-  list_says kind x (object fs) = []
+  pub list_matches : Kind → Target → Tree → List Bool
+  list_matches kind x null = []
+  list_matches kind x (boolean b) = []
+  list_matches kind x (number z) = []
+  list_matches kind x (text s) = []
+  list_matches kind x (list ts) = items_match kind x ts
+  list_matches kind x (object fs) = []
 
-  pub items_say : Kind → Target → Trees → List Bool
-  items_say kind x no_trees = []
-  items_say kind x (tree t ts) = holds kind x t ∷ items_say kind x ts
+  pub items_match : Kind → Target → Trees → List Bool
+  items_match kind x no_trees = []
+  items_match kind x (tree t ts) = holds kind x t ∷ items_match kind x ts
 
--- The filter matches the record of this number: it is there, and the filter says yes. Of emails it
--- looks at the email, at the emails of its thread and at their texts alone.
+-- The filter matches the record of this number: it is there, and the filter holds of it. Of emails
+-- it looks at the email, at the emails of its thread and at their texts alone.
 abbrev pub matches : Kind → Tree → Content → (ℕ → MessageTexts) → ℕ → Bool
 matches OfMailboxes t c texts n =
     passes (λ m. holds OfMailboxes (AMailbox m) t) (lookup mailbox_number n c.mailboxes)
 matches OfEmails t c texts n =
-    passes (λ s. holds OfEmails (AnEmail texts s) t) (seen_at c.emails n)
+    passes (λ s. holds OfEmails (AnEmail texts s) t) (email_in_thread_at c.emails n)
 matches _ t c texts n = false

@@ -16,13 +16,13 @@ operation name ts =
     object (field (codes "conditions") (list (trees_of ts))
     (field (codes "operator") (text name) no_fields))
 
--- what each filter says
-abbrev pub each_says : Kind → Target → List Tree → List Bool
-each_says kind x ts = map (λ t. holds kind x t) ts
+-- whether each filter matches
+abbrev pub each_matches : Kind → Target → List Tree → List Bool
+each_matches kind x ts = map (λ t. holds kind x t) ts
 
 -- Two contents are equal in what a filter looks at of an email: in the email itself, and in the
 -- emails of its thread if the filter looks at them.
-pub record SameSeen (wide : Bool) (c d : Content) (n : ℕ) : Type 0 where
+pub record SameEmailInThread (wide : Bool) (c d : Content) (n : ℕ) : Type 0 where
   pub email : email_at c n ≡ email_at d n
   pub thread :
       wide ≡ true → (e : Email) → email_at c n ≡ Some e
@@ -31,7 +31,7 @@ pub record SameSeen (wide : Bool) (c d : Content) (n : ℕ) : Type 0 where
 abbrev pub EmailsDecide : Type 0
 EmailsDecide =
     (t : Tree) (c d : Content) (texts : ℕ → MessageTexts) (n : ℕ)
-    → SameSeen (is_wide OfEmails t) c d n
+    → SameEmailInThread (is_wide OfEmails t) c d n
     → matches OfEmails t c texts n ≡ matches OfEmails t d texts n
 
 abbrev pub MailboxesDecide : Type 0

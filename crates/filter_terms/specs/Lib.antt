@@ -1,7 +1,6 @@
 pub mod Contains
 pub mod Texts
 pub mod Names
-pub mod Dates
 pub mod Values
 pub mod Targets
 pub mod EmailTerms

@@ -1,5 +1,5 @@
--- What each condition of Mailbox/query says of a mailbox (RFC 8621, 2.3). A value of a wrong kind,
--- with which no filter is read, says no.
+-- Which mailboxes each condition of Mailbox/query matches (RFC 8621, 2.3). With a value of a wrong
+-- kind, with which no filter is read, it matches none.
 use Rattle.std.specs.Prelude.{ℕ, List, Bool, not, bytes_eq, Option, Some, None, is_some}
 use Rattle.jm_json.specs.Tree.{Tree}
 use Rattle.jm_json.specs.Find.{as_text}

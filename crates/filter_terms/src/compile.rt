@@ -1,26 +1,49 @@
 // The terms of a filter, from its tree.
-ghost use Rattle.std.specs.Prelude.{◌≡◌, IfOk, map};
+ghost use Rattle.std.specs.Prelude.{◌≡◌, IfOk, Some, map};
 ghost use Rattle.jm_json.specs.Json.{member_of, tree_of};
 ghost use Rattle.jm_json.specs.Tree.{fields_of, object, trees_of};
 ghost use Rattle.filter_terms.specs.Names.{term_of};
 ghost use Rattle.filter_terms.specs.Compiled.{MeanConditions, MeanItems, MeanList, MeanMembers, Means, MeansTerm};
 
 use crate::compiled::Terms;
-use crate::conditions::{read_email_condition, read_mailbox_condition};
-use crate::terms::{Operator, Term, operator_of, term_of};
+use crate::conditions::{
+    has_attachment, in_mailbox, in_mailbox_other_than, keyword, max_size, min_size,
+    read_mailbox_condition, received_after, received_before,
+};
+use crate::message_conditions::{contains, header};
+use crate::terms::{EmailTerm, Operator, Term, operator_of, term_of};
 use jm_base::{Kind, NoMemory};
 use jm_json::{Json, Member, Members};
 use std::alloc::Global;
 
-#[tactic(auto, using(crate::proofs::Said::said_so))]
+// Returns the term of a condition on emails with its value.
+#[tactic(auto, using(crate::proofs::Matched::by_kind))]
+fn read_email_term(alloc: Global, term: EmailTerm, value: &Json) -> Result<Terms, NoMemory>
+    ensures { IfOk result (λ t. MeansTerm t (Some (Term.OfEmail term)) (tree_of value.now)) }
+{
+    match term {
+        EmailTerm::InMailbox => Ok(Terms::OfEmail(in_mailbox(value))),
+        EmailTerm::InMailboxOtherThan => {
+            Ok(Terms::OfEmail(in_mailbox_other_than(alloc, value)?))
+        }
+        EmailTerm::Before => Ok(Terms::OfEmail(received_before(value))),
+        EmailTerm::After => Ok(Terms::OfEmail(received_after(value))),
+        EmailTerm::MinSize => Ok(Terms::OfEmail(min_size(value))),
+        EmailTerm::MaxSize => Ok(Terms::OfEmail(max_size(value))),
+        EmailTerm::Keyword(test) => Ok(Terms::OfEmail(keyword(alloc, test, value)?)),
+        EmailTerm::HasAttachment => Ok(Terms::OfEmail(has_attachment(value))),
+        EmailTerm::Contains(place) => Ok(Terms::OfMessage(contains(alloc, place, value)?)),
+        EmailTerm::Header => Ok(Terms::OfMessage(header(alloc, value)?)),
+    }
+}
+
+#[tactic(auto, using(crate::proofs::Matched::by_kind))]
 fn read_term(alloc: Global, term: Option<Term>, value: &Json) -> Result<Terms, NoMemory>
     ensures { IfOk result (λ t. MeansTerm t term (tree_of value.now)) }
 {
     match term {
         None => Ok(Terms::Always),
-        Some(Term::OfEmail(term)) => {
-            Ok(Terms::OfEmail(read_email_condition(alloc, term, value)?))
-        }
+        Some(Term::OfEmail(term)) => read_email_term(alloc, term, value),
         Some(Term::OfMailbox(term)) => {
             Ok(Terms::OfMailbox(read_mailbox_condition(alloc, term, value)?))
         }
@@ -39,8 +62,8 @@ fn read_members(alloc: Global, kind: Kind, members: &[Member]) -> Result<Vec<Ter
     Ok(all)
 }
 
-/// Returns the terms of a filter, which say what its tree says.
-#[tactic(auto, using(crate::proofs::Said::said_so))]
+/// Returns the terms of a filter, which match what its tree matches.
+#[tactic(auto, using(crate::proofs::Matched::by_kind))]
 #[cycle(compile)]
 pub(crate) fn compile(alloc: Global, kind: Kind, tree: &Json) -> Result<Terms, NoMemory>
     ensures { IfOk result (λ t. Means kind t (tree_of tree.now)) }
@@ -53,7 +76,7 @@ pub(crate) fn compile(alloc: Global, kind: Kind, tree: &Json) -> Result<Terms, N
     }
 }
 
-#[tactic(auto, using(crate::proofs::Said::said_so, jm_json::proofs::Lists::lists_back))]
+#[tactic(auto, using(crate::proofs::Matched::by_kind, jm_json::proofs::Lists::lists_back))]
 #[cycle(compile)]
 fn compile_object(alloc: Global, kind: Kind, members: &Members) -> Result<Terms, NoMemory>
     ensures { IfOk result (λ t. Means kind t (object (fields_of members.now))) }

@@ -1,15 +1,17 @@
-// A compiled filter: its terms, and what they say of an email or a mailbox.
+// A compiled filter: its terms, and whether they match an email or a mailbox.
 ghost use Rattle.std.specs.Prelude.{◌≡◌, IfOk};
 ghost use Rattle.std.specs.List.{list_all, list_any};
 ghost use Rattle.filter_terms.specs.Filters.{joined};
-ghost use Rattle.filter_terms.specs.Compiled.{say_all, says};
-ghost use Rattle.filter_terms.specs.Targets.{AMailbox, AnEmail, seen_in};
+ghost use Rattle.filter_terms.specs.Compiled.{IsMatch, IsMatchOf, all_true, match_each, terms_match, some_true};
+ghost use Rattle.filter_terms.specs.Targets.{AMailbox, AnEmail, email_in_thread};
 
 use crate::conditions::{EmailCondition, MailboxCondition};
-use crate::emails::email_says;
-use crate::mailboxes::mailbox_says;
+use crate::emails::email_matches;
+use crate::known::known;
+use crate::mailboxes::mailbox_matches;
+use crate::message_conditions::{MessageCondition, message_matches};
 use crate::terms::Operator;
-use crate::texts::Texts2;
+use crate::texts::{OpenedMessage, Texts2};
 use jm_base::NoMemory;
 use mail_records::{Content, Email, Mailbox};
 
@@ -18,45 +20,68 @@ use mail_records::{Content, Email, Mailbox};
 pub(crate) enum Terms {
     Always,
     OfEmail(EmailCondition),
+    OfMessage(MessageCondition),
     OfMailbox(MailboxCondition),
     Join(Operator, Vec<Terms>),
 }
 
-/// Returns whether the terms hold of an email. It takes no memory but what the texts take.
-#[tactic(auto, using(crate::proofs::Said::said_so))]
+/// Returns whether the terms match an email whose message was opened. Its texts are looked at only
+/// if the other conditions leave open whether the terms match.
 #[cycle(email_holds)]
-pub(crate) fn email_holds<T: Texts2>(
+pub(crate) fn email_holds<M: OpenedMessage>(
     terms: &Terms,
     content: &Content,
-    texts: &T,
+    message: &mut M,
     email: &Email,
 ) -> Result<bool, NoMemory>
-    ensures { IfOk result (λ b. b ≡ says terms.now
-        (AnEmail (T.texts texts.now) (seen_in content.now.content.emails email.now))) }
+    ensures value { IfOk result (IsMatch terms.now
+        (email_in_thread content.now.content.emails email.now) (M.contents message.old)) }
+    ensures same { M.contents message.new ≡ M.contents message.old }
+{
+    match known(terms, content, email) {
+        Some(known) => Ok(known),
+        None => email_decides(terms, content, message, email),
+    }
+}
+
+// Returns whether the terms match, of which some look at texts.
+#[tactic(auto, using(crate::proofs::Matched::by_kind))]
+#[cycle(email_holds)]
+fn email_decides<M: OpenedMessage>(
+    terms: &Terms,
+    content: &Content,
+    message: &mut M,
+    email: &Email,
+) -> Result<bool, NoMemory>
+    ensures value { IfOk result (IsMatch terms.now
+        (email_in_thread content.now.content.emails email.now) (M.contents message.old)) }
+    ensures same { M.contents message.new ≡ M.contents message.old }
 {
     match terms {
         Terms::Always => Ok(true),
-        Terms::OfEmail(condition) => email_says(condition, content, texts, email),
+        Terms::OfEmail(condition) => Ok(email_matches(condition, content, email)),
+        Terms::OfMessage(condition) => message_matches(condition, message),
         Terms::OfMailbox(_) => Ok(false),
-        Terms::Join(operator, items) => email_joins(*operator, items, content, texts, email),
+        Terms::Join(operator, items) => email_joins(*operator, items, content, message, email),
     }
 }
 
 #[cycle(email_holds)]
-fn email_joins<T: Texts2>(
+fn email_joins<M: OpenedMessage>(
     operator: Operator,
     items: &[Terms],
     content: &Content,
-    texts: &T,
+    message: &mut M,
     email: &Email,
 ) -> Result<bool, NoMemory>
-    ensures { IfOk result (λ b. b ≡ joined operator (say_all items.now
-        (AnEmail (T.texts texts.now) (seen_in content.now.content.emails email.now)))) }
+    ensures value { IfOk result (IsMatchOf (joined operator) items.now
+        (email_in_thread content.now.content.emails email.now) (M.contents message.old)) }
+    ensures same { M.contents message.new ≡ M.contents message.old }
 {
     match operator {
-        Operator::And => all_hold(items, content, texts, email),
-        Operator::Or => some_holds(items, content, texts, email),
-        Operator::Not => match some_holds(items, content, texts, email) {
+        Operator::And => all_hold(items, content, message, email),
+        Operator::Or => some_holds(items, content, message, email),
+        Operator::Not => match some_holds(items, content, message, email) {
             Ok(some) => Ok(!some),
             Err(e) => Err(e),
         },
@@ -64,17 +89,18 @@ fn email_joins<T: Texts2>(
 }
 
 #[cycle(email_holds)]
-fn all_hold<T: Texts2>(
+fn all_hold<M: OpenedMessage>(
     items: &[Terms],
     content: &Content,
-    texts: &T,
+    message: &mut M,
     email: &Email,
 ) -> Result<bool, NoMemory>
-    ensures { IfOk result (λ b. b ≡ list_all (λ c. c) (say_all items.now
-        (AnEmail (T.texts texts.now) (seen_in content.now.content.emails email.now)))) }
+    ensures value { IfOk result (IsMatchOf all_true items.now
+        (email_in_thread content.now.content.emails email.now) (M.contents message.old)) }
+    ensures same { M.contents message.new ≡ M.contents message.old }
 {
     for item in items {
-        if !email_holds(item, content, texts, email)? {
+        if !email_holds(item, content, message, email)? {
             return Ok(false);
         }
     }
@@ -82,40 +108,61 @@ fn all_hold<T: Texts2>(
 }
 
 #[cycle(email_holds)]
-fn some_holds<T: Texts2>(
+fn some_holds<M: OpenedMessage>(
     items: &[Terms],
     content: &Content,
-    texts: &T,
+    message: &mut M,
     email: &Email,
 ) -> Result<bool, NoMemory>
-    ensures { IfOk result (λ b. b ≡ list_any (λ c. c) (say_all items.now
-        (AnEmail (T.texts texts.now) (seen_in content.now.content.emails email.now)))) }
+    ensures value { IfOk result (IsMatchOf some_true items.now
+        (email_in_thread content.now.content.emails email.now) (M.contents message.old)) }
+    ensures same { M.contents message.new ≡ M.contents message.old }
 {
     for item in items {
-        if email_holds(item, content, texts, email)? {
+        if email_holds(item, content, message, email)? {
             return Ok(true);
         }
     }
     Ok(false)
 }
 
+/// Returns whether the terms match an email, whose message is opened only if the conditions that
+/// look at no text leave that open.
+pub(crate) fn holds_of_email<T: Texts2>(
+    terms: &Terms,
+    content: &Content,
+    texts: &T,
+    email: &Email,
+) -> Result<bool, NoMemory>
+    ensures { IfOk result (λ b. b ≡ terms_match terms.now
+        (AnEmail (T.texts texts.now) (email_in_thread content.now.content.emails email.now))) }
+{
+    match known(terms, content, email) {
+        Some(known) => Ok(known),
+        None => {
+            let mut message = texts.open(email.blob)?;
+            email_decides(terms, content, &mut message, email)
+        }
+    }
+}
+
 /// Returns whether the terms hold of a mailbox.
-#[tactic(auto, using(crate::proofs::Said::said_so))]
+#[tactic(auto, using(crate::proofs::Matched::by_kind))]
 #[cycle(mailbox_holds)]
 pub(crate) fn mailbox_holds(terms: &Terms, mailbox: &Mailbox) -> bool
-    ensures { result ≡ says terms.now (AMailbox mailbox.now) }
+    ensures { result ≡ terms_match terms.now (AMailbox mailbox.now) }
 {
     match terms {
         Terms::Always => true,
-        Terms::OfEmail(_) => false,
-        Terms::OfMailbox(condition) => mailbox_says(condition, mailbox),
+        Terms::OfEmail(_) | Terms::OfMessage(_) => false,
+        Terms::OfMailbox(condition) => mailbox_matches(condition, mailbox),
         Terms::Join(operator, items) => mailbox_joins(*operator, items, mailbox),
     }
 }
 
 #[cycle(mailbox_holds)]
 fn mailbox_joins(operator: Operator, items: &[Terms], mailbox: &Mailbox) -> bool
-    ensures { result ≡ joined operator (say_all items.now (AMailbox mailbox.now)) }
+    ensures { result ≡ joined operator (match_each items.now (AMailbox mailbox.now)) }
 {
     match operator {
         Operator::And => all_hold_of_mailbox(items, mailbox),
@@ -126,7 +173,7 @@ fn mailbox_joins(operator: Operator, items: &[Terms], mailbox: &Mailbox) -> bool
 
 #[cycle(mailbox_holds)]
 fn all_hold_of_mailbox(items: &[Terms], mailbox: &Mailbox) -> bool
-    ensures { result ≡ list_all (λ c. c) (say_all items.now (AMailbox mailbox.now)) }
+    ensures { result ≡ list_all (λ c. c) (match_each items.now (AMailbox mailbox.now)) }
 {
     for item in items {
         if !mailbox_holds(item, mailbox) {
@@ -138,7 +185,7 @@ fn all_hold_of_mailbox(items: &[Terms], mailbox: &Mailbox) -> bool
 
 #[cycle(mailbox_holds)]
 fn some_holds_of_mailbox(items: &[Terms], mailbox: &Mailbox) -> bool
-    ensures { result ≡ list_any (λ c. c) (say_all items.now (AMailbox mailbox.now)) }
+    ensures { result ≡ list_any (λ c. c) (match_each items.now (AMailbox mailbox.now)) }
 {
     for item in items {
         if mailbox_holds(item, mailbox) {

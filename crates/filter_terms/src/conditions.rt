@@ -7,8 +7,8 @@ ghost use Rattle.jm_json.specs.Json.{tree_of};
 ghost use Rattle.mail_records.specs.declared.records.Mailbox.{Mailbox};
 ghost use Rattle.filter_terms.specs.EmailTerms.{email_term_holds, field_holds, is_in_mailbox, is_mailbox_id};
 ghost use Rattle.filter_terms.specs.MailboxTerms.{has_parent, mailbox_term_holds};
-ghost use Rattle.filter_terms.specs.Compiled.{email_says, mailbox_says};
-ghost use Rattle.filter_terms.specs.Targets.{Seen};
+ghost use Rattle.filter_terms.specs.Compiled.{email_matches, mailbox_matches};
+ghost use Rattle.filter_terms.specs.Targets.{EmailInThread};
 ghost use Rattle.filter_terms.specs.Texts.{MessageTexts, has_field};
 ghost use Rattle.filter_terms.specs.Values.{field_test};
 ghost use Rattle.method_args.specs.Arguments.{passes};
@@ -21,8 +21,8 @@ use jm_json::Json;
 use method_args::strings_of;
 use std::alloc::Global;
 
-/// A condition on emails with its value: numbers of mailboxes, Unix seconds, bytes, and keywords
-/// and texts in lower case.
+/// A condition on emails that looks at no text, with its value: numbers of mailboxes, Unix seconds,
+/// bytes, and keywords in lower case.
 #[derive(Drop)]
 pub(crate) enum EmailCondition {
     Never,
@@ -34,9 +34,6 @@ pub(crate) enum EmailCondition {
     MaxSize(u64),
     Keyword(KeywordTest, Text),
     HasAttachment(bool),
-    Contains(Place, Text),
-    HasField(Text),
-    FieldContains(Text, Text),
 }
 
 /// A condition on mailboxes with its value.
@@ -51,8 +48,8 @@ pub(crate) enum MailboxCondition {
     IsSubscribed(bool),
 }
 
-// Returns a text in lower case.
-fn lower(alloc: Global, text: &str) -> Result<Text, NoMemory>
+/// Returns a text in lower case.
+pub(crate) fn lower(alloc: Global, text: &str) -> Result<Text, NoMemory>
     ensures { IfOk result (λ t. t ≡ str_to_ascii_lowercase text.now) }
 {
     Ok(Text::from_string(text.to_ascii_lowercase(alloc)?))
@@ -84,7 +81,7 @@ fn mailbox_numbers(alloc: Global, ids: &[&str]) -> Result<Numbers, NoMemory>
 
 // Returns the condition of a mailbox's id.
 fn in_mailbox_of(id: &Text) -> EmailCondition
-    ensures { (texts : ℕ → MessageTexts) (s : Seen) → email_says texts s result
+    ensures { (texts : ℕ → MessageTexts) (s : EmailInThread) → email_matches s result
         ≡ is_in_mailbox id.now s.email }
 {
     match mailbox_number(id.as_bytes()) {
@@ -93,8 +90,10 @@ fn in_mailbox_of(id: &Text) -> EmailCondition
     }
 }
 
-fn in_mailbox(value: &Json) -> EmailCondition
-    ensures { (texts : ℕ → MessageTexts) (s : Seen) → email_says texts s result
+/// Returns the condition `inMailbox` of a value. Each function below returns the condition of its
+/// name; a value of a wrong kind, with which no filter is read, gives one that matches nothing.
+pub(crate) fn in_mailbox(value: &Json) -> EmailCondition
+    ensures { (texts : ℕ → MessageTexts) (s : EmailInThread) → email_matches s result
         ≡ email_term_holds texts s EmailTerm.InMailbox (tree_of value.now) }
 {
     match value.as_text() {
@@ -104,8 +103,8 @@ fn in_mailbox(value: &Json) -> EmailCondition
 }
 
 #[tactic(auto, using(crate::proofs::MailboxIds::others_same))]
-fn in_mailbox_other_than(alloc: Global, value: &Json) -> Result<EmailCondition, NoMemory>
-    ensures { IfOk result (λ c. (texts : ℕ → MessageTexts) (s : Seen) → email_says texts s c
+pub(crate) fn in_mailbox_other_than(alloc: Global, value: &Json) -> Result<EmailCondition, NoMemory>
+    ensures { IfOk result (λ c. (texts : ℕ → MessageTexts) (s : EmailInThread) → email_matches s c
         ≡ email_term_holds texts s EmailTerm.InMailboxOtherThan (tree_of value.now)) }
 {
     match strings_of(alloc, value)? {
@@ -114,8 +113,8 @@ fn in_mailbox_other_than(alloc: Global, value: &Json) -> Result<EmailCondition, 
     }
 }
 
-fn before(value: &Json) -> EmailCondition
-    ensures { (texts : ℕ → MessageTexts) (s : Seen) → email_says texts s result
+pub(crate) fn received_before(value: &Json) -> EmailCondition
+    ensures { (texts : ℕ → MessageTexts) (s : EmailInThread) → email_matches s result
         ≡ email_term_holds texts s EmailTerm.Before (tree_of value.now) }
 {
     match as_date(value) {
@@ -124,8 +123,8 @@ fn before(value: &Json) -> EmailCondition
     }
 }
 
-fn after(value: &Json) -> EmailCondition
-    ensures { (texts : ℕ → MessageTexts) (s : Seen) → email_says texts s result
+pub(crate) fn received_after(value: &Json) -> EmailCondition
+    ensures { (texts : ℕ → MessageTexts) (s : EmailInThread) → email_matches s result
         ≡ email_term_holds texts s EmailTerm.After (tree_of value.now) }
 {
     match as_date(value) {
@@ -134,8 +133,8 @@ fn after(value: &Json) -> EmailCondition
     }
 }
 
-fn min_size(value: &Json) -> EmailCondition
-    ensures { (texts : ℕ → MessageTexts) (s : Seen) → email_says texts s result
+pub(crate) fn min_size(value: &Json) -> EmailCondition
+    ensures { (texts : ℕ → MessageTexts) (s : EmailInThread) → email_matches s result
         ≡ email_term_holds texts s EmailTerm.MinSize (tree_of value.now) }
 {
     match as_count(value) {
@@ -144,8 +143,8 @@ fn min_size(value: &Json) -> EmailCondition
     }
 }
 
-fn max_size(value: &Json) -> EmailCondition
-    ensures { (texts : ℕ → MessageTexts) (s : Seen) → email_says texts s result
+pub(crate) fn max_size(value: &Json) -> EmailCondition
+    ensures { (texts : ℕ → MessageTexts) (s : EmailInThread) → email_matches s result
         ≡ email_term_holds texts s EmailTerm.MaxSize (tree_of value.now) }
 {
     match as_count(value) {
@@ -154,8 +153,8 @@ fn max_size(value: &Json) -> EmailCondition
     }
 }
 
-fn has_attachment(value: &Json) -> EmailCondition
-    ensures { (texts : ℕ → MessageTexts) (s : Seen) → email_says texts s result
+pub(crate) fn has_attachment(value: &Json) -> EmailCondition
+    ensures { (texts : ℕ → MessageTexts) (s : EmailInThread) → email_matches s result
         ≡ email_term_holds texts s EmailTerm.HasAttachment (tree_of value.now) }
 {
     match as_flag(value) {
@@ -164,8 +163,12 @@ fn has_attachment(value: &Json) -> EmailCondition
     }
 }
 
-fn keyword(alloc: Global, test: KeywordTest, value: &Json) -> Result<EmailCondition, NoMemory>
-    ensures { IfOk result (λ c. (texts : ℕ → MessageTexts) (s : Seen) → email_says texts s c
+pub(crate) fn keyword(
+    alloc: Global,
+    test: KeywordTest,
+    value: &Json,
+) -> Result<EmailCondition, NoMemory>
+    ensures { IfOk result (λ c. (texts : ℕ → MessageTexts) (s : EmailInThread) → email_matches s c
         ≡ email_term_holds texts s (EmailTerm.Keyword test) (tree_of value.now)) }
 {
     match value.as_text() {
@@ -174,82 +177,9 @@ fn keyword(alloc: Global, test: KeywordTest, value: &Json) -> Result<EmailCondit
     }
 }
 
-#[tactic(auto, using(crate::proofs::Lowered::in_lower_case))]
-fn contains(alloc: Global, place: Place, value: &Json) -> Result<EmailCondition, NoMemory>
-    ensures { IfOk result (λ c. (texts : ℕ → MessageTexts) (s : Seen) → email_says texts s c
-        ≡ email_term_holds texts s (EmailTerm.Contains place) (tree_of value.now)) }
-{
-    match value.as_text() {
-        Some(needle) => Ok(EmailCondition::Contains(place, lower(alloc, needle.as_str())?)),
-        None => Ok(EmailCondition::Never),
-    }
-}
-
-// Returns the condition of the name of a header field and a text.
-#[tactic(auto, using(crate::proofs::Lowered::in_lower_case))]
-fn field_contains(alloc: Global, name: &str, needle: &str) -> Result<EmailCondition, NoMemory>
-    ensures { IfOk result (λ c. (texts : ℕ → MessageTexts) (s : Seen) → email_says texts s c
-        ≡ has_field (texts s.email.blob) name.now (Some needle.now)) }
-{
-    let name = Text::from_str(alloc, name)?;
-    let needle = lower(alloc, needle)?;
-    Ok(EmailCondition::FieldContains(name, needle))
-}
-
-// Returns the condition of the name of a header field, and perhaps a text.
-fn field_condition(alloc: Global, strings: &[&str]) -> Result<EmailCondition, NoMemory>
-    ensures { IfOk result (λ c. (texts : ℕ → MessageTexts) (s : Seen) → email_says texts s c
-        ≡ passes (λ test. field_holds (texts s.email.blob) test)
-        (field_test (map (λ t. t.now) strings.now))) }
-{
-    let Some((name, rest)) = strings.split_first() else {
-        return Ok(EmailCondition::Never);
-    };
-    let Some((needle, more)) = rest.split_first() else {
-        return Ok(EmailCondition::HasField(Text::from_str(alloc, name)?));
-    };
-    if let Some(_) = more.split_first() {
-        return Ok(EmailCondition::Never);
-    }
-    field_contains(alloc, name, needle)
-}
-
-fn header(alloc: Global, value: &Json) -> Result<EmailCondition, NoMemory>
-    ensures { IfOk result (λ c. (texts : ℕ → MessageTexts) (s : Seen) → email_says texts s c
-        ≡ email_term_holds texts s EmailTerm.Header (tree_of value.now)) }
-{
-    match strings_of(alloc, value)? {
-        Some(strings) => field_condition(alloc, &strings),
-        None => Ok(EmailCondition::Never),
-    }
-}
-
-/// Returns a condition on emails with its value, which says what the condition and the value say.
-pub(crate) fn read_email_condition(
-    alloc: Global,
-    term: EmailTerm,
-    value: &Json,
-) -> Result<EmailCondition, NoMemory>
-    ensures { IfOk result (λ c. (texts : ℕ → MessageTexts) (s : Seen) → email_says texts s c
-        ≡ email_term_holds texts s term (tree_of value.now)) }
-{
-    match term {
-        EmailTerm::InMailbox => Ok(in_mailbox(value)),
-        EmailTerm::InMailboxOtherThan => in_mailbox_other_than(alloc, value),
-        EmailTerm::Before => Ok(before(value)),
-        EmailTerm::After => Ok(after(value)),
-        EmailTerm::MinSize => Ok(min_size(value)),
-        EmailTerm::MaxSize => Ok(max_size(value)),
-        EmailTerm::Keyword(test) => keyword(alloc, test, value),
-        EmailTerm::HasAttachment => Ok(has_attachment(value)),
-        EmailTerm::Contains(place) => contains(alloc, place, value),
-        EmailTerm::Header => header(alloc, value),
-    }
-}
-
 // Returns the condition of a parent's id.
 fn has_parent(id: &Text) -> MailboxCondition
-    ensures { (m : Mailbox) → mailbox_says m result ≡ has_parent (Some id.now) m.parent }
+    ensures { (m : Mailbox) → mailbox_matches m result ≡ has_parent (Some id.now) m.parent }
 {
     match mailbox_number(id.as_bytes()) {
         Some(number) => MailboxCondition::HasParent(number),
@@ -258,7 +188,7 @@ fn has_parent(id: &Text) -> MailboxCondition
 }
 
 fn parent_id(value: &Json) -> MailboxCondition
-    ensures { (m : Mailbox) → mailbox_says m result
+    ensures { (m : Mailbox) → mailbox_matches m result
         ≡ mailbox_term_holds m MailboxTerm.ParentId (tree_of value.now) }
 {
     match value {
@@ -270,7 +200,7 @@ fn parent_id(value: &Json) -> MailboxCondition
 
 #[tactic(auto, using(crate::proofs::Lowered::in_lower_case))]
 fn name(alloc: Global, value: &Json) -> Result<MailboxCondition, NoMemory>
-    ensures { IfOk result (λ c. (m : Mailbox) → mailbox_says m c
+    ensures { IfOk result (λ c. (m : Mailbox) → mailbox_matches m c
         ≡ mailbox_term_holds m MailboxTerm.Name (tree_of value.now)) }
 {
     match value.as_text() {
@@ -280,7 +210,7 @@ fn name(alloc: Global, value: &Json) -> Result<MailboxCondition, NoMemory>
 }
 
 fn role(value: &Json) -> Result<MailboxCondition, NoMemory>
-    ensures { IfOk result (λ c. (m : Mailbox) → mailbox_says m c
+    ensures { IfOk result (λ c. (m : Mailbox) → mailbox_matches m c
         ≡ mailbox_term_holds m MailboxTerm.Role (tree_of value.now)) }
 {
     match value {
@@ -293,7 +223,7 @@ fn role(value: &Json) -> Result<MailboxCondition, NoMemory>
 }
 
 fn has_any_role(value: &Json) -> MailboxCondition
-    ensures { (m : Mailbox) → mailbox_says m result
+    ensures { (m : Mailbox) → mailbox_matches m result
         ≡ mailbox_term_holds m MailboxTerm.HasAnyRole (tree_of value.now) }
 {
     match as_flag(value) {
@@ -303,7 +233,7 @@ fn has_any_role(value: &Json) -> MailboxCondition
 }
 
 fn is_subscribed(value: &Json) -> MailboxCondition
-    ensures { (m : Mailbox) → mailbox_says m result
+    ensures { (m : Mailbox) → mailbox_matches m result
         ≡ mailbox_term_holds m MailboxTerm.IsSubscribed (tree_of value.now) }
 {
     match as_flag(value) {
@@ -312,13 +242,13 @@ fn is_subscribed(value: &Json) -> MailboxCondition
     }
 }
 
-/// Returns a condition on mailboxes with its value, which says what condition and value say.
+/// Returns a condition on mailboxes with its value, which matches what they match.
 pub(crate) fn read_mailbox_condition(
     alloc: Global,
     term: MailboxTerm,
     value: &Json,
 ) -> Result<MailboxCondition, NoMemory>
-    ensures { IfOk result (λ c. (m : Mailbox) → mailbox_says m c
+    ensures { IfOk result (λ c. (m : Mailbox) → mailbox_matches m c
         ≡ mailbox_term_holds m term (tree_of value.now)) }
 {
     match term {

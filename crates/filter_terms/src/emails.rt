@@ -1,17 +1,15 @@
-// What a condition says of an email (RFC 8621, section 4.4.1).
-ghost use Rattle.std.specs.Prelude.{◌≡◌, ◌==◌, not, IfOk};
+// Whether a condition matches an email (RFC 8621, section 4.4.1).
+ghost use Rattle.std.specs.Prelude.{◌≡◌, ◌==◌, not};
 ghost use Rattle.std.specs.List.{list_all, list_any};
 ghost use Rattle.mail_counts.specs.Counts.{has_keyword, is_in};
 ghost use Rattle.mail_records.specs.Contents.{email_at};
 ghost use Rattle.method_args.specs.Arguments.{passes};
 ghost use Rattle.filter_terms.specs.EmailTerms.{keyword_holds};
-ghost use Rattle.filter_terms.specs.Compiled.{email_says, is_other_than};
-ghost use Rattle.filter_terms.specs.Targets.{of_thread, seen_in};
+ghost use Rattle.filter_terms.specs.Compiled.{email_matches, is_other_than};
+ghost use Rattle.filter_terms.specs.Targets.{of_thread, email_in_thread};
 
 use crate::conditions::EmailCondition;
 use crate::terms::KeywordTest;
-use crate::texts::Texts2;
-use jm_base::NoMemory;
 use mail_records::{Content, Email, Threaded};
 
 /// Returns whether an email has the keyword, which is in lower case.
@@ -115,7 +113,7 @@ pub fn all_in_thread_have(keyword: &str, content: &Content, thread: u64) -> bool
 }
 
 fn keyword_holds(test: KeywordTest, keyword: &str, content: &Content, email: &Email) -> bool
-    ensures { result ≡ keyword_holds (seen_in content.now.content.emails email.now) test
+    ensures { result ≡ keyword_holds (email_in_thread content.now.content.emails email.now) test
         keyword.now }
 {
     match test {
@@ -127,37 +125,22 @@ fn keyword_holds(test: KeywordTest, keyword: &str, content: &Content, email: &Em
     }
 }
 
-/// Returns what a condition says of an email of a content, whose messages contain what `texts`
-/// says.
-pub(crate) fn email_says<T: Texts2>(
-    condition: &EmailCondition,
-    content: &Content,
-    texts: &T,
-    email: &Email,
-) -> Result<bool, NoMemory>
-    ensures { IfOk result (λ b. b ≡ email_says (T.texts texts.now)
-        (seen_in content.now.content.emails email.now) condition.now) }
+/// Returns whether a condition that looks at no text matches an email of a content.
+pub(crate) fn email_matches(condition: &EmailCondition, content: &Content, email: &Email) -> bool
+    ensures { result ≡ email_matches (email_in_thread content.now.content.emails email.now)
+        condition.now }
 {
     match condition {
-        EmailCondition::Never => Ok(false),
-        EmailCondition::InMailbox(number) => Ok(is_in(*number, email)),
-        EmailCondition::InMailboxOtherThan(numbers) => {
-            Ok(is_in_other_than(numbers.as_slice(), email))
-        }
-        EmailCondition::Before(date) => Ok(email.received.seconds < *date),
-        EmailCondition::After(date) => Ok(*date <= email.received.seconds),
-        EmailCondition::MinSize(size) => Ok(*size <= email.size),
-        EmailCondition::MaxSize(size) => Ok(email.size < *size),
+        EmailCondition::Never => false,
+        EmailCondition::InMailbox(number) => is_in(*number, email),
+        EmailCondition::InMailboxOtherThan(numbers) => is_in_other_than(numbers.as_slice(), email),
+        EmailCondition::Before(date) => email.received.seconds < *date,
+        EmailCondition::After(date) => *date <= email.received.seconds,
+        EmailCondition::MinSize(size) => *size <= email.size,
+        EmailCondition::MaxSize(size) => email.size < *size,
         EmailCondition::Keyword(test, keyword) => {
-            Ok(keyword_holds(*test, keyword.as_str(), content, email))
+            keyword_holds(*test, keyword.as_str(), content, email)
         }
-        EmailCondition::HasAttachment(flag) => Ok(*flag == email.summary.attachment),
-        EmailCondition::Contains(place, needle) => {
-            texts.has(email.blob, *place, needle.as_bytes())
-        }
-        EmailCondition::HasField(name) => texts.field(email.blob, name.as_bytes(), None),
-        EmailCondition::FieldContains(name, needle) => {
-            texts.field(email.blob, name.as_bytes(), Some(needle.as_bytes()))
-        }
+        EmailCondition::HasAttachment(flag) => *flag == email.summary.attachment,
     }
 }

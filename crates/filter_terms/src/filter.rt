@@ -5,11 +5,11 @@ ghost use Rattle.filter_terms.specs.Texts.{MessageTexts};
 ghost use Rattle.jm_json.specs.Json.{tree_of};
 ghost use Rattle.filter_terms.specs.Filters.{holds, matches};
 ghost use Rattle.filter_terms.specs.Forms.{IsFilter, Refuses};
-ghost use Rattle.filter_terms.specs.Targets.{AMailbox, AnEmail, seen_in};
+ghost use Rattle.filter_terms.specs.Targets.{AMailbox, AnEmail, email_in_thread};
 ghost use Rattle.filter_terms.specs.ThreadScope;
 
 use crate::compile::compile;
-use crate::compiled::{Terms, email_holds, mailbox_holds};
+use crate::compiled::{Terms, holds_of_email, mailbox_holds};
 use crate::faults::TermFault;
 use crate::invalid::invalid;
 use crate::texts::Texts2;
@@ -83,7 +83,8 @@ pub fn is_wide(filter: &Filter) -> bool
 }
 
 /// Returns whether a filter of emails matches an email of a content, whose messages contain what
-/// `texts` says.
+/// `texts` says. Its message is opened at most once, and only if the conditions that look at no
+/// text leave open whether the filter matches.
 pub fn matches_email<T: Texts2>(
     filter: &Filter,
     content: &Content,
@@ -91,10 +92,10 @@ pub fn matches_email<T: Texts2>(
     email: &Email,
 ) -> Result<bool, NoMemory>
     ensures { IfOk result (λ b. b ≡ holds filter.now.kind
-        (AnEmail (T.texts texts.now) (seen_in content.now.content.emails email.now))
+        (AnEmail (T.texts texts.now) (email_in_thread content.now.content.emails email.now))
         filter.now.tree) }
 {
-    email_holds(&filter.terms, content, texts, email)
+    holds_of_email(&filter.terms, content, texts, email)
 }
 
 /// Returns whether a filter of mailboxes matches a mailbox.

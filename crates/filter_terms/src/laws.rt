@@ -5,7 +5,7 @@ ghost use Rattle.std.specs.List.{list_all, list_any};
 ghost use Rattle.jm_base.specs.declared.identifiers.Kind.{Kind};
 ghost use Rattle.jm_json.specs.Tree.{Tree, null, no_fields, object};
 ghost use Rattle.filter_terms.specs.Filters.{holds};
-ghost use Rattle.filter_terms.specs.Laws.{EmailsDecide, MailboxesDecide, each_says, operation};
+ghost use Rattle.filter_terms.specs.Laws.{EmailsDecide, MailboxesDecide, each_matches, operation};
 ghost use Rattle.filter_terms.specs.Targets.{Target};
 
 /// Whether a filter matches depends on the record alone: on the mailbox, or on the email and, if
@@ -21,11 +21,11 @@ pub fn filters_see_only_their_record()
 /// all (RFC 8620, section 5.5).
 pub fn operators_join_their_conditions()
     ensures conjunction { (kind : Kind) (x : Target) (ts : List Tree) → holds kind x
-        (operation (codes "AND") ts) ≡ list_all (λ b. b) (each_says kind x ts) }
+        (operation (codes "AND") ts) ≡ list_all (λ b. b) (each_matches kind x ts) }
     ensures disjunction { (kind : Kind) (x : Target) (ts : List Tree) → holds kind x
-        (operation (codes "OR") ts) ≡ list_any (λ b. b) (each_says kind x ts) }
+        (operation (codes "OR") ts) ≡ list_any (λ b. b) (each_matches kind x ts) }
     ensures negation { (kind : Kind) (x : Target) (ts : List Tree) → holds kind x
-        (operation (codes "NOT") ts) ≡ not (list_any (λ b. b) (each_says kind x ts)) }
+        (operation (codes "NOT") ts) ≡ not (list_any (λ b. b) (each_matches kind x ts)) }
     ensures none { (kind : Kind) (x : Target) → holds kind x (operation (codes "OR") []) ≡ false }
     ensures nothing { (kind : Kind) (x : Target) → holds kind x null ≡ true }
     ensures empty { (kind : Kind) (x : Target) → holds kind x (object no_fields) ≡ true }

@@ -3,7 +3,7 @@
 //!
 //! [`read_filter`] reads a [`Filter`] once, with its dates, numbers, keywords and texts.
 //! [`matches`] says whether the filter matches a record of a content. What a message contains is
-//! asked of a [`Texts2`].
+//! asked of a [`Texts2`], which opens it once, after the conditions that look at no text.
 #![tactic(auto)]
 
 mod compile;
@@ -14,11 +14,11 @@ mod emails;
 mod faults;
 mod filter;
 mod invalid;
+mod known;
 mod laws;
 mod mailboxes;
+mod message_conditions;
 mod terms;
-#[cfg(test)]
-mod tests;
 mod texts;
 mod thread_scope;
 mod unsupported;
@@ -29,4 +29,4 @@ pub use emails::{all_in_thread_have, has_keyword, some_in_thread_has};
 pub use faults::TermFault;
 pub use filter::{Filter, is_wide, matches, matches_email, matches_mailbox, read_filter};
 pub use laws::{filters_see_only_their_record, operators_join_their_conditions};
-pub use texts::{Place, Texts2};
+pub use texts::{OpenedMessage, Place, Texts2};

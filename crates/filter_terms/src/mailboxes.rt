@@ -1,8 +1,8 @@
-// What a condition says of a mailbox (RFC 8621, section 2.3).
+// Whether a condition matches a mailbox (RFC 8621, section 2.3).
 ghost use Rattle.std.specs.Prelude.{◌≡◌, ◌==◌, not, is_some, Some};
 ghost use Rattle.method_args.specs.Arguments.{passes};
 ghost use Rattle.filter_terms.specs.MailboxTerms.{has_role};
-ghost use Rattle.filter_terms.specs.Compiled.{mailbox_says};
+ghost use Rattle.filter_terms.specs.Compiled.{mailbox_matches};
 
 use crate::conditions::MailboxCondition;
 use crate::containment::contains;
@@ -36,9 +36,9 @@ fn has_role(wanted: &Option<Text>, role: &Option<Text>) -> bool
     }
 }
 
-/// Returns what a condition says of a mailbox.
-pub(crate) fn mailbox_says(condition: &MailboxCondition, mailbox: &Mailbox) -> bool
-    ensures { result ≡ mailbox_says mailbox.now condition.now }
+/// Returns whether a condition matches a mailbox.
+pub(crate) fn mailbox_matches(condition: &MailboxCondition, mailbox: &Mailbox) -> bool
+    ensures { result ≡ mailbox_matches mailbox.now condition.now }
 {
     match condition {
         MailboxCondition::Never => false,

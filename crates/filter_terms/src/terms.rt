@@ -8,7 +8,7 @@ use crate::texts::Place;
 use jm_base::Kind;
 use jm_json::Json;
 
-/// What a condition says of a keyword.
+/// What a condition on a keyword asks.
 #[derive(Clone, Copy, Debug, PartialEq, Eq)]
 pub(crate) enum KeywordTest {
     AllInThread,

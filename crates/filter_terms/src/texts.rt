@@ -23,18 +23,33 @@ pub enum Place {
     Body,
 }
 
-/// Says what the messages of an account contain. ASCII letters count in either case.
+/// A message that was opened. What is decoded of it is kept, so that many conditions may ask.
+pub trait OpenedMessage: Drop {
+    ghost contents: { Self → MessageTexts };
+
+    /// Returns whether one of the texts that a condition looks at contains the needle. ASCII
+    /// letters count in either case. An empty needle is contained if there is a text at all.
+    fn has(&mut self, place: Place, needle: &[u8]) -> Result<bool, NoMemory>
+        ensures value { IfOk result (λ b. b ≡ has_text (contents self.old) place needle.now) }
+        ensures same { contents self.new ≡ contents self.old };
+
+    /// Returns whether there is a header field of the name; with a needle, whether the Text form of
+    /// such a field contains the needle.
+    fn field(&mut self, name: &[u8], needle: Option<&[u8]>) -> Result<bool, NoMemory>
+        ensures value { IfOk result (λ b. b ≡ has_field (contents self.old) name.now
+            (option_map (λ n. n.now) needle.entry)) }
+        ensures same { contents self.new ≡ contents self.old };
+}
+
+/// What the messages of an account contain.
 pub trait Texts2 {
+    /// A message of the account.
+    type Message: OpenedMessage;
+
     ghost texts: { Self → ℕ → MessageTexts };
 
-    /// Returns whether one of the texts that a condition looks at contains the needle, of the
-    /// message in a blob. An empty needle is contained if there is a text at all.
-    fn has(&self, blob: u64, place: Place, needle: &[u8]) -> Result<bool, NoMemory>
-        ensures { IfOk result (λ b. b ≡ has_text (texts self.now blob) place needle.now) };
-
-    /// Returns whether the message in a blob has a header field of the name; with a needle, whether
-    /// the Text form of such a field contains the needle.
-    fn field(&self, blob: u64, name: &[u8], needle: Option<&[u8]>) -> Result<bool, NoMemory>
-        ensures { IfOk result (λ b. b ≡ has_field (texts self.now blob) name.now
-            (option_map (λ n. n.now) needle.entry)) };
+    /// Opens the message in a blob. A filter opens a message at most once for each email, and only
+    /// if the conditions that look at no text leave open whether it matches.
+    fn open(&self, blob: u64) -> Result<Self::Message, NoMemory>
+        ensures { IfOk result (λ m. Self.Message.contents m ≡ texts self.now blob) };
 }

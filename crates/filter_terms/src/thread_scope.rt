@@ -1,4 +1,4 @@
-// Whether a filter looks at the whole thread of an email (RFC 8620, section 5.6).
+// Whether a filter looks at the thread of an email (RFC 8620, section 5.6).
 ghost use Rattle.std.specs.Prelude.{◌≡◌, map};
 ghost use Rattle.jm_json.specs.Json.{member_of, tree_of};
 ghost use Rattle.jm_json.specs.Tree.{fields_of, object, trees_of};

@@ -3,30 +3,20 @@ ghost use Rattle.std.specs.Prelude.{◌≡◌, ℕ, ◌==◌, option_and_then, o
 ghost use Rattle.jm_json.specs.Find.{as_text};
 ghost use Rattle.jm_json.specs.Json.{tree_of};
 ghost use Rattle.method_args.specs.Arguments.{as_count, as_flag, if_unsigned, passes};
-ghost use Rattle.filter_terms.specs.Dates.{utc_seconds};
 ghost use Rattle.filter_terms.specs.EmailTerms.{is_mailbox_id};
 ghost use Rattle.filter_terms.specs.Values.{as_date};
 
-use jm_base::{Kind, read_id, read_utc};
+use jm_base::{Kind, read_id};
 use jm_json::Json;
+use utc_dates::first_second;
 
-// Returns the Unix seconds of the date that a text is.
-#[tactic(auto, using(crate::proofs::DateTexts::by_dates))]
-fn utc_seconds(text: &[u8]) -> Option<i64>
-    ensures { result ≡ utc_seconds text.now }
-{
-    match read_utc(text) {
-        Ok(date) => Some(date.seconds),
-        Err(_) => None,
-    }
-}
-
-/// Returns the date of a value in Unix seconds, or `None` if the value is no UTCDate.
+/// Returns the first whole second that is not before the date of a value, in Unix seconds, or
+/// `None` if the value is no UTCDate.
 pub(crate) fn as_date(value: &Json) -> Option<i64>
     ensures { result ≡ as_date (tree_of value.now) }
 {
     match value.as_text() {
-        Some(text) => utc_seconds(text.as_bytes()),
+        Some(text) => first_second(text.as_bytes()),
         None => None,
     }
 }

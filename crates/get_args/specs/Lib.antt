@@ -3,3 +3,4 @@ pub mod PropertyNames
 pub mod Selection
 pub mod Wanted
 pub mod Faults
+pub mod NameHalves

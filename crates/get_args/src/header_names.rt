@@ -2,6 +2,7 @@
 ghost use Rattle.std.specs.Prelude.{◌≡◌, Some, None, IfOk, map, option_map};
 ghost use Rattle.std.specs.List.{list_all};
 ghost use Rattle.mime_lines.specs.Fields;
+ghost use Rattle.get_args.specs.NameHalves.{first_field_form, first_form_named, last_field_form, last_form_named};
 ghost use Rattle.get_args.specs.PropertyNames as Names;
 ghost use Rattle.get_args.specs.PropertyNames.{at_colon, after_name, by_name, address_fields, date_fields, field_asked, field_form, header_named, id_fields, raw_fields, text_fields, url_fields, if_field, in_form};
 ghost use Rattle.get_args.specs.Views.{halves, field_form_of};
@@ -123,9 +124,9 @@ fn is_allowed(form: Form, name: &str) -> bool
     }
 }
 
-// Returns the form of a name such as asText.
-fn form_named(text: &str) -> Option<Form>
-    ensures { result ≡ Names.form_named text.now }
+// Returns the form of a name, if it is Raw, Text or one of addresses.
+fn first_form_named(text: &str) -> Option<Form>
+    ensures { result ≡ first_form_named text.now }
 {
     if text == "asRaw" {
         Some(Form::Raw)
@@ -135,7 +136,16 @@ fn form_named(text: &str) -> Option<Form>
         Some(Form::Addresses)
     } else if text == "asGroupedAddresses" {
         Some(Form::GroupedAddresses)
-    } else if text == "asMessageIds" {
+    } else {
+        None
+    }
+}
+
+// Returns the form of a name, if it is another one.
+fn last_form_named(text: &str) -> Option<Form>
+    ensures { result ≡ last_form_named text.now }
+{
+    if text == "asMessageIds" {
         Some(Form::MessageIds)
     } else if text == "asDate" {
         Some(Form::Date)
@@ -143,6 +153,16 @@ fn form_named(text: &str) -> Option<Form>
         Some(Form::Urls)
     } else {
         None
+    }
+}
+
+// Returns the form of a name such as asText.
+fn form_named(text: &str) -> Option<Form>
+    ensures { result ≡ Names.form_named text.now }
+{
+    match first_form_named(text) {
+        Some(found) => Some(found),
+        None => last_form_named(text),
     }
 }
 
@@ -270,10 +290,9 @@ fn field_form_of(field: &'static str, form: Form) -> Option<FieldForm>
     Some(FieldForm { field, form })
 }
 
-/// Returns the field, and its form, that a property such as `from` names (RFC 8621, section
-/// 4.1.3).
-pub(crate) fn find_field_form(name: &str) -> Option<FieldForm>
-    ensures { option_map field_form_of result ≡ field_form name.now }
+// Returns the field, and its form, that a property names, of those up to `references`.
+fn find_first_form(name: &str) -> Option<FieldForm>
+    ensures { option_map field_form_of result ≡ first_field_form name.now }
 {
     if name == "bcc" {
         field_form_of("Bcc", Form::Addresses)
@@ -287,7 +306,16 @@ pub(crate) fn find_field_form(name: &str) -> Option<FieldForm>
         field_form_of("Message-ID", Form::MessageIds)
     } else if name == "references" {
         field_form_of("References", Form::MessageIds)
-    } else if name == "replyTo" {
+    } else {
+        None
+    }
+}
+
+// Returns the field, and its form, that a property names, of those after `references`.
+fn find_last_form(name: &str) -> Option<FieldForm>
+    ensures { option_map field_form_of result ≡ last_field_form name.now }
+{
+    if name == "replyTo" {
         field_form_of("Reply-To", Form::Addresses)
     } else if name == "sender" {
         field_form_of("Sender", Form::Addresses)
@@ -299,5 +327,16 @@ pub(crate) fn find_field_form(name: &str) -> Option<FieldForm>
         field_form_of("To", Form::Addresses)
     } else {
         None
+    }
+}
+
+/// Returns the field, and its form, that a property such as `from` names (RFC 8621, section
+/// 4.1.3).
+pub(crate) fn find_field_form(name: &str) -> Option<FieldForm>
+    ensures { option_map field_form_of result ≡ field_form name.now }
+{
+    match find_first_form(name) {
+        Some(found) => Some(found),
+        None => find_last_form(name),
     }
 }

@@ -12,8 +12,6 @@ mod laws;
 mod property;
 mod property_names;
 mod selection;
-#[cfg(test)]
-mod tests;
 mod wanted;
 
 pub use fault::{WantedFault, blame_argument};

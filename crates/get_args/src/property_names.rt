@@ -1,5 +1,6 @@
 // Names of properties (RFC 8621, sections 4.1 and 4.2).
 ghost use Rattle.std.specs.Prelude.{◌≡◌, IfOk, map, option_map};
+ghost use Rattle.get_args.specs.NameHalves.{first_own_part_property, first_own_property, last_own_part_property, last_own_property};
 ghost use Rattle.get_args.specs.PropertyNames as Names;
 ghost use Rattle.get_args.specs.PropertyNames.{field_form, last_field};
 ghost use Rattle.get_args.specs.Wanted.{each, named_part_property, named_property};
@@ -11,9 +12,9 @@ use crate::property::{
 use jm_base::{NoMemory, Sequence, Text};
 use std::alloc::Global;
 
-// Returns the properties of an email that name no header field.
-fn own_property(name: &str) -> Option<Property>
-    ensures { result ≡ Names.own_property name.now }
+// Returns a property of an email that names no header field, of those up to `id` in byte order.
+fn first_own_property(name: &str) -> Option<Property>
+    ensures { result ≡ first_own_property name.now }
 {
     if name == "attachments" {
         Some(Property::Attachments)
@@ -31,7 +32,16 @@ fn own_property(name: &str) -> Option<Property>
         Some(Property::HtmlBody)
     } else if name == "id" {
         Some(Property::Metadata(MetadataProperty::Id))
-    } else if name == "keywords" {
+    } else {
+        None
+    }
+}
+
+// Returns such a property, of those after `id`.
+fn last_own_property(name: &str) -> Option<Property>
+    ensures { result ≡ last_own_property name.now }
+{
+    if name == "keywords" {
         Some(Property::Metadata(MetadataProperty::Keywords))
     } else if name == "mailboxIds" {
         Some(Property::Metadata(MetadataProperty::MailboxIds))
@@ -47,6 +57,16 @@ fn own_property(name: &str) -> Option<Property>
         Some(Property::Metadata(MetadataProperty::ThreadId))
     } else {
         None
+    }
+}
+
+// Returns the properties of an email that name no header field.
+fn own_property(name: &str) -> Option<Property>
+    ensures { result ≡ Names.own_property name.now }
+{
+    match first_own_property(name) {
+        Some(found) => Some(found),
+        None => last_own_property(name),
     }
 }
 
@@ -88,9 +108,10 @@ fn property_named(alloc: Global, name: &str) -> Result<Option<Property>, NoMemor
     header_property(alloc, name)
 }
 
-// Returns the properties of a body part that are no fields of its header.
-fn own_part_property(name: &str) -> Option<PartProperty>
-    ensures { result ≡ Names.own_part_property name.now }
+// Returns a property of a body part that is no field of its header, of those up to `language` in
+// byte order.
+fn first_own_part_property(name: &str) -> Option<PartProperty>
+    ensures { result ≡ first_own_part_property name.now }
 {
     if name == "blobId" {
         Some(PartProperty::BlobId)
@@ -104,7 +125,16 @@ fn own_part_property(name: &str) -> Option<PartProperty>
         Some(PartProperty::Headers)
     } else if name == "language" {
         Some(PartProperty::Language)
-    } else if name == "location" {
+    } else {
+        None
+    }
+}
+
+// Returns such a property, of those after `language`.
+fn last_own_part_property(name: &str) -> Option<PartProperty>
+    ensures { result ≡ last_own_part_property name.now }
+{
+    if name == "location" {
         Some(PartProperty::Location)
     } else if name == "name" {
         Some(PartProperty::Name)
@@ -118,6 +148,16 @@ fn own_part_property(name: &str) -> Option<PartProperty>
         Some(PartProperty::MediaType)
     } else {
         None
+    }
+}
+
+// Returns the properties of a body part that are no fields of its header.
+fn own_part_property(name: &str) -> Option<PartProperty>
+    ensures { result ≡ Names.own_part_property name.now }
+{
+    match first_own_part_property(name) {
+        Some(found) => Some(found),
+        None => last_own_part_property(name),
     }
 }
 

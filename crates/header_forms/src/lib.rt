@@ -10,8 +10,6 @@ mod character_contexts;
 mod date;
 mod date_parts;
 mod date_reader;
-#[cfg(test)]
-mod date_tests;
 mod date_text;
 mod date_time;
 mod date_words;
@@ -19,8 +17,6 @@ mod form;
 mod forms;
 mod groups;
 mod laws;
-#[cfg(test)]
-mod tests;
 mod texts;
 
 pub use address::{Address, Addresses, Group, Groups};

@@ -22,8 +22,6 @@ mod sink;
 mod source;
 mod tcp;
 mod tcp_socket;
-#[cfg(test)]
-mod tests;
 
 pub use adapter::{Reading, Writing};
 pub use arrival::{Arrival, Sent};

@@ -12,8 +12,6 @@ mod parser;
 mod patches;
 mod paths;
 mod reader;
-#[cfg(test)]
-mod tests;
 mod tree;
 mod writer;
 

@@ -1,5 +1,5 @@
 // Reads JSON bytes (RFC 8259) as a tree.
-ghost use Rattle.std.specs.Prelude.{◌≡◌, ◌∷◌, ◌++◌, Some, None, IfOk, IfErr, OnErr, MatchResult, MatchOption, IsUtf8, decimal, map, pos, negsuc, int_lt, false};
+ghost use Rattle.std.specs.Prelude.{◌≡◌, ◌∷◌, ◌++◌, [], Some, None, IfOk, IfErr, OnErr, OnOk, MatchResult, MatchOption, IsUtf8, decimal, map, pos, negsuc, int_lt, false};
 ghost use Rattle.std.specs.Prelude.{List, ℕ, true};
 ghost use Rattle.serde_json.specs.Data.{Data, array, object};
 ghost use Rattle.jm_json.specs.Reading as reading;
@@ -10,8 +10,9 @@ ghost use Rattle.serde_json.specs.Find.{of_integer};
 ghost use Rattle.jm_json.specs.Tree.{trees_of, fields_of};
 ghost use Rattle.jm_json.specs.Json.{tree_of};
 ghost use Rattle.jm_json.specs.JsonValues.{data_of, items_of, members_of};
-ghost use Rattle.jm_json.specs.Integers.{is_whole, first_invalid, first_invalid_item, first_invalid_member, under, pointer_part};
-ghost use Rattle.jm_json.specs.Faults.{Refuses};
+ghost use Rattle.jm_json.specs.Integers.{is_whole, first_invalid, first_invalid_item, first_invalid_member, under, pointer_byte, pointer_part};
+ghost use Rattle.jm_json.specs.Faults.{IsUnder, Refuses};
+ghost use Rattle.jm_json.specs.Order.{KeysRise};
 
 use crate::parser::{INTEGER_LIMIT, Scratch, Stop, read_plainly};
 use crate::tree::{Items, Json, Members};
@@ -148,10 +149,7 @@ fn items_from(alloc: Global, values: &Vec<Value>) -> Result<Items, Misfit>
     for i in 0..values.len() {
         match tree_from(alloc, &values[i]) {
             Ok(tree) => items.push(tree)?,
-            Err(Misfit::NotWhole(path)) => {
-                return Err(Misfit::NotWhole(under_index(alloc, i, path)?));
-            }
-            Err(Misfit::NoMemory) => return Err(Misfit::NoMemory),
+            Err(fault) => return Err(fault_at_index(alloc, i, fault)),
         }
     }
     Ok(items)
@@ -167,14 +165,45 @@ fn members_from(alloc: Global, values: &Map<String, Value>) -> Result<Members, M
     let mut members = Members::new(alloc);
     for (name, value) in values.iter() {
         match tree_from(alloc, value) {
-            Ok(tree) => members.push(Text::from_str(alloc, name.as_str())?, tree)?,
-            Err(Misfit::NotWhole(path)) => {
-                return Err(Misfit::NotWhole(under_key(alloc, name.as_str(), path)?));
-            }
-            Err(Misfit::NoMemory) => return Err(Misfit::NoMemory),
+            Ok(tree) => push_named(alloc, &mut members, name.as_str(), tree)?,
+            Err(fault) => return Err(fault_at_key(alloc, name.as_str(), fault)),
         }
     }
     Ok(members)
+}
+
+// Adds a member whose key comes after the others.
+fn push_named(alloc: Global, members: &mut Members, name: &str, value: Json) -> Result<(), NoMemory>
+    requires { KeysRise (members.old ++ (name.now, tree_of value) ∷ []) }
+    ensures { OnOk result (members.new ≡ members.old ++ (name.now, tree_of value) ∷ []) }
+{
+    members.push(Text::from_str(alloc, name)?, value)
+}
+
+// Makes the fault of an item a fault of its list.
+fn fault_at_index(alloc: Global, index: usize, fault: Misfit) -> Misfit
+    ensures { IsUnder (decimal index) fault result }
+{
+    match fault {
+        Misfit::NotWhole(path) => match under_index(alloc, index, path) {
+            Ok(path) => Misfit::NotWhole(path),
+            Err(NoMemory) => Misfit::NoMemory,
+        },
+        Misfit::NoMemory => Misfit::NoMemory,
+    }
+}
+
+// Makes the fault of a member's value a fault of its object.
+fn fault_at_key(alloc: Global, key: &str, fault: Misfit) -> Misfit
+    ensures { IsUnder (pointer_part key.now) fault result }
+{
+    match fault {
+        Misfit::NotWhole(path) => match under_key(alloc, key, path) {
+            Ok(path) => Misfit::NotWhole(path),
+            Err(NoMemory) => Misfit::NoMemory,
+        },
+        Misfit::NoMemory => Misfit::NoMemory,
+    }
 }
 
 fn under_index(alloc: Global, index: usize, path: Text) -> Result<Text, NoMemory>
@@ -184,17 +213,32 @@ fn under_index(alloc: Global, index: usize, path: Text) -> Result<Text, NoMemory
     Ok(Text::from_string(format!(in alloc; "/{index}{rest}")?))
 }
 
-fn under_key(alloc: Global, key: &str, path: Text) -> Result<Text, NoMemory>
-    ensures { IfOk result (λ t. t ≡ under (pointer_part key.now) path) }
+// Adds a byte of a key to a JSON Pointer (RFC 6901, section 3).
+fn push_pointer_byte(pointer: &mut Vec<u8>, byte: u8) -> Result<(), AllocError>
+    ensures { OnOk result (pointer.new.items ≡ pointer.old.items ++ pointer_byte byte) }
+{
+    match byte {
+        b'~' => pointer.extend_from_slice(b"~0"),
+        b'/' => pointer.extend_from_slice(b"~1"),
+        _ => Ok(pointer.push(byte)?),
+    }
+}
+
+// Returns the part of a JSON Pointer that names this key.
+fn pointer_to(alloc: Global, key: &str) -> Result<Vec<u8>, AllocError>
+    ensures { IfOk result (λ bytes. bytes.items ≡ 47 ∷ pointer_part key.now) }
 {
     let mut bytes = vec![in alloc; b'/']?;
     for b in key.as_bytes() {
-        match *b {
-            b'~' => bytes.extend_from_slice(b"~0")?,
-            b'/' => bytes.extend_from_slice(b"~1")?,
-            b => bytes.push(b)?,
-        }
+        push_pointer_byte(&mut bytes, *b)?;
     }
+    Ok(bytes)
+}
+
+fn under_key(alloc: Global, key: &str, path: Text) -> Result<Text, NoMemory>
+    ensures { IfOk result (λ t. t ≡ under (pointer_part key.now) path) }
+{
+    let mut bytes = pointer_to(alloc, key)?;
     bytes.extend_from_slice(path.as_bytes())?;
     match Text::from_utf8(bytes) {
         Some(text) => Ok(text),

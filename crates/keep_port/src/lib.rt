@@ -11,8 +11,6 @@ mod keeper;
 mod kept;
 mod laws;
 mod memory;
-#[cfg(test)]
-mod tests;
 
 pub use keeper::Keeper;
 pub use kept::Kept;

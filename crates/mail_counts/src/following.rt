@@ -297,6 +297,23 @@ fn add_listed_edits(
     Ok(())
 }
 
+// Adds the puts of the mailboxes whose counts change from one tally to another.
+fn add_counted_edits(
+    alloc: Global,
+    edits: &mut Vec<Edit>,
+    content: &Overlaid,
+    were: &Tally,
+    are: &Tally,
+) -> Result<(), NoMemory>
+    ensures { OnOk result (edits.new.items ≡ edits.old.items
+        ++ all_listed mailbox_number (counted_edits were.now are.now) content.now.mailboxes
+        (rising (map member_group were.now.total_emails
+        ++ map member_group are.now.total_emails))) }
+{
+    let mailboxes = counted_mailboxes(alloc, were, are)?;
+    add_count_edits(alloc, edits, content, were, are, &mailboxes)
+}
+
 // Adds the puts of the mailboxes whose counts change as some emails became others.
 fn add_recounted(
     alloc: Global,
@@ -314,9 +331,7 @@ fn add_recounted(
 {
     let were = Tally::new(alloc, were)?;
     let are = Tally::new(alloc, are)?;
-    let mailboxes = counted_mailboxes(alloc, &were, &are)?;
-    add_count_edits(alloc, edits, content, &were, &are, &mailboxes)?;
-    Ok(())
+    add_counted_edits(alloc, edits, content, &were, &are)
 }
 
 // Returns the edits that follow from edits of a content.

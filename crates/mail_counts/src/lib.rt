@@ -14,11 +14,7 @@ mod members;
 mod overlaid;
 mod plan;
 mod state;
-#[cfg(test)]
-mod steps_tests;
 mod tally;
-#[cfg(test)]
-mod tests;
 mod thread_lists;
 mod touched;
 mod view;

@@ -1,7 +1,8 @@
 // What a client is shown of a mailbox (RFC 8621, section 2).
-ghost use Rattle.std.specs.Prelude.{◌≡◌, min, IfOk, OnOk, OnErr};
+ghost use Rattle.std.specs.Prelude.{◌≡◌, min, IfOk, OnOk, OnErr, Some, codes};
 ghost use Rattle.jm_json.specs.Json.{tree_of};
 ghost use Rattle.jm_json.specs.Order.{put};
+ghost use Rattle.jm_json.specs.Tree.{boolean, text};
 ghost use Rattle.mail_counts.specs.Views.{count_tree, mailbox_id, mailbox_members, parent_tree, rights_members, rights_tree, role_tree};
 
 use crate::limits::MAX_JSON_INTEGER;
@@ -64,22 +65,59 @@ pub fn mailbox_rights(alloc: Global, read_only: bool) -> Result<Json, NoMemory>
     Ok(Json::Object(rights(alloc, read_only)?))
 }
 
+// Sets what says which mailbox it is, and what may be done with it.
+fn set_identity(
+    alloc: Global,
+    view: &mut Members,
+    mailbox: &Mailbox,
+    read_only: bool,
+) -> Result<(), NoMemory>
+    ensures { OnOk result (view.new
+        ≡ put (codes "name") (text mailbox.now.name)
+        (put (codes "myRights") (rights_tree read_only)
+        (put (codes "isSubscribed") (boolean mailbox.now.subscribed)
+        (put (codes "id") (parent_tree (Some mailbox.now.number)) view.old)))) }
+{
+    view.set(alloc, "id", identifier(alloc, mailbox.number)?)?;
+    view.set(alloc, "isSubscribed", Json::Bool(mailbox.subscribed))?;
+    view.set(alloc, "myRights", mailbox_rights(alloc, read_only)?)?;
+    view.set(alloc, "name", Json::Text(mailbox.name.copy()?))
+}
+
+// Sets where a mailbox is among the others.
+fn set_place(alloc: Global, view: &mut Members, mailbox: &Mailbox) -> Result<(), NoMemory>
+    ensures { OnOk result (view.new
+        ≡ put (codes "sortOrder") (count_tree mailbox.now.sort_order)
+        (put (codes "role") (role_tree mailbox.now.role)
+        (put (codes "parentId") (parent_tree mailbox.now.parent) view.old))) }
+{
+    view.set(alloc, "parentId", parent(alloc, mailbox.parent)?)?;
+    view.set(alloc, "role", role(&mailbox.role)?)?;
+    view.set(alloc, "sortOrder", count(mailbox.sort_order))
+}
+
+// Sets the counts of a mailbox.
+fn set_counts(alloc: Global, view: &mut Members, mailbox: &Mailbox) -> Result<(), NoMemory>
+    ensures { OnOk result (view.new
+        ≡ put (codes "unreadThreads") (count_tree mailbox.now.unread_threads)
+        (put (codes "unreadEmails") (count_tree mailbox.now.unread_emails)
+        (put (codes "totalThreads") (count_tree mailbox.now.total_threads)
+        (put (codes "totalEmails") (count_tree mailbox.now.total_emails) view.old)))) }
+{
+    view.set(alloc, "totalEmails", count(mailbox.total_emails))?;
+    view.set(alloc, "totalThreads", count(mailbox.total_threads))?;
+    view.set(alloc, "unreadEmails", count(mailbox.unread_emails))?;
+    view.set(alloc, "unreadThreads", count(mailbox.unread_threads))
+}
+
 /// The members of a mailbox's object, in byte order of their names, for a user to whom the account
 /// is read-only or not.
 pub fn mailbox_view(alloc: Global, mailbox: &Mailbox, read_only: bool) -> Result<Members, NoMemory>
     ensures { IfOk result (λ ms. ms ≡ mailbox_members read_only mailbox.now) }
 {
     let mut view = Members::with_room(alloc, 11)?;
-    view.set(alloc, "id", identifier(alloc, mailbox.number)?)?;
-    view.set(alloc, "isSubscribed", Json::Bool(mailbox.subscribed))?;
-    view.set(alloc, "myRights", mailbox_rights(alloc, read_only)?)?;
-    view.set(alloc, "name", Json::Text(mailbox.name.copy()?))?;
-    view.set(alloc, "parentId", parent(alloc, mailbox.parent)?)?;
-    view.set(alloc, "role", role(&mailbox.role)?)?;
-    view.set(alloc, "sortOrder", count(mailbox.sort_order))?;
-    view.set(alloc, "totalEmails", count(mailbox.total_emails))?;
-    view.set(alloc, "totalThreads", count(mailbox.total_threads))?;
-    view.set(alloc, "unreadEmails", count(mailbox.unread_emails))?;
-    view.set(alloc, "unreadThreads", count(mailbox.unread_threads))?;
+    set_identity(alloc, &mut view, mailbox, read_only)?;
+    set_place(alloc, &mut view, mailbox)?;
+    set_counts(alloc, &mut view, mailbox)?;
     Ok(view)
 }

@@ -16,13 +16,9 @@ mod fitting;
 mod laws;
 mod limits;
 mod mailboxes;
-#[cfg(test)]
-mod order_tests;
 mod orders;
 mod records;
 mod table;
-#[cfg(test)]
-mod tests;
 
 pub use content::{Content, apply};
 pub use edits::{Commit, Edit, Edits, Stamp, copy_edits};

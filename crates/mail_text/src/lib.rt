@@ -7,8 +7,6 @@
 
 mod comment;
 mod gap;
-#[cfg(test)]
-mod tests;
 mod text;
 
 pub use comment::{State, next_state};

@@ -12,8 +12,6 @@ mod metadata;
 mod part;
 mod part_list;
 mod structure;
-#[cfg(test)]
-mod tests;
 mod values;
 
 pub use message_view::view;

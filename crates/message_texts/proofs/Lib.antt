@@ -1,2 +1,3 @@
-mod Found
+pub mod Found
+pub mod Parts
 mod Stay

@@ -1,7 +1,8 @@
 -- The texts of a message that filters look at (RFC 8621, 4.4.1), from its bytes.
-use Rattle.std.specs.Prelude.{ℕ, List, Bool, ◌&&◌, map, filter}
+use Rattle.std.specs.Prelude.{ℕ, List, ◌++◌, codes, Bool, ◌&&◌, bytes_eq, map, filter}
 use Rattle.mime_lines.specs.Fields.{fields_of}
-use Rattle.mime_lines.specs.FieldOffsets.{is_named, value_in}
+use Rattle.mime_lines.specs.FieldOffsets.{lowered}
+use Rattle.mime_lines.specs.FieldTexts.{FieldText}
 use Rattle.mime_lines.specs.declared.field.Field.{Field}
 use Rattle.mime_type.specs.PartTrees.{Node}
 use Rattle.mime_tree.specs.PartLimit.{parts_of, walked}
@@ -38,11 +39,16 @@ message_texts bytes = record {
 abbrev pub texts_of_blobs : List (List ℕ) → ℕ → MessageTexts
 texts_of_blobs blobs n = message_texts (blob_bytes blobs n)
 
--- a field has this name, and its Text form contains the needle
-abbrev pub field_has : List ℕ → List ℕ → List ℕ → Field → Bool
-field_has bytes name needle f =
-    is_named bytes name f && contains needle (text_form (value_in bytes f))
+-- the texts of the fields that the condition `text` looks at
+abbrev pub main_texts : MessageTexts → List (List ℕ)
+main_texts m =
+    m.fields (codes "From") ++ m.fields (codes "To") ++ m.fields (codes "Cc")
+    ++ m.fields (codes "Bcc") ++ m.fields (codes "Subject")
 
--- a part is a text part, and its text contains the needle
-abbrev pub part_has : List ℕ → List ℕ → Node → Bool
-part_has bytes needle x = is_text_part x && contains needle (body_text bytes x)
+-- a field with this name, in either case
+abbrev pub is_field_named : List ℕ → FieldText → Bool
+is_field_named name f = bytes_eq (lowered f.name) (lowered name)
+
+-- a field has this name, and its Text form contains the needle
+abbrev pub field_has : List ℕ → List ℕ → FieldText → Bool
+field_has name needle f = is_field_named name f && contains needle (text_form f.value)

@@ -1,18 +1,17 @@
-// Which text parts contain a text (RFC 8621, sections 4.1.4 and 4.4.1).
-ghost use Rattle.std.specs.Prelude.{◌≡◌, IfOk, length};
-ghost use Rattle.std.specs.List.{list_any};
+// The texts of the text parts of a message (RFC 8621, sections 4.1.4 and 4.4.1).
+ghost use Rattle.std.specs.Prelude.{◌≡◌, ◌++◌, ◌∷◌, [], IfOk, OnOk, length};
 ghost use Rattle.mime_type.specs.PartTrees.{none};
 ghost use Rattle.mime_type.specs.PartViews.{joined, node_of, tree_of};
 ghost use Rattle.mime_tree.specs.PartLimit.{parts_of, walked};
 ghost use Rattle.mime_tree.specs.Places.{AllPlaced, IsPlaced};
-ghost use Rattle.mail_summary.specs.Texts;
+ghost use Rattle.mail_summary.specs.Texts as Bodies;
 ghost use Rattle.mail_summary.specs.Texts.{body_text};
 ghost use Rattle.mail_view.specs.Values.{is_text_part};
 ghost use Rattle.filter_terms.specs.Contains.{some_contains};
-ghost use Rattle.message_texts.specs.Texts.{part_has, part_texts};
+ghost use Rattle.message_texts.specs.Texts.{part_texts};
 
 use filter_terms::contains;
-use jm_base::{NoMemory, Text};
+use jm_base::{NoMemory, Text, Texts};
 use mail_summary::read_body;
 use mime_tree::parts;
 use mime_type::Part;
@@ -21,7 +20,7 @@ use std::alloc::Global;
 
 // Returns the charset of a part; a part without one has us-ascii.
 fn charset_name(part: &Part) -> &[u8]
-    ensures { result.now ≡ Texts.charset_name (node_of part.now) }
+    ensures { result.now ≡ Bodies.charset_name (node_of part.now) }
 {
     match &part.charset {
         Some(name) => name.as_bytes(),
@@ -45,58 +44,72 @@ fn read_text(alloc: Global, bytes: &[u8], part: &Part) -> Result<Text, NoMemory>
     Ok(decoded.text)
 }
 
-// Returns whether a part itself is a text part that contains the needle. The body of another part
-// is not decoded.
-fn has_text(alloc: Global, bytes: &[u8], part: &Part, needle: &[u8]) -> Result<bool, NoMemory>
+// Adds the text of a part itself, if it is a text part. The body of another part is not decoded.
+fn push_own_text(
+    alloc: Global,
+    bytes: &[u8],
+    part: &Part,
+    texts: &mut Texts,
+) -> Result<(), NoMemory>
     requires { IsPlaced (length bytes.now) (node_of part.now) }
-    ensures { IfOk result (λ b. b ≡ part_has bytes.now needle.now (node_of part.now)) }
+    ensures { OnOk result (texts.new
+        ≡ texts.old ++ part_texts bytes.now (node_of part.now ∷ [])) }
 {
     if !is_text(part) {
-        return Ok(false);
+        return Ok(());
     }
-    let text = read_text(alloc, bytes, part)?;
-    Ok(contains(text.as_bytes(), needle))
+    texts.push(read_text(alloc, bytes, part)?)
 }
 
-// Returns whether a part or one of those within it is a text part that contains the needle.
-// Multiparts nest at most `MAX_MULTIPART_LEVELS` deep.
+// Adds the texts of a part and of those within it, in walk order. Multiparts nest at most
+// `MAX_MULTIPART_LEVELS` deep.
+#[tactic(auto, using(crate::proofs::Parts::own_and_inner))]
 #[cycle(bodies)]
-fn part_contains(alloc: Global, bytes: &[u8], part: &Part, needle: &[u8]) -> Result<bool, NoMemory>
+fn push_texts(alloc: Global, bytes: &[u8], part: &Part, texts: &mut Texts) -> Result<(), NoMemory>
     requires { AllPlaced (length bytes.now) (tree_of part.now none) }
-    ensures { IfOk result (λ b. b
-        ≡ list_any (λ x. part_has bytes.now needle.now x) (walked (tree_of part.now none))) }
+    ensures { OnOk result (texts.new
+        ≡ texts.old ++ part_texts bytes.now (walked (tree_of part.now none))) }
 {
-    if has_text(alloc, bytes, part, needle)? {
-        return Ok(true);
-    }
-    some_part_contains(alloc, bytes, part.parts.as_slice(), needle)
+    push_own_text(alloc, bytes, part, texts)?;
+    push_all_texts(alloc, bytes, part.parts.as_slice(), texts)
 }
 
+#[tactic(auto, using(crate::proofs::Parts::one_part_more, crate::proofs::Parts::no_part_more))]
 #[cycle(bodies)]
-fn some_part_contains(
+fn push_all_texts(
     alloc: Global,
     bytes: &[u8],
     parts: &[Part],
-    needle: &[u8],
-) -> Result<bool, NoMemory>
+    texts: &mut Texts,
+) -> Result<(), NoMemory>
     requires { AllPlaced (length bytes.now) (joined parts.now none) }
-    ensures { IfOk result (λ b. b
-        ≡ list_any (λ x. part_has bytes.now needle.now x) (walked (joined parts.now none))) }
+    ensures { OnOk result (texts.new
+        ≡ texts.old ++ part_texts bytes.now (walked (joined parts.now none))) }
 {
     for part in parts {
-        if part_contains(alloc, bytes, part, needle)? {
-            return Ok(true);
-        }
+        push_texts(alloc, bytes, part, texts)?;
     }
-    Ok(false)
+    Ok(())
 }
 
-/// Returns whether a text part of the message with these bytes contains the needle. Each part is
-/// decoded at most once, and none after the first that contains it.
-pub(crate) fn body_contains(alloc: Global, bytes: &[u8], needle: &[u8]) -> Result<bool, NoMemory>
-    ensures { IfOk result (λ b. b ≡ some_contains needle.now
-        (part_texts bytes.now (walked (parts_of bytes.now)))) }
+/// Returns the texts of the text parts of the message with these bytes.
+pub(crate) fn read_bodies(alloc: Global, bytes: &[u8]) -> Result<Texts, NoMemory>
+    ensures { IfOk result (λ ts. ts ≡ part_texts bytes.now (walked (parts_of bytes.now))) }
 {
     let root = parts(alloc, bytes)?;
-    part_contains(alloc, bytes, &root, needle)
+    let mut texts = Texts::new(alloc);
+    push_texts(alloc, bytes, &root, &mut texts)?;
+    Ok(texts)
+}
+
+/// Returns whether one of these texts contains the needle.
+pub(crate) fn some_contains(texts: &[Text], needle: &[u8]) -> bool
+    ensures { result ≡ some_contains needle.now texts.now }
+{
+    for text in texts {
+        if contains(text.as_bytes(), needle) {
+            return true;
+        }
+    }
+    false
 }

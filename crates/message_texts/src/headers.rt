@@ -1,108 +1,77 @@
 // Which header fields contain a text (RFC 8621, sections 4.1.2.2 and 4.4.1).
-ghost use Rattle.std.specs.Prelude.{◌≡◌, ◌==◌, not, All, IfOk, length};
+ghost use Rattle.std.specs.Prelude.{◌≡◌, IfOk, map};
 ghost use Rattle.std.specs.List.{list_any};
-ghost use Rattle.mime_lines.specs.FieldOffsets.{IsWithin, is_named};
-ghost use Rattle.filter_terms.specs.Contains.{some_contains};
-ghost use Rattle.message_texts.specs.Texts.{field_has, field_texts};
+ghost use Rattle.mime_lines.specs.Fields.{fields_of};
+ghost use Rattle.mime_lines.specs.FieldTexts.{read_at};
+ghost use Rattle.message_texts.specs.Texts.{field_has, is_field_named};
 
-use filter_terms::contains;
-use header_forms::text_of_value;
+use crate::header_field::{HeaderField, has_text};
 use jm_base::NoMemory;
-use mime_lines::{Field, fields};
+use mime_lines::fields;
 use std::alloc::Global;
 
-// Returns whether a field has this name, and its Text form contains the needle. The value of
-// another field is not decoded.
-fn has_text(
+/// Returns the fields of the header of the message with these bytes. No value is decoded.
+pub(crate) fn header_fields<'a>(
     alloc: Global,
-    bytes: &[u8],
-    field: &Field,
-    name: &[u8],
-    needle: &[u8],
-) -> Result<bool, NoMemory>
-    requires { IsWithin bytes.now field.now }
-    ensures { IfOk result (λ b. b ≡ field_has bytes.now name.now needle.now field.now) }
+    bytes: &'a [u8],
+) -> Result<Vec<HeaderField<'a>>, NoMemory>
+    ensures { IfOk result (λ v. v.items ≡ map (read_at bytes.now) (fields_of bytes.now)) }
 {
-    if !field.is_named(bytes, name) {
-        return Ok(false);
+    let head = fields(alloc, bytes)?;
+    let spans = head.fields.as_slice();
+    let mut all = Vec::with_capacity(alloc, spans.len())?;
+    for span in spans {
+        all.push(HeaderField::new(span.name(bytes), span.value(bytes)))?;
     }
-    let text = text_of_value(alloc, field.value(bytes))?;
-    Ok(contains(text.as_bytes(), needle))
+    Ok(all)
 }
 
 // Returns whether one of these fields has this name and contains the needle.
 fn fields_contain(
     alloc: Global,
-    bytes: &[u8],
-    fields: &[Field],
+    fields: &mut [HeaderField<'_>],
     name: &[u8],
     needle: &[u8],
 ) -> Result<bool, NoMemory>
-    requires { All (IsWithin bytes.now) fields.now }
-    ensures { IfOk result (λ b. b
-        ≡ list_any (λ f. field_has bytes.now name.now needle.now f) fields.now) }
+    ensures value { IfOk result (λ b. b
+        ≡ list_any (λ f. field_has name.now needle.now f) fields.old) }
+    ensures same { fields.new ≡ fields.old }
 {
-    for field in fields {
-        if has_text(alloc, bytes, field, name, needle)? {
+    for field in fields.iter_mut() {
+        if has_text(alloc, field, name, needle)? {
             return Ok(true);
         }
     }
     Ok(false)
 }
 
-// Returns whether one of these fields has one of these names and contains the needle.
-fn named_fields_contain(
+/// Returns whether one of these fields has one of these names and contains the needle.
+pub(crate) fn named_fields_contain(
     alloc: Global,
-    bytes: &[u8],
-    fields: &[Field],
+    fields: &mut [HeaderField<'_>],
     names: &[&[u8]],
     needle: &[u8],
 ) -> Result<bool, NoMemory>
-    requires { All (IsWithin bytes.now) fields.now }
-    ensures { IfOk result (λ b. b ≡ list_any
-        (λ name. list_any (λ f. field_has bytes.now name.now needle.now f) fields.now)
-        names.now) }
+    ensures value { IfOk result (λ b. b ≡ list_any
+        (λ name. list_any (λ f. field_has name.now needle.now f) fields.old) names.now) }
+    ensures same { fields.new ≡ fields.old }
 {
     for name in names {
-        if fields_contain(alloc, bytes, fields, name, needle)? {
+        if fields_contain(alloc, fields, name, needle)? {
             return Ok(true);
         }
     }
     Ok(false)
 }
 
-/// Returns whether a header field of one of these names contains the needle. No body is read.
-pub(crate) fn header_contains(
-    alloc: Global,
-    bytes: &[u8],
-    names: &[&[u8]],
-    needle: &[u8],
-) -> Result<bool, NoMemory>
-    ensures { IfOk result (λ b. b ≡ list_any
-        (λ name. some_contains needle.now (field_texts bytes.now name.now)) names.now) }
-{
-    let head = fields(alloc, bytes)?;
-    named_fields_contain(alloc, bytes, head.fields.as_slice(), names, needle)
-}
-
-// Returns whether one of these fields has this name.
-fn is_any_named(bytes: &[u8], fields: &[Field], name: &[u8]) -> bool
-    requires { All (IsWithin bytes.now) fields.now }
-    ensures { result ≡ list_any (λ f. is_named bytes.now name.now f) fields.now }
+/// Returns whether one of these fields has this name.
+pub(crate) fn is_any_named(fields: &[HeaderField<'_>], name: &[u8]) -> bool
+    ensures { result ≡ list_any (λ f. is_field_named name.now f) fields.now }
 {
     for field in fields {
-        if field.is_named(bytes, name) {
+        if field.is_named(name) {
             return true;
         }
     }
     false
-}
-
-/// Returns whether there is a header field of this name. No body is read, and no value is decoded.
-#[tactic(auto, using(crate::proofs::Found::some_field_named))]
-pub(crate) fn has_field(alloc: Global, bytes: &[u8], name: &[u8]) -> Result<bool, NoMemory>
-    ensures { IfOk result (λ b. b ≡ not (length (field_texts bytes.now name.now) == 0)) }
-{
-    let head = fields(alloc, bytes)?;
-    Ok(is_any_named(bytes, head.fields.as_slice(), name))
 }

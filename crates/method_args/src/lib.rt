@@ -7,8 +7,6 @@
 #![tactic(auto)]
 
 mod form;
-#[cfg(test)]
-mod tests;
 mod values;
 
 pub use form::{Argument, Presence, Shape, find_invalid, has_form};

@@ -14,8 +14,6 @@ mod progress;
 mod reply;
 mod request;
 mod response;
-#[cfg(test)]
-mod tests;
 mod using;
 
 pub use answer::{answer_request, answer_request_with, answer_tree};

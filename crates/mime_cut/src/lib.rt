@@ -11,6 +11,3 @@ mod line_kind;
 pub use delimiter::{Delimiter, next_delimiter};
 pub use laws::pieces_are_in_the_message;
 pub use line_kind::LineKind;
-
-#[cfg(test)]
-mod tests;

@@ -14,6 +14,3 @@ pub use field::{Field, FieldSpans, fields_stand, last_value};
 pub use folding::unfold;
 pub use head::{Head, fields};
 pub use scan::{is_line_end, split_line, text_len};
-
-#[cfg(test)]
-mod tests;

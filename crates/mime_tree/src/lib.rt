@@ -7,6 +7,3 @@ mod walk;
 
 pub use laws::{first_parts_are_kept, leaves_are_numbered_in_order};
 pub use walk::parts;
-
-#[cfg(test)]
-mod tests;

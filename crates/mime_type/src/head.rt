@@ -2,16 +2,18 @@
 ghost use Rattle.std.specs.Prelude.{◌≡◌, ◌≤◌, All, IfOk, length, option_map, slice_range, codes};
 ghost use Rattle.mime_lines.specs.Fields.{fields_of};
 ghost use Rattle.mime_lines.specs.FieldOffsets.{IsWithin};
-ghost use Rattle.mime_type.specs.Content.{charset_of, boundary_of, media_of, name_of, coding_of};
+ghost use Rattle.mime_type.specs.Content.{charset_of, boundary_of, media_of, name_of, coding_of, type_of, disposition_of};
 ghost use Rattle.mime_type.specs.PartTrees.{none};
 ghost use Rattle.mime_type.specs.Head;
 ghost use Rattle.mime_type.specs.Head.{head_at, kind_in, shown_in};
 ghost use Rattle.mime_type.specs.PartViews.{node_of};
+ghost use Rattle.mime_type.specs.Texts.{IsText};
+ghost use Rattle.mime_type.specs.Views.{kind_of};
 ghost use Rattle.mime_type.specs.Labels.{id_in, languages_in};
 ghost use Rattle.mail_text.specs.Texts.{trimmed};
 
 use crate::content::{read_boundary, read_charset, read_media, read_name, read_shown};
-use crate::kind::{read_disposition, read_type};
+use crate::kind::{Kind, read_disposition, read_type};
 use crate::labels::{read_coding, read_id, read_language, read_location};
 use crate::part::{Part, Parts};
 use jm_base::{NoMemory, Text, Texts};
@@ -48,6 +50,53 @@ struct Content {
     name: Option<Text>,
 }
 
+/// Reads what a type says of a part, of which its disposition and its name are known.
+fn content_of(
+    alloc: Global,
+    kind: Kind<'_>,
+    disposition: Option<Text>,
+    name: Option<Text>,
+) -> Result<Content, NoMemory>
+    requires { IsText (kind_of kind) }
+    ensures media { IfOk result (λ c. c.media ≡ media_of (kind_of kind.entry)) }
+    ensures charset { IfOk result (λ c. c.charset ≡ charset_of (kind_of kind.entry)) }
+    ensures boundary { IfOk result (λ c. c.boundary ≡ boundary_of (kind_of kind.entry)) }
+    ensures disposition { IfOk result (λ c. c.disposition ≡ disposition) }
+    ensures name { IfOk result (λ c. c.name ≡ name) }
+{
+    let boundary = read_boundary(alloc, &kind)?;
+    let charset = read_charset(alloc, &kind)?;
+    let media = read_media(alloc, kind, &boundary)?;
+    Ok(Content {
+        media,
+        charset,
+        boundary,
+        disposition,
+        name,
+    })
+}
+
+/// Reads the type and the disposition of a part from the texts of their fields.
+fn read_kinds(
+    alloc: Global,
+    kind_text: &Option<Text>,
+    shown_text: &Option<Text>,
+    digest: bool,
+) -> Result<Content, NoMemory>
+    ensures media { IfOk result (λ c. c.media ≡ media_of (type_of digest kind_text.now)) }
+    ensures charset { IfOk result (λ c. c.charset ≡ charset_of (type_of digest kind_text.now)) }
+    ensures boundary { IfOk result (λ c. c.boundary ≡ boundary_of (type_of digest kind_text.now)) }
+    ensures disposition { IfOk result (λ c. c.disposition
+        ≡ option_map (λ d. d.kind) (disposition_of shown_text.now)) }
+    ensures name { IfOk result (λ c. c.name ≡ name_of (disposition_of shown_text.now)
+        (type_of digest kind_text.now)) }
+{
+    let kind = read_type(alloc, kind_text, digest)?;
+    let shown = read_disposition(alloc, shown_text)?;
+    let name = read_name(alloc, &shown, &kind)?;
+    content_of(alloc, kind, read_shown(shown), name)
+}
+
 /// Reads Content-Type and Content-Disposition.
 fn read_content(
     alloc: Global,
@@ -67,16 +116,7 @@ fn read_content(
 {
     let kind_text = field_text(alloc, bytes, fields, b"content-type")?;
     let shown_text = field_text(alloc, bytes, fields, b"content-disposition")?;
-    let kind = read_type(alloc, &kind_text, digest)?;
-    let shown = read_disposition(alloc, &shown_text)?;
-    let boundary = read_boundary(alloc, &kind)?;
-    Ok(Content {
-        charset: read_charset(alloc, &kind)?,
-        name: read_name(alloc, &shown, &kind)?,
-        media: read_media(alloc, kind, &boundary)?,
-        boundary,
-        disposition: read_shown(shown),
-    })
+    read_kinds(alloc, &kind_text, &shown_text, digest)
 }
 
 /// What the other fields say of a part.
@@ -88,6 +128,46 @@ struct Labels {
     coding: Coding,
 }
 
+/// Reads Content-Id.
+fn id_of(alloc: Global, bytes: &[u8], fields: &FieldSpans) -> Result<Option<Text>, NoMemory>
+    requires within { All (IsWithin bytes.now) fields.now }
+    requires whole { fields.now ≡ fields_of bytes.now }
+    ensures { IfOk result (λ r. r ≡ option_map id_in (Head.field_text (codes "content-id") bytes.now)) }
+{
+    let text = field_text(alloc, bytes, fields, b"content-id")?;
+    read_id(alloc, &text)
+}
+
+/// Reads Content-Language.
+fn language_of(alloc: Global, bytes: &[u8], fields: &FieldSpans) -> Result<Option<Texts>, NoMemory>
+    requires within { All (IsWithin bytes.now) fields.now }
+    requires whole { fields.now ≡ fields_of bytes.now }
+    ensures { IfOk result (λ r. r ≡ option_map languages_in (Head.field_text (codes "content-language") bytes.now)) }
+{
+    let text = field_text(alloc, bytes, fields, b"content-language")?;
+    read_language(alloc, &text)
+}
+
+/// Reads Content-Location.
+fn location_of(alloc: Global, bytes: &[u8], fields: &FieldSpans) -> Result<Option<Text>, NoMemory>
+    requires within { All (IsWithin bytes.now) fields.now }
+    requires whole { fields.now ≡ fields_of bytes.now }
+    ensures { IfOk result (λ r. r ≡ option_map trimmed (Head.field_text (codes "content-location") bytes.now)) }
+{
+    let text = field_text(alloc, bytes, fields, b"content-location")?;
+    read_location(alloc, &text)
+}
+
+/// Reads Content-Transfer-Encoding.
+fn coding_at(alloc: Global, bytes: &[u8], fields: &FieldSpans) -> Result<Coding, NoMemory>
+    requires within { All (IsWithin bytes.now) fields.now }
+    requires whole { fields.now ≡ fields_of bytes.now }
+    ensures { IfOk result (λ r. r ≡ coding_of (Head.field_text (codes "content-transfer-encoding") bytes.now)) }
+{
+    let text = field_text(alloc, bytes, fields, b"content-transfer-encoding")?;
+    read_coding(alloc, &text)
+}
+
 /// Reads Content-Id, Content-Language, Content-Location and Content-Transfer-Encoding.
 fn read_labels(alloc: Global, bytes: &[u8], fields: &FieldSpans) -> Result<Labels, NoMemory>
     requires within { All (IsWithin bytes.now) fields.now }
@@ -97,15 +177,15 @@ fn read_labels(alloc: Global, bytes: &[u8], fields: &FieldSpans) -> Result<Label
     ensures location { IfOk result (λ l. l.location ≡ option_map trimmed (Head.field_text (codes "content-location") bytes.now)) }
     ensures coding { IfOk result (λ l. l.coding ≡ coding_of (Head.field_text (codes "content-transfer-encoding") bytes.now)) }
 {
-    let id = field_text(alloc, bytes, fields, b"content-id")?;
-    let language = field_text(alloc, bytes, fields, b"content-language")?;
-    let location = field_text(alloc, bytes, fields, b"content-location")?;
-    let coding = field_text(alloc, bytes, fields, b"content-transfer-encoding")?;
+    let cid = id_of(alloc, bytes, fields)?;
+    let language = language_of(alloc, bytes, fields)?;
+    let location = location_of(alloc, bytes, fields)?;
+    let coding = coding_at(alloc, bytes, fields)?;
     Ok(Labels {
-        cid: read_id(alloc, &id)?,
-        language: read_language(alloc, &language)?,
-        location: read_location(alloc, &location)?,
-        coding: read_coding(alloc, &coding)?,
+        cid,
+        language,
+        location,
+        coding,
     })
 }
 

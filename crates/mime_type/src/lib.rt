@@ -13,8 +13,6 @@ mod labels;
 mod laws;
 mod params;
 mod part;
-#[cfg(test)]
-mod tests;
 mod values;
 
 pub use head::part_head;

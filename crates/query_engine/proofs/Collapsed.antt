@@ -20,13 +20,13 @@ use Rattle.mail_records.specs.Tables.{IsTable, lookup}
 use Rattle.mail_records.specs.declared.records.Email.{Email}
 use Rattle.mail_records.proofs.KeyTables.{lookup_number}
 use Rattle.method_args.specs.Arguments.{passes}
-use Rattle.filter_terms.specs.Targets.{Seen, of_thread, seen_at, seen_in}
+use Rattle.filter_terms.specs.Targets.{EmailInThread, of_thread, email_in_thread_at, email_in_thread}
 use Rattle.filter_terms.specs.Texts.{MessageTexts}
 use Rattle.filter_terms.proofs.Lists.{In, any_found, any_here, found_in, in_found, in_kept, of_kept, same_tests}
 use Rattle.sort_terms.specs.Comparators.{emails_cmp}
 use Rattle.sort_terms.specs.Forms.{comparators_of}
 use Rattle.query_engine.specs.Laws.{CollapsingTakesOut}
-use Rattle.query_engine.specs.Queries.{beside, email_before, email_matches, is_hidden, order_of, result_list, shows, shows_email}
+use Rattle.query_engine.specs.Queries.{in_same_thread, email_before, email_matches, is_hidden, order_of, result_list, shows, shows_email}
 use Rattle.query_engine.specs.Threads.{first_of_threads, thread_of}
 use Rattle.query_engine.specs.Views.{QueryTree}
 use Rattle.query_engine.specs.Walks.{collapses, is_match, matches_list}
@@ -138,13 +138,13 @@ module _ (R : ℕ → ℕ → Ordering) (o : IsTotalOrder R) where
 
 -- ---- emails
 
-seen_number : (c : Content) (n : ℕ) (e : Email) → email_at c n ≡ Some e → seen_at c.emails n ≡ Some (seen_in c.emails e)
-seen_number c n e is = ap (option_map (seen_in c.emails)) is
+seen_number : (c : Content) (n : ℕ) (e : Email) → email_at c n ≡ Some e → email_in_thread_at c.emails n ≡ Some (email_in_thread c.emails e)
+seen_number c n e is = ap (option_map (email_in_thread c.emails)) is
 
 pub thread_number : (c : Content) (n : ℕ) (e : Email) → email_at c n ≡ Some e → thread_of c n ≡ e.thread
 thread_number c n e is = ap (λ (o : Option Email). unwrap_or (option_map (λ (x : Email). x.thread) o) 0) is
 
-found_of : {X : Type 0} (test : Seen → Bool) (f : X → Seen) (o : Option X) → passes test (option_map f o) ≡ true → (x : X) × (o ≡ Some x) × (test (f x) ≡ true)
+found_of : {X : Type 0} (test : EmailInThread → Bool) (f : X → EmailInThread) (o : Option X) → passes test (option_map f o) ≡ true → (x : X) × (o ≡ Some x) × (test (f x) ≡ true)
 found_of test f None e = absurd (true≢false (sym e))
 found_of test f (Some x) e = (x, refl, e)
 
@@ -166,27 +166,27 @@ module _ (filter_tree order : Tree) (collapse : Bool) (c : Content) (texts : ℕ
   th n = thread_of c n
 
   order_at : (y n : ℕ) (a b : Email) → email_at c y ≡ Some a → email_at c n ≡ Some b
-      → is_lt (R y n) ≡ email_before q (seen_in c.emails a) (seen_in c.emails b)
+      → is_lt (R y n) ≡ email_before q (email_in_thread c.emails a) (email_in_thread c.emails b)
   order_at y n a b ya nb =
       let cs = comparators_of OfEmails order in
-      let first : option_cmp (emails_cmp cs) (seen_at c.emails y) (seen_at c.emails n) ≡ emails_cmp cs (seen_in c.emails a) (seen_in c.emails b) =
+      let first : option_cmp (emails_cmp cs) (email_in_thread_at c.emails y) (email_in_thread_at c.emails n) ≡ emails_cmp cs (email_in_thread c.emails a) (email_in_thread c.emails b) =
       ap₂ (option_cmp (emails_cmp cs)) (seen_number c y a ya) (seen_number c n b nb) in
       let second : nat_cmp y n ≡ nat_cmp a.number b.number =
       ap₂ nat_cmp (sym (lookup_number email_number y c.emails a ya)) (sym (lookup_number email_number n c.emails b nb)) in
       ap₂ (λ r s. is_lt (ordering_then r s)) first second
 
-  matches_at : (n : ℕ) (e : Email) → email_at c n ≡ Some e → is_match q c texts n ≡ email_matches q texts (seen_in c.emails e)
+  matches_at : (n : ℕ) (e : Email) → email_at c n ≡ Some e → is_match q c texts n ≡ email_matches q texts (email_in_thread c.emails e)
   matches_at n e is = ap (passes (λ s. email_matches q texts s)) (seen_number c n e is)
 
-  same_seen : (e y : Email) → y.thread ≡ e.thread → seen_in c.emails y ≡ beside (seen_in c.emails e) y
+  same_seen : (e y : Email) → y.thread ≡ e.thread → email_in_thread c.emails y ≡ in_same_thread (email_in_thread c.emails e) y
   same_seen e y same = ap (λ t. record { email = y; thread = of_thread t c.emails }) same
 
-  hidden_is : (n : ℕ) (e : Email) → email_at c n ≡ Some e → is_hidden q texts (seen_in c.emails e) ≡ has_earlier R th (matches_list q c texts) n
+  hidden_is : (n : ℕ) (e : Email) → email_at c n ≡ Some e → is_hidden q texts (email_in_thread c.emails e) ≡ has_earlier R th (matches_list q c texts) n
   hidden_is n e there = same_tests _ _ to from
     where
-      to : is_hidden q texts (seen_in c.emails e) ≡ true → has_earlier R th (matches_list q c texts) n ≡ true
+      to : is_hidden q texts (email_in_thread c.emails e) ≡ true → has_earlier R th (matches_list q c texts) n ≡ true
       to h =
-          let w = any_found (λ y. email_matches q texts (beside (seen_in c.emails e) y) && email_before q (beside (seen_in c.emails e) y) (seen_in c.emails e)) (of_thread e.thread c.emails) h in
+          let w = any_found (λ y. email_matches q texts (in_same_thread (email_in_thread c.emails e) y) && email_before q (in_same_thread (email_in_thread c.emails e) y) (email_in_thread c.emails e)) (of_thread e.thread c.emails) h in
           let y : Email = w.0 in
           let both = and_parts _ _ w.2 in
           let own = of_kept (λ (x : Email). eqb x.thread e.thread) c.emails y w.1 in
@@ -195,23 +195,23 @@ module _ (filter_tree order : Tree) (collapse : Bool) (c : Content) (texts : ℕ
           let seen = same_seen e y same in
           let is : is_match q c texts y.number ≡ true = matches_at y.number y found ∙ (ap (email_matches q texts) seen ∙ both.0) in
           let among : In y.number (matches_list q c texts) = has_it (matches_list q c texts) y.number (matches_have q c texts y.number ∙ is) in
-          let before : is_lt (R y.number n) ≡ true = order_at y.number n y e found there ∙ (ap (λ s. email_before q s (seen_in c.emails e)) seen ∙ both.1) in
+          let before : is_lt (R y.number n) ≡ true = order_at y.number n y e found there ∙ (ap (λ s. email_before q s (email_in_thread c.emails e)) seen ∙ both.1) in
           let threads : eqb (th y.number) (th n) ≡ true = eq-eqb (th y.number) (th n) (thread_number c y.number y found ∙ (same ∙ sym (thread_number c n e there))) in
           any_here (λ x. eqb (th x) (th n) && is_lt (R x n)) (matches_list q c texts) y.number among (rw (threads, before) refl)
 
-      from : has_earlier R th (matches_list q c texts) n ≡ true → is_hidden q texts (seen_in c.emails e) ≡ true
+      from : has_earlier R th (matches_list q c texts) n ≡ true → is_hidden q texts (email_in_thread c.emails e) ≡ true
       from h =
           let w = any_found (λ x. eqb (th x) (th n) && is_lt (R x n)) (matches_list q c texts) h in
           let both = and_parts _ _ w.2 in
           let is : is_match q c texts w.0 ≡ true = sym (matches_have q c texts w.0) ∙ it_has (matches_list q c texts) w.0 w.1 in
-          let v = found_of (λ s. email_matches q texts s) (seen_in c.emails) (email_at c w.0) is in
+          let v = found_of (λ s. email_matches q texts s) (email_in_thread c.emails) (email_at c w.0) is in
           let y : Email = v.0 in
           let same : y.thread ≡ e.thread = sym (thread_number c w.0 y v.1) ∙ (eqb-true (th w.0) (th n) both.0 ∙ thread_number c n e there) in
           let seen = same_seen e y same in
-          let match : email_matches q texts (beside (seen_in c.emails e) y) ≡ true = ap (email_matches q texts) (sym seen) ∙ v.2 in
-          let before : email_before q (beside (seen_in c.emails e) y) (seen_in c.emails e) ≡ true =
-          ap (λ s. email_before q s (seen_in c.emails e)) (sym seen) ∙ (sym (order_at w.0 n y e v.1 there) ∙ both.1) in
-          any_here (λ x. email_matches q texts (beside (seen_in c.emails e) x) && email_before q (beside (seen_in c.emails e) x) (seen_in c.emails e)) (of_thread e.thread c.emails) y
+          let match : email_matches q texts (in_same_thread (email_in_thread c.emails e) y) ≡ true = ap (email_matches q texts) (sym seen) ∙ v.2 in
+          let before : email_before q (in_same_thread (email_in_thread c.emails e) y) (email_in_thread c.emails e) ≡ true =
+          ap (λ s. email_before q s (email_in_thread c.emails e)) (sym seen) ∙ (sym (order_at w.0 n y e v.1 there) ∙ both.1) in
+          any_here (λ x. email_matches q texts (in_same_thread (email_in_thread c.emails e) x) && email_before q (in_same_thread (email_in_thread c.emails e) x) (email_in_thread c.emails e)) (of_thread e.thread c.emails) y
           (in_kept (λ (x : Email). eqb x.thread e.thread) c.emails y (found_in email_number w.0 c.emails y v.1) (eq-eqb y.thread e.thread same)) (rw (match, before) refl)
 
   turned : (a b : Bool) → (a && b) ≡ (b && a)
@@ -222,12 +222,12 @@ module _ (filter_tree order : Tree) (collapse : Bool) (c : Content) (texts : ℕ
 
   -- with collapse, an email is shown that matches and has no earlier one of its thread
   shown_first : collapse ≡ true → (n : ℕ) (o : Option Email) → email_at c n ≡ o
-      → passes (λ s. shows_email q texts s) (option_map (seen_in c.emails) o) ≡ (not (has_earlier R th (matches_list q c texts) n) && passes (λ s. email_matches q texts s) (option_map (seen_in c.emails) o))
+      → passes (λ s. shows_email q texts s) (option_map (email_in_thread c.emails) o) ≡ (not (has_earlier R th (matches_list q c texts) n) && passes (λ s. email_matches q texts s) (option_map (email_in_thread c.emails) o))
   shown_first on n None is = sym (and_false (not (has_earlier R th (matches_list q c texts) n)))
   shown_first on n (Some e) is =
-      ap (λ b. email_matches q texts (seen_in c.emails e) && not (b && is_hidden q texts (seen_in c.emails e))) on
-      ∙ (ap (λ b. email_matches q texts (seen_in c.emails e) && not b) (hidden_is n e is)
-      ∙ turned (email_matches q texts (seen_in c.emails e)) (not (has_earlier R th (matches_list q c texts) n)))
+      ap (λ b. email_matches q texts (email_in_thread c.emails e) && not (b && is_hidden q texts (email_in_thread c.emails e))) on
+      ∙ (ap (λ b. email_matches q texts (email_in_thread c.emails e) && not b) (hidden_is n e is)
+      ∙ turned (email_matches q texts (email_in_thread c.emails e)) (not (has_earlier R th (matches_list q c texts) n)))
 
   collapsed : collapse ≡ true → first_of_threads c [] (matches_list q c texts) ≡ result_list q c texts
   collapsed on =
@@ -238,12 +238,12 @@ module _ (filter_tree order : Tree) (collapse : Bool) (c : Content) (texts : ℕ
       (λ n. has-filter keep all n ∙ (ap (λ b. keep n && b) (matches_have q c texts n) ∙ sym (shown_first on n (email_at c n) refl)))
 
   shown_all : collapse ≡ false → (o : Option Email)
-      → passes (λ s. email_matches q texts s) (option_map (seen_in c.emails) o) ≡ passes (λ s. shows_email q texts s) (option_map (seen_in c.emails) o)
+      → passes (λ s. email_matches q texts s) (option_map (email_in_thread c.emails) o) ≡ passes (λ s. shows_email q texts s) (option_map (email_in_thread c.emails) o)
   shown_all off None = refl
   shown_all off (Some e) =
       sym
-      (ap (λ b. email_matches q texts (seen_in c.emails e) && not (b && is_hidden q texts (seen_in c.emails e))) off
-      ∙ and_true (email_matches q texts (seen_in c.emails e)))
+      (ap (λ b. email_matches q texts (email_in_thread c.emails e) && not (b && is_hidden q texts (email_in_thread c.emails e))) off
+      ∙ and_true (email_matches q texts (email_in_thread c.emails e)))
 
   whole : collapse ≡ false → matches_list q c texts ≡ result_list q c texts
   whole off =

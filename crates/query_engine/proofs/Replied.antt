@@ -2,11 +2,12 @@
 use Rattle.std.proofs.Common.{◌≡◌, ℕ, zero, suc, ◌+◌, ◌<◌, ◌≤◌, ℤ, pos, negsuc, Bool, true, false, if◌then◌else◌, List, [], ◌∷◌, ◌++◌, take, drop, length, codes, Option, Some, None, refl, sym, ap, ap₂, subst, ◌∙◌, arith, IfSome}
 use Rattle.jm_base.specs.Ids.{state_text}
 use Rattle.jm_base.specs.declared.identifiers.Kind.{Kind}
-use Rattle.jm_json.specs.Tree.{Tree, boolean, number, text, list, trees_of}
+use Rattle.jm_json.specs.Tree.{Tree, boolean, text, list, trees_of}
+use Rattle.mail_counts.specs.Views.{count_tree}
 use Rattle.query_engine.specs.Replies.{Decides, plain_members, with_limit, with_total}
 use Rattle.query_engine.specs.Responses.{id_trees, limit_members, response_members, total_members}
 use Rattle.query_engine.specs.Walks.{at_most}
-use Rattle.query_engine.specs.Windows.{Window, part, from_position, greatest_count, limit_of, part_from, start_by, told_limit, window_at, window_of, window_within}
+use Rattle.query_engine.specs.Windows.{Window, part, from_position, greatest_count, limit_of, part_from, start_by, limit_in_response, window_at, window_of, window_within}
 use Rattle.query_engine.specs.declared.frame.Frame.{Frame}
 use Rattle.query_engine.specs.declared.frame.Shown.{Shown}
 
@@ -15,7 +16,7 @@ members_at : (kind : Kind) (account : List ℕ) (state : ℕ) (shown : Shown) (l
     ≡ ((codes "accountId", text account)
     ∷ (codes "canCalculateChanges", boolean true)
     ∷ (codes "ids", list (trees_of (id_trees kind shown.ids)))
-    ∷ (limit_members limit ++ (codes "position", number (pos shown.position)) ∷ (codes "queryState", text (state_text state)) ∷ total_members counted total))
+    ∷ (limit_members limit ++ (codes "position", count_tree shown.position) ∷ (codes "queryState", text (state_text state)) ∷ total_members counted total))
 members_at kind account state shown None false total = refl
 members_at kind account state shown None true total = refl
 members_at kind account state shown (Some limit) false total = refl
@@ -53,7 +54,7 @@ pub some_decide : (f : Frame) (position : ℕ) (limit : Option ℕ) → f.anchor
     → Decides f (Some (position + greatest_count limit))
 some_decide f position limit anchor start given kind numbers =
     by (take (position + greatest_count limit) numbers)
-    ∙ (ap (λ ids. part (record { position = position; ids = ids; limit = told_limit limit })) (drop_take position (greatest_count limit) numbers) ∙ sym (by numbers))
+    ∙ (ap (λ ids. part (record { position = position; ids = ids; limit = limit_in_response limit })) (drop_take position (greatest_count limit) numbers) ∙ sym (by numbers))
   where
     by : (ns : List ℕ) → window_of kind ns f ≡ part (part_from ns limit position)
     by ns =

@@ -19,7 +19,7 @@ use Rattle.mail_records.proofs.Rising.{has-put_all, rise-put_all}
 use Rattle.mail_records.proofs.Unique.{rise_unique}
 use Rattle.method_args.specs.Arguments.{passes}
 use Rattle.filter_terms.specs.Filters.{holds}
-use Rattle.filter_terms.specs.Targets.{AMailbox, AnEmail, seen_in}
+use Rattle.filter_terms.specs.Targets.{AMailbox, AnEmail, email_in_thread}
 use Rattle.filter_terms.specs.Texts.{MessageTexts}
 use Rattle.filter_terms.proofs.Lists.{any_same, same_tests}
 use Rattle.sort_terms.proofs.Total.{numbers_total, numbers_apart}
@@ -88,7 +88,7 @@ module _ (q : QueryTree) (c : Content) (texts : ℕ → MessageTexts) (n : ℕ) 
   shown_there : (kind : Kind) → (shows_of kind q c texts n && has (numbers_of kind c) n) ≡ shows_of kind q c texts n
   shown_there OfEmails =
       ap (λ b. shows_of OfEmails q c texts n && b) (has_numbers email_number c.emails n)
-      ∙ there_by (λ s. shows_email q texts s) (seen_in c.emails) (lookup email_number n c.emails)
+      ∙ there_by (λ s. shows_email q texts s) (email_in_thread c.emails) (lookup email_number n c.emails)
   shown_there OfMailboxes =
       ap (λ b. shows_of OfMailboxes q c texts n && b) (has_numbers mailbox_number c.mailboxes n)
       ∙ there (λ m. holds OfMailboxes (AMailbox m) q.filter) (lookup mailbox_number n c.mailboxes)
@@ -97,7 +97,7 @@ module _ (q : QueryTree) (c : Content) (texts : ℕ → MessageTexts) (n : ℕ) 
   match_there : (kind : Kind) → (is_match (record q { kind = kind }) c texts n && has (numbers_of kind c) n) ≡ is_match (record q { kind = kind }) c texts n
   match_there OfEmails =
       ap (λ b. is_match (record q { kind = OfEmails }) c texts n && b) (has_numbers email_number c.emails n)
-      ∙ there_by (λ s. holds OfEmails (AnEmail texts s) q.filter) (seen_in c.emails) (lookup email_number n c.emails)
+      ∙ there_by (λ s. holds OfEmails (AnEmail texts s) q.filter) (email_in_thread c.emails) (lookup email_number n c.emails)
   match_there OfMailboxes =
       ap (λ b. is_match (record q { kind = OfMailboxes }) c texts n && b) (has_numbers mailbox_number c.mailboxes n)
       ∙ there (λ m. holds OfMailboxes (AMailbox m) q.filter) (lookup mailbox_number n c.mailboxes)

@@ -15,16 +15,16 @@ use Rattle.mail_records.specs.OrderSteps.{put_in, put_all_in}
 use Rattle.mail_records.proofs.KeyTables.{nat_equal, then_first, then_second}
 use Rattle.mail_records.proofs.Rising.{all_back, all_front as all_first, has-put_all, rise-put_all}
 use Rattle.mail_records.proofs.Unique.{rise_unique}
-use Rattle.query_engine.specs.Walks.{IsRunStart, Row, RowsRise, falling, falling_cmp, rising_cmp}
+use Rattle.query_engine.specs.Walks.{IsRunStart, Row, RowsAscend, descending, descending_cmp, ascending_cmp}
 use Rattle.query_engine.proofs.Results.{eq_Equal}
 
-pub rising_total : IsTotalOrder rising_cmp
+pub rising_total : IsTotalOrder ascending_cmp
 rising_total = then_total (on_total (λ (r : Row). r.received) int_cmp_total) (on_total (λ (r : Row). r.number) nat_cmp_total)
 
-pub falling_total : IsTotalOrder falling_cmp
+pub falling_total : IsTotalOrder descending_cmp
 falling_total = then_total (back_total (on_total (λ (r : Row). r.received) int_cmp_total)) (on_total (λ (r : Row). r.number) nat_cmp_total)
 
-pub falling_one : (a b : Row) → is_eq (falling_cmp a b) ≡ true → a ≡ b
+pub falling_one : (a b : Row) → is_eq (descending_cmp a b) ≡ true → a ≡ b
 falling_one a b e =
     let time = sym ((signed_Decides b.received a.received).0 (then_first (int_cmp b.received a.received) (nat_cmp a.number b.number) e)) in
     let number = nat_equal a.number b.number (then_second (int_cmp b.received a.received) (nat_cmp a.number b.number) e) in
@@ -132,43 +132,43 @@ module _ {K : Type 0} (R : K → K → Ordering) where
 then_less : (r s : Ordering) → r ≡ Less → ordering_then r s ≡ Less
 then_less r s e = ap (λ o. ordering_then o s) e
 
-run_rises : (time : ℤ) (run : List Row) → AllByRecursion (λ (r : Row). r.received ≡ time) run → RowsRise run → IsStrictlySortedBy falling_cmp run
+run_rises : (time : ℤ) (run : List Row) → AllByRecursion (λ (r : Row). r.received ≡ time) run → RowsAscend run → IsStrictlySortedBy descending_cmp run
 unfolding IsStrictlySortedBy
 run_rises time [] all rise = tt
 run_rises time (r ∷ rs) all rise = (heads rs all.1 rise.0, run_rises time rs all.1 rise.1)
   where
-    heads : (ys : List Row) → AllByRecursion (λ (y : Row). y.received ≡ time) ys → AllByRecursion (λ y. rising_cmp r y ≡ Less) ys → AllByRecursion (λ y. falling_cmp r y ≡ Less) ys
+    heads : (ys : List Row) → AllByRecursion (λ (y : Row). y.received ≡ time) ys → AllByRecursion (λ y. ascending_cmp r y ≡ Less) ys → AllByRecursion (λ y. descending_cmp r y ≡ Less) ys
     heads [] a b = tt
     heads (y ∷ ys) a b =
         let same : int_cmp r.received y.received ≡ int_cmp y.received r.received = ap₂ int_cmp (all.0 ∙ sym a.0) (a.0 ∙ sym all.0) in
         (ap (λ o. ordering_then o (nat_cmp r.number y.number)) (sym same) ∙ b.0, heads ys a.1 b.1)
 
-sorted : (xs : List Row) → IsStrictlySortedBy falling_cmp (falling xs)
+sorted : (xs : List Row) → IsStrictlySortedBy descending_cmp (descending xs)
 unfolding IsStrictlySortedBy
 sorted xs = rise-put_all falling_total xs [] tt
 
-pub falling_step : (before run : List Row) (time : ℤ) → RowsRise (before ++ run) → AllByRecursion (λ (r : Row). int_cmp r.received time ≡ Less) before
-    → AllByRecursion (λ (r : Row). r.received ≡ time) run → falling (before ++ run) ≡ run ++ falling before
+pub falling_step : (before run : List Row) (time : ℤ) → RowsAscend (before ++ run) → AllByRecursion (λ (r : Row). int_cmp r.received time ≡ Less) before
+    → AllByRecursion (λ (r : Row). r.received ≡ time) run → descending (before ++ run) ≡ run ++ descending before
 falling_step before run time rise less same =
-    rise_unique falling_total falling_one (falling (before ++ run)) (run ++ falling before) (sorted (before ++ run))
-    (joined_rises falling_cmp run (falling before) (run_rises time run same (back_rises rising_cmp before run rise)) (sorted before) (all_over run same)) has
+    rise_unique falling_total falling_one (descending (before ++ run)) (run ++ descending before) (sorted (before ++ run))
+    (joined_rises descending_cmp run (descending before) (run_rises time run same (back_rises ascending_cmp before run rise)) (sorted before) (all_over run same)) has
   where
-    all_over : (rs : List Row) → AllByRecursion (λ (r : Row). r.received ≡ time) rs → AllByRecursion (λ x. AllByRecursion (λ y. falling_cmp x y ≡ Less) (falling before)) rs
+    all_over : (rs : List Row) → AllByRecursion (λ (r : Row). r.received ≡ time) rs → AllByRecursion (λ x. AllByRecursion (λ y. descending_cmp x y ≡ Less) (descending before)) rs
     all_over [] a = tt
     all_over (r ∷ rs) a = (
-      all_map (λ (y : Row). int_cmp y.received time ≡ Less) (λ y. falling_cmp r y ≡ Less)
-          (λ y l. then_less (int_cmp y.received r.received) (nat_cmp r.number y.number) (ap (int_cmp y.received) a.0 ∙ l)) (falling before)
-          (all_sorted falling_cmp (λ (y : Row). int_cmp y.received time ≡ Less) before less),
+      all_map (λ (y : Row). int_cmp y.received time ≡ Less) (λ y. descending_cmp r y ≡ Less)
+          (λ y l. then_less (int_cmp y.received r.received) (nat_cmp r.number y.number) (ap (int_cmp y.received) a.0 ∙ l)) (descending before)
+          (all_sorted descending_cmp (λ (y : Row). int_cmp y.received time ≡ Less) before less),
       all_over rs a.1,
     )
 
-    has : (k : Row) → has_by falling_cmp k (falling (before ++ run)) ≡ has_by falling_cmp k (run ++ falling before)
+    has : (k : Row) → has_by descending_cmp k (descending (before ++ run)) ≡ has_by descending_cmp k (run ++ descending before)
     has k =
-        let p : Row → Bool = λ x. is_eq (falling_cmp x k) in
-        any_sorted falling_cmp falling_one p (before ++ run)
+        let p : Row → Bool = λ x. is_eq (descending_cmp x k) in
+        any_sorted descending_cmp falling_one p (before ++ run)
         ∙ (any_append p before run
         ∙ (or_turned (list_any p before) (list_any p run)
-        ∙ (ap (λ b. list_any p run || b) (sym (any_sorted falling_cmp falling_one p before)) ∙ sym (any_append p run (falling before)))))
+        ∙ (ap (λ b. list_any p run || b) (sym (any_sorted descending_cmp falling_one p before)) ∙ sym (any_append p run (descending before)))))
 
 -- ---- the run of the last time
 
@@ -187,38 +187,38 @@ not_less a b s e h =
     greater_less : Greater ≡ Less → ⊥
     greater_less e = cc
 
-below_end : (xs : List Row) (n : Row) → RowsRise (xs ++ n ∷ []) → AllByRecursion (λ y. rising_cmp y n ≡ Less) xs
+below_end : (xs : List Row) (n : Row) → RowsAscend (xs ++ n ∷ []) → AllByRecursion (λ y. ascending_cmp y n ≡ Less) xs
 unfolding IsStrictlySortedBy
 below_end [] n rise = tt
 below_end (x ∷ xs) n rise = (at_end xs rise.0, below_end xs n rise.1)
   where
-    at_end : (ys : List Row) → AllByRecursion (λ y. rising_cmp x y ≡ Less) (ys ++ n ∷ []) → rising_cmp x n ≡ Less
+    at_end : (ys : List Row) → AllByRecursion (λ y. ascending_cmp x y ≡ Less) (ys ++ n ∷ []) → ascending_cmp x n ≡ Less
     at_end [] all = all.0
     at_end (y ∷ ys) all = at_end ys all.1
 
-same_times : (last : Row) (xs : List Row) → AllByRecursion (λ y. rising_cmp y last ≡ Less) xs → AllByRecursion (λ (r : Row). int_lt r.received last.received ≡ false) xs
+same_times : (last : Row) (xs : List Row) → AllByRecursion (λ y. ascending_cmp y last ≡ Less) xs → AllByRecursion (λ (r : Row). int_lt r.received last.received ≡ false) xs
     → AllByRecursion (λ (r : Row). r.received ≡ last.received) (xs ++ last ∷ [])
 same_times last [] a b = (refl, tt)
 same_times last (x ∷ xs) a b =
     ((signed_Decides x.received last.received).0 (ap is_eq (not_less x.received last.received (nat_cmp x.number last.number) b.0 a.0)), same_times last xs a.1 b.1)
 
-pub run_first : (others : List Row) (last : Row) (start : ℕ) → IsRunStart others start last.received → RowsRise (others ++ last ∷ [])
-    → falling (others ++ last ∷ []) ≡ (drop start others ++ last ∷ []) ++ falling (take start others)
+pub run_first : (others : List Row) (last : Row) (start : ℕ) → IsRunStart others start last.received → RowsAscend (others ++ last ∷ [])
+    → descending (others ++ last ∷ []) ≡ (drop start others ++ last ∷ []) ++ descending (take start others)
 run_first others last start is rise =
     let before = take start others in
     let run = drop start others ++ last ∷ [] in
     let whole : others ++ last ∷ [] ≡ before ++ run = ap (λ xs. xs ++ last ∷ []) (sym (take-append-drop start others)) ∙ append_assoc before (drop start others) (last ∷ []) in
-    let split : RowsRise (before ++ run) = subst RowsRise whole rise in
-    ap falling whole
+    let split : RowsAscend (before ++ run) = subst RowsAscend whole rise in
+    ap descending whole
     ∙ falling_step before run last.received split (all_map (λ (r : Row). int_lt r.received last.received ≡ true) (λ (r : Row). int_cmp r.received last.received ≡ Less) (λ r e. lt_Less r.received last.received e) before is.before)
-    (same_times last (drop start others) (below_end (drop start others) last (back_rises rising_cmp before run split)) is.from)
+    (same_times last (drop start others) (below_end (drop start others) last (back_rises ascending_cmp before run split)) is.from)
 
-pub start_rises : (others : List Row) (last : Row) (start : ℕ) → RowsRise (others ++ last ∷ []) → RowsRise (take start others)
+pub start_rises : (others : List Row) (last : Row) (start : ℕ) → RowsAscend (others ++ last ∷ []) → RowsAscend (take start others)
 start_rises others last start rise =
-    front_rises rising_cmp (take start others) (drop start others) (subst RowsRise (sym (take-append-drop start others)) (front_rises rising_cmp others (last ∷ []) rise))
+    front_rises ascending_cmp (take start others) (drop start others) (subst RowsAscend (sym (take-append-drop start others)) (front_rises ascending_cmp others (last ∷ []) rise))
 
 -- what is before a time is after nothing that is
-pub below_time : (time : ℤ) (x y : Row) → rising_cmp x y ≡ Less → int_lt y.received time ≡ true → int_lt x.received time ≡ true
+pub below_time : (time : ℤ) (x y : Row) → ascending_cmp x y ≡ Less → int_lt y.received time ≡ true → int_lt x.received time ≡ true
 below_time time x y less e = by (int_cmp x.received y.received) refl less
   where
     less_of : (a b : ℤ) → int_cmp a b ≡ Less → int_lt a b ≡ true

@@ -18,7 +18,7 @@ use Rattle.mail_records.specs.declared.records.Email.{Email}
 use Rattle.mail_records.specs.declared.records.Mailbox.{Mailbox}
 use Rattle.method_args.specs.Arguments.{passes}
 use Rattle.filter_terms.specs.Filters.{holds}
-use Rattle.filter_terms.specs.Targets.{AMailbox, AnEmail, seen_in}
+use Rattle.filter_terms.specs.Targets.{AMailbox, AnEmail, email_in_thread}
 use Rattle.filter_terms.specs.Texts.{MessageTexts}
 use Rattle.filter_terms.proofs.Lists.{In, in_found}
 use Rattle.query_engine.specs.Queries.{numbers_of, order_of, sorted_by}
@@ -88,9 +88,9 @@ pub matched_emails : (q : QueryTree) (c : Content) (texts : ℕ → MessageTexts
     → kept_emails q c texts c.emails ≡ filter (is_match q c texts) (numbers_of q.kind c)
 matched_emails q c texts table k =
     subst (λ kind. kept_emails (record q { kind = kind }) c texts c.emails ≡ filter (is_match (record q { kind = kind }) c texts) (numbers_of kind c)) (sym k)
-    (map_filter email_number (λ e. holds OfEmails (AnEmail texts (seen_in c.emails e)) q.filter) (is_match (record q { kind = OfEmails }) c texts) c.emails
-    (all_of_in (λ e. is_match (record q { kind = OfEmails }) c texts e.number ≡ holds OfEmails (AnEmail texts (seen_in c.emails e)) q.filter) c.emails
-    (λ e i. ap (λ o. passes (λ s. holds OfEmails (AnEmail texts s) q.filter) (option_map (seen_in c.emails) o)) (in_found email_number c.emails e table i))))
+    (map_filter email_number (λ e. holds OfEmails (AnEmail texts (email_in_thread c.emails e)) q.filter) (is_match (record q { kind = OfEmails }) c texts) c.emails
+    (all_of_in (λ e. is_match (record q { kind = OfEmails }) c texts e.number ≡ holds OfEmails (AnEmail texts (email_in_thread c.emails e)) q.filter) c.emails
+    (λ e i. ap (λ o. passes (λ s. holds OfEmails (AnEmail texts s) q.filter) (option_map (email_in_thread c.emails) o)) (in_found email_number c.emails e table i))))
 
 pub matched_mailboxes : (q : QueryTree) (c : Content) (texts : ℕ → MessageTexts) → IsTable mailbox_number c.mailboxes → q.kind ≡ OfMailboxes
     → kept_mailboxes q c.mailboxes ≡ filter (is_match q c texts) (numbers_of q.kind c)

@@ -24,7 +24,7 @@ use Rattle.mail_records.proofs.KeyTables.{lookup_number, nat_equal}
 use Rattle.mail_records.proofs.Unique.{key_equal}
 use Rattle.method_args.specs.Arguments.{passes}
 use Rattle.filter_terms.specs.Filters.{holds}
-use Rattle.filter_terms.specs.Targets.{AnEmail, Seen, seen_at, seen_in}
+use Rattle.filter_terms.specs.Targets.{AnEmail, EmailInThread, email_in_thread_at, email_in_thread}
 use Rattle.filter_terms.specs.Texts.{MessageTexts}
 use Rattle.filter_terms.proofs.Lists.{In, any_found, any_here, in_map, map_in, same_tests}
 use Rattle.sort_terms.specs.Comparators.{emails_cmp}
@@ -33,7 +33,7 @@ use Rattle.sort_terms.specs.declared.comparators.Comparator.{Comparator}
 use Rattle.sort_terms.specs.declared.properties.Property.TheVariants.{ReceivedAt}
 use Rattle.query_engine.specs.Queries.{order_of}
 use Rattle.query_engine.specs.Views.{QueryTree}
-use Rattle.query_engine.specs.Walks.{IsInMailbox, IsSortedByReceived, Row, RowsRise, directed_rows, falling, falling_cmp, is_match, matches_list, matching, numbers_in, rising_cmp, row_number}
+use Rattle.query_engine.specs.Walks.{IsInMailbox, IsSortedByReceived, Row, RowsAscend, directed_rows, descending, descending_cmp, is_match, matches_list, matching, numbers_in, ascending_cmp, row_number}
 use Rattle.query_engine.proofs.Results.{is_matches_list}
 use Rattle.query_engine.proofs.RowLists.{all_map, all_sorted, any_sorted, falling_one, falling_total}
 use Rattle.mail_records.proofs.Rising.{rise-put_all}
@@ -49,14 +49,14 @@ then_equal Equal = refl
 then_equal Greater = refl
 
 abbrev directed_cmp : Bool → Row → Row → Ordering
-directed_cmp true = rising_cmp
-directed_cmp false = falling_cmp
+directed_cmp true = ascending_cmp
+directed_cmp false = descending_cmp
 
 abbrev if_up : Bool → Ordering → Ordering → Ordering
 if_up true x y = x
 if_up false x y = y
 
-cmp_by : (asc : Bool) (word : List ℕ) (a b : Seen)
+cmp_by : (asc : Bool) (word : List ℕ) (a b : EmailInThread)
     → emails_cmp (record { property = ReceivedAt; ascending = asc; keyword = word } ∷ []) a b
     ≡ if_up asc (int_cmp a.email.received.seconds b.email.received.seconds) (int_cmp b.email.received.seconds a.email.received.seconds)
 cmp_by true word a b = then_equal (int_cmp a.email.received.seconds b.email.received.seconds)
@@ -74,30 +74,30 @@ and_implied : (a b : Bool) → (a ≡ true → b ≡ true) → (a && b) ≡ a
 and_implied true b f = f refl
 and_implied false b f = refl
 
-directed_rise : (asc : Bool) (rows : List Row) → RowsRise rows → IsStrictlySortedBy (directed_cmp asc) (directed_rows asc rows)
+directed_rise : (asc : Bool) (rows : List Row) → RowsAscend rows → IsStrictlySortedBy (directed_cmp asc) (directed_rows asc rows)
 unfolding IsStrictlySortedBy
 directed_rise true rows rise = rise
 directed_rise false rows rise = rise-put_all falling_total rows [] tt
 
 directed_stand : (c : Content) (asc : Bool) (rows : List Row) → AllByRecursion (Stands c) rows → AllByRecursion (Stands c) (directed_rows asc rows)
 directed_stand c true rows all = all
-directed_stand c false rows all = all_sorted falling_cmp (Stands c) rows all
+directed_stand c false rows all = all_sorted descending_cmp (Stands c) rows all
 
 directed_have : (asc : Bool) (rows : List Row) (n : ℕ) → has (numbers_in (directed_rows asc rows)) n ≡ has (numbers_in rows) n
 directed_have true rows n = refl
 directed_have false rows n =
-    any_map (λ m. eqb m n) row_number (falling rows)
-    ∙ (any_sorted falling_cmp falling_one (λ (r : Row). eqb r.number n) rows ∙ sym (any_map (λ m. eqb m n) row_number rows))
+    any_map (λ m. eqb m n) row_number (descending rows)
+    ∙ (any_sorted descending_cmp falling_one (λ (r : Row). eqb r.number n) rows ∙ sym (any_map (λ m. eqb m n) row_number rows))
 
 module _ (q : QueryTree) (c : Content) (k : q.kind ≡ OfEmails) (ascending : Bool) (by : IsSortedByReceived q.order ascending) where
   order_at : (a b : Row) → Stands c a → Stands c b → order_of q c a.number b.number ≡ directed_cmp ascending a b
   order_at a b x y =
-      let sa : Seen = seen_in c.emails x.0 in
-      let sb : Seen = seen_in c.emails y.0 in
+      let sa : EmailInThread = email_in_thread c.emails x.0 in
+      let sb : EmailInThread = email_in_thread c.emails y.0 in
       let numbers = nat_cmp a.number b.number in
       let cs = comparators_of OfEmails q.order in
-      let seen_a : seen_at c.emails a.number ≡ Some sa = ap (option_map (seen_in c.emails)) x.1 in
-      let seen_b : seen_at c.emails b.number ≡ Some sb = ap (option_map (seen_in c.emails)) y.1 in
+      let seen_a : email_in_thread_at c.emails a.number ≡ Some sa = ap (option_map (email_in_thread c.emails)) x.1 in
+      let seen_b : email_in_thread_at c.emails b.number ≡ Some sb = ap (option_map (email_in_thread c.emails)) y.1 in
       ap (λ kind. order_of (record q { kind = kind }) c a.number b.number) k
       ∙ (ap₂ (λ s t. ordering_then (option_cmp (emails_cmp cs) s t) numbers) seen_a seen_b
       ∙ (ap (λ o. ordering_then o numbers) (ap (λ (ds : List Comparator). emails_cmp ds sa sb) by.order ∙ cmp_by ascending by.keyword sa sb)
@@ -113,7 +113,7 @@ module _ (q : QueryTree) (c : Content) (k : q.kind ≡ OfEmails) (ascending : Bo
       heads (y ∷ ys) a b = (order_at r y all.0 a.0 ∙ b.0, heads ys a.1 b.1)
 
   -- rows that stand for emails, all that match among them
-  pub walked : (texts : ℕ → MessageTexts) (rows : List Row) → AllByRecursion (Stands c) rows → RowsRise rows
+  pub walked : (texts : ℕ → MessageTexts) (rows : List Row) → AllByRecursion (Stands c) rows → RowsAscend rows
       → ((n : ℕ) → is_match q c texts n ≡ true → has (numbers_in rows) n ≡ true)
       → matching q c texts (directed_rows ascending rows) ≡ matches_list q c texts
   walked texts rows stand rise complete =
@@ -129,7 +129,7 @@ module _ (q : QueryTree) (c : Content) (k : q.kind ≡ OfEmails) (ascending : Bo
 abbrev key_at : Option ℕ → Row → Key
 key_at g r = record { group = g; text = []; received = r.received; number = r.number; place = 0 }
 
-key_rows : (g : Option ℕ) (a b : Row) → key_cmp (key_at g a) (key_at g b) ≡ rising_cmp a b
+key_rows : (g : Option ℕ) (a b : Row) → key_cmp (key_at g a) (key_at g b) ≡ ascending_cmp a b
 key_rows g a b =
     ap (λ r. ordering_then r (ordering_then (int_cmp a.received b.received) (ordering_then (nat_cmp a.number b.number) Equal))) (tied_itself (options_total nat_cmp_total) g)
     ∙ ap (ordering_then (int_cmp a.received b.received)) (then_equal (nat_cmp a.number b.number))
@@ -161,16 +161,16 @@ module _ (c : Content) {E : Type 0} (kf : E → Key) (rf : E → Row) (g : Optio
   pub entries_stand : AllByRecursion (Stands c) (map rf es)
   entries_stand = all_mapped (Stands c) rf es (all_of_in (λ x. Stands c (rf x)) es stands)
 
-  rise_by : (xs : List E) → AllByRecursion (λ x. kf x ≡ key_at g (rf x)) xs → KeysRise (map kf xs) → RowsRise (map rf xs)
+  rise_by : (xs : List E) → AllByRecursion (λ x. kf x ≡ key_at g (rf x)) xs → KeysRise (map kf xs) → RowsAscend (map rf xs)
   unfolding IsStrictlySortedBy
   rise_by [] all rise = tt
   rise_by (x ∷ xs) all rise = (heads xs all.1 rise.0, rise_by xs all.1 rise.1)
     where
-      heads : (ys : List E) → AllByRecursion (λ y. kf y ≡ key_at g (rf y)) ys → AllByRecursion (λ k. key_cmp (kf x) k ≡ Less) (map kf ys) → AllByRecursion (λ r. rising_cmp (rf x) r ≡ Less) (map rf ys)
+      heads : (ys : List E) → AllByRecursion (λ y. kf y ≡ key_at g (rf y)) ys → AllByRecursion (λ k. key_cmp (kf x) k ≡ Less) (map kf ys) → AllByRecursion (λ r. ascending_cmp (rf x) r ≡ Less) (map rf ys)
       heads [] a b = tt
       heads (y ∷ ys) a b = (sym (ap₂ key_cmp all.0 a.0 ∙ key_rows g (rf x) (rf y)) ∙ b.0, heads ys a.1 b.1)
 
-  pub entries_rise : RowsRise (map rf es)
+  pub entries_rise : RowsAscend (map rf es)
   entries_rise = rise_by es (all_of_in (λ x. kf x ≡ key_at g (rf x)) es (λ x i. grouped x (held x i).0)) are.rise
 
   -- an email with a key that passes has an entry
@@ -185,15 +185,15 @@ module _ (c : Content) {E : Type 0} (kf : E → Key) (rf : E → Row) (g : Optio
       any_here (λ m. eqb m n) (numbers_in (map rf es)) (rf from.0).number (map_in row_number (map rf es) (rf from.0) (map_in rf es from.0 from.1)) (eq-eqb (rf from.0).number n is)
 
 matched_email : (q : QueryTree) (c : Content) (texts : ℕ → MessageTexts) (n : ℕ) → q.kind ≡ OfEmails → is_match q c texts n ≡ true
-    → (e : Email) × (email_at c n ≡ Some e) × (holds OfEmails (AnEmail texts (seen_in c.emails e)) q.filter ≡ true)
+    → (e : Email) × (email_at c n ≡ Some e) × (holds OfEmails (AnEmail texts (email_in_thread c.emails e)) q.filter ≡ true)
 matched_email q c texts n k m = by (email_at c n) refl
   where
-    now : passes (λ s. holds OfEmails (AnEmail texts s) q.filter) (seen_at c.emails n) ≡ true
+    now : passes (λ s. holds OfEmails (AnEmail texts s) q.filter) (email_in_thread_at c.emails n) ≡ true
     now = ap (λ kind. is_match (record q { kind = kind }) c texts n) (sym k) ∙ m
 
-    by : (o : Option Email) → email_at c n ≡ o → (e : Email) × (email_at c n ≡ Some e) × (holds OfEmails (AnEmail texts (seen_in c.emails e)) q.filter ≡ true)
-    by None is = absurd (true≢false (sym now ∙ ap (λ o. passes (λ s. holds OfEmails (AnEmail texts s) q.filter) (option_map (seen_in c.emails) o)) is))
-    by (Some e) is = (e, is, sym (ap (λ o. passes (λ s. holds OfEmails (AnEmail texts s) q.filter) (option_map (seen_in c.emails) o)) is) ∙ now)
+    by : (o : Option Email) → email_at c n ≡ o → (e : Email) × (email_at c n ≡ Some e) × (holds OfEmails (AnEmail texts (email_in_thread c.emails e)) q.filter ≡ true)
+    by None is = absurd (true≢false (sym now ∙ ap (λ o. passes (λ s. holds OfEmails (AnEmail texts s) q.filter) (option_map (email_in_thread c.emails) o)) is))
+    by (Some e) is = (e, is, sym (ap (λ o. passes (λ s. holds OfEmails (AnEmail texts s) q.filter) (option_map (email_in_thread c.emails) o)) is) ∙ now)
 
 only_key : (a k : Key) → has_key k (a ∷ []) ≡ true → a ≡ k
 only_key a k h = ⊎_elim (λ (e : is_eq (key_cmp a k) ≡ true). key_equal a k e) (λ (e : false ≡ true). absurd (true≢false (sym e))) (or_cases (is_eq (key_cmp a k)) false h)
@@ -213,7 +213,7 @@ module _ (q : QueryTree) (c : Content) (k : q.kind ≡ OfEmails) (ascending : Bo
   own_d : (e : Email) (x : Key) → has_key x (received_keys e) ≡ true → e.received.seconds ≡ x.received
   own_d e x h = ap (λ (y : Key). y.received) (only_key (received_key e) x h)
 
-  pub dated_rise : RowsRise (map dated_row ds)
+  pub dated_rise : RowsAscend (map dated_row ds)
   dated_rise = entries_rise c kd dated_row None (λ x. true) received_keys ds are (λ x. refl) (λ x. refl) (λ x e. refl) own_d
 
   pub dated_walked : (texts : ℕ → MessageTexts) → matching q c texts (directed_rows ascending (map dated_row ds)) ≡ matches_list q c texts
@@ -246,14 +246,14 @@ module _ (q : QueryTree) (c : Content) (k : q.kind ≡ OfEmails) (ascending : Bo
       let group : x.mailbox ≡ mailbox = nat_equal x.mailbox mailbox e in
       ap (λ m. record { group = Some m; text = []; received = x.received; number = x.email; place = 0 }) group
 
-  pub placed_rise : RowsRise (map placed_row ps)
+  pub placed_rise : RowsAscend (map placed_row ps)
   placed_rise = entries_rise c kp placed_row (Some mailbox) in_it mailbox_keys ps are (λ x. refl) (λ x. refl) grouped_p own_p
 
   pub placed_walked : (texts : ℕ → MessageTexts) → matching q c texts (directed_rows ascending (map placed_row ps)) ≡ matches_list q c texts
   placed_walked texts =
       walked q c k ascending by texts (map placed_row ps) (entries_stand c kp placed_row (Some mailbox) in_it mailbox_keys ps are (λ x. refl) (λ x. refl) grouped_p own_p) placed_rise
       (λ n m. let w = matched_email q c texts n k m in
-      let inside = any_found (λ y. eqb y mailbox) (w.0).mailboxes (within texts (seen_in c.emails w.0) w.2) in
+      let inside = any_found (λ y. eqb y mailbox) (w.0).mailboxes (within texts (email_in_thread c.emails w.0) w.2) in
       let key : Key = placed_key_of w.0 inside.0 in
       entry_there c kp placed_row (Some mailbox) in_it mailbox_keys ps are (λ x. refl) (λ x. refl) grouped_p own_p n w.0 key w.1
       (subst (λ y. is_eq (option_cmp nat_cmp (Some inside.0) (Some y)) ≡ true) (eqb-true inside.0 mailbox inside.2) (ap is_eq (tied_itself nat_cmp_total inside.0)))
@@ -263,10 +263,10 @@ module _ (q : QueryTree) (c : Content) (k : q.kind ≡ OfEmails) (ascending : Bo
 -- ---- one email
 
 pub visited : (q : QueryTree) (c : Content) (texts : ℕ → MessageTexts) (n : ℕ) (e : Email) → email_at c n ≡ Some e → q.kind ≡ OfEmails
-    → (if holds q.kind (AnEmail texts (seen_in c.emails e)) q.filter then e.number ∷ [] else []) ≡ (if is_match q c texts n then n ∷ [] else [])
+    → (if holds q.kind (AnEmail texts (email_in_thread c.emails e)) q.filter then e.number ∷ [] else []) ≡ (if is_match q c texts n then n ∷ [] else [])
 visited q c texts n e is k =
     subst
-    (λ kind. (if holds kind (AnEmail texts (seen_in c.emails e)) q.filter then e.number ∷ [] else []) ≡ (if is_match (record q { kind = kind }) c texts n then n ∷ [] else []))
+    (λ kind. (if holds kind (AnEmail texts (email_in_thread c.emails e)) q.filter then e.number ∷ [] else []) ≡ (if is_match (record q { kind = kind }) c texts n then n ∷ [] else []))
     (sym k)
-    (ap₂ (λ (b : Bool) (m : ℕ). if b then m ∷ [] else []) (sym (ap (λ o. passes (λ s. holds OfEmails (AnEmail texts s) q.filter) (option_map (seen_in c.emails) o)) is))
+    (ap₂ (λ (b : Bool) (m : ℕ). if b then m ∷ [] else []) (sym (ap (λ o. passes (λ s. holds OfEmails (AnEmail texts s) q.filter) (option_map (email_in_thread c.emails) o)) is))
     (lookup_number email_number n c.emails e is))

@@ -6,7 +6,7 @@ use Rattle.std.proofs.lemmas.List.Elements.{filter-append}
 use Rattle.mail_records.specs.Contents.{Content}
 use Rattle.filter_terms.specs.Texts.{MessageTexts}
 use Rattle.query_engine.specs.Views.{QueryTree}
-use Rattle.query_engine.specs.Walks.{Follows, IsRunStart, Row, RowsRise, falling, goes_on, is_full, is_match, matching, numbers_in, rising_cmp, row_number}
+use Rattle.query_engine.specs.Walks.{Follows, IsRunStart, Row, RowsAscend, descending, goes_on, is_full, is_match, matching, numbers_in, ascending_cmp, row_number}
 use Rattle.query_engine.specs.declared.page.Page.{Page}
 use Rattle.query_engine.proofs.Pages.{stays}
 use Rattle.query_engine.proofs.RowLists.{front_rises, run_first, start_rises}
@@ -37,14 +37,14 @@ module _ (q : QueryTree) (c : Content) (texts : ℕ → MessageTexts) where
       ∙ (ap (goes_on c p) (sym (append_assoc (one_match r.number) (matching q c texts rs) rest) ∙ ap (λ ns. ns ++ rest) (sym (first_matches r rs))) ∙ so rest)
 
   -- the rows of the last time are visited
-  pub falling_on : (first p next : Page) (whole : List ℕ) (others : List Row) (last : Row) (start : ℕ) → IsRunStart others start last.received → RowsRise (others ++ last ∷ [])
-      → ((rest : List ℕ) → goes_on c p (matching q c texts (falling (others ++ last ∷ [])) ++ rest) ≡ goes_on c first (whole ++ rest))
+  pub falling_on : (first p next : Page) (whole : List ℕ) (others : List Row) (last : Row) (start : ℕ) → IsRunStart others start last.received → RowsAscend (others ++ last ∷ [])
+      → ((rest : List ℕ) → goes_on c p (matching q c texts (descending (others ++ last ∷ [])) ++ rest) ≡ goes_on c first (whole ++ rest))
       → Follows c p next (matching q c texts (drop start others ++ last ∷ []))
-      → (rest : List ℕ) → goes_on c next (matching q c texts (falling (take start others)) ++ rest) ≡ goes_on c first (whole ++ rest)
+      → (rest : List ℕ) → goes_on c next (matching q c texts (descending (take start others)) ++ rest) ≡ goes_on c first (whole ++ rest)
   falling_on first p next whole others last start is rise so follows rest =
       let run = drop start others ++ last ∷ [] in
-      let left = falling (take start others) in
-      let order : matching q c texts run ++ (matching q c texts left ++ rest) ≡ matching q c texts (falling (others ++ last ∷ [])) ++ rest =
+      let left = descending (take start others) in
+      let order : matching q c texts run ++ (matching q c texts left ++ rest) ≡ matching q c texts (descending (others ++ last ∷ [])) ++ rest =
       sym (append_assoc (matching q c texts run) (matching q c texts left) rest)
       ∙ ap (λ ns. ns ++ rest) (sym (ap (matching q c texts) (run_first others last start is rise) ∙ matching-append run left)) in
       follows (matching q c texts left ++ rest) ∙ (ap (goes_on c p) order ∙ so rest)
@@ -56,12 +56,12 @@ full_on c first p whole left full so rest = stays p full c left rest ∙ so rest
 
 -- ---- entries with a row each
 
-module _ {E : Type 0} (f : E → Row) (left others : List E) (last : E) (is : left ≡ others ++ last ∷ []) (rise : RowsRise (map f left)) where
+module _ {E : Type 0} (f : E → Row) (left others : List E) (last : E) (is : left ≡ others ++ last ∷ []) (rise : RowsAscend (map f left)) where
   rows_are : map f left ≡ map f others ++ f last ∷ []
   rows_are = ap (map f) is ∙ map-append f others (last ∷ [])
 
-  pub others_rise : RowsRise (map f others)
-  others_rise = front_rises rising_cmp (map f others) (f last ∷ []) (subst RowsRise rows_are rise)
+  pub others_rise : RowsAscend (map f others)
+  others_rise = front_rises ascending_cmp (map f others) (f last ∷ []) (subst RowsAscend rows_are rise)
 
   module _ (start : ℕ) (begins : IsRunStart (map f others) start (f last).received) where
     within : start ≤ length others
@@ -84,16 +84,16 @@ module _ {E : Type 0} (f : E → Row) (left others : List E) (last : E) (is : le
         ap (map f) (second ∙ (ap (drop start) is ∙ drop-append-le start others (last ∷ []) within))
         ∙ (map-append f (drop start others) (last ∷ []) ∙ ap (λ xs. xs ++ f last ∷ []) (sym (drop-map f start others)))
 
-    pub before_rise : (before : List E) → before ≡ take start left → RowsRise (map f before)
-    before_rise before first = subst RowsRise (sym (before_rows before first)) (start_rises (map f others) (f last) start (subst RowsRise rows_are rise))
+    pub before_rise : (before : List E) → before ≡ take start left → RowsAscend (map f before)
+    before_rise before first = subst RowsAscend (sym (before_rows before first)) (start_rises (map f others) (f last) start (subst RowsAscend rows_are rise))
 
     -- the entries of the last time are visited
     pub before_on : (q : QueryTree) (c : Content) (texts : ℕ → MessageTexts) (first p next : Page) (whole : List ℕ) (before run : List E) → before ≡ take start left → run ≡ drop start left
-        → ((rest : List ℕ) → goes_on c p (matching q c texts (falling (map f left)) ++ rest) ≡ goes_on c first (whole ++ rest))
+        → ((rest : List ℕ) → goes_on c p (matching q c texts (descending (map f left)) ++ rest) ≡ goes_on c first (whole ++ rest))
         → Follows c p next (matching q c texts (map f run))
-        → (rest : List ℕ) → goes_on c next (matching q c texts (falling (map f before)) ++ rest) ≡ goes_on c first (whole ++ rest)
+        → (rest : List ℕ) → goes_on c next (matching q c texts (descending (map f before)) ++ rest) ≡ goes_on c first (whole ++ rest)
     before_on q c texts first p next whole before run one two so follows =
-        subst (λ (rows : List Row). (rest : List ℕ) → goes_on c next (matching q c texts (falling rows) ++ rest) ≡ goes_on c first (whole ++ rest)) (sym (before_rows before one))
-        (falling_on q c texts first p next whole (map f others) (f last) start begins (subst RowsRise rows_are rise)
-        (subst (λ (rows : List Row). (rest : List ℕ) → goes_on c p (matching q c texts (falling rows) ++ rest) ≡ goes_on c first (whole ++ rest)) rows_are so)
+        subst (λ (rows : List Row). (rest : List ℕ) → goes_on c next (matching q c texts (descending rows) ++ rest) ≡ goes_on c first (whole ++ rest)) (sym (before_rows before one))
+        (falling_on q c texts first p next whole (map f others) (f last) start begins (subst RowsAscend rows_are rise)
+        (subst (λ (rows : List Row). (rest : List ℕ) → goes_on c p (matching q c texts (descending rows) ++ rest) ≡ goes_on c first (whole ++ rest)) rows_are so)
         (subst (λ (rows : List Row). Follows c p next (matching q c texts rows)) (run_rows run two) follows))

@@ -11,9 +11,9 @@ use Rattle.jm_json.specs.Tree.{Tree, null, boolean, number, text, list, object, 
 use Rattle.mail_counts.specs.Counts.{is_in}
 use Rattle.method_args.specs.Arguments.{passes, text_in}
 use Rattle.filter_terms.specs.EmailTerms.{is_in_mailbox, is_mailbox_id}
-use Rattle.filter_terms.specs.Filters.{by_operator, conditions_say, holds, items_say, joined, if_joined, list_says, member_holds, members_hold}
+use Rattle.filter_terms.specs.Filters.{by_operator, conditions_match, holds, items_match, joined, if_joined, list_matches, member_holds, members_hold}
 use Rattle.filter_terms.specs.Names.{operator_named, operator_of}
-use Rattle.filter_terms.specs.Targets.{AnEmail, Seen, Target}
+use Rattle.filter_terms.specs.Targets.{AnEmail, EmailInThread, Target}
 use Rattle.filter_terms.specs.Texts.{MessageTexts}
 use Rattle.filter_terms.specs.declared.terms.Operator.TheVariants.{And}
 use Rattle.filter_terms.proofs.Lists.{any_same}
@@ -48,15 +48,15 @@ member_says x (field k s fs) name t h e =
     (λ (b : bytes_eq k name ≡ false). member_says x fs name t both.1 (sym (ap (λ c. cond c (Some s) (find name (pairs_of fs))) b) ∙ e))
     (cases_Bool (bytes_eq k name))
 
-conditions_found : (x : Target) (fs : Fields) (t : Tree) → find (codes "conditions") (pairs_of fs) ≡ Some t → conditions_say OfEmails x fs ≡ list_says OfEmails x t
+conditions_found : (x : Target) (fs : Fields) (t : Tree) → find (codes "conditions") (pairs_of fs) ≡ Some t → conditions_match OfEmails x fs ≡ list_matches OfEmails x t
 conditions_found x no_fields t e = absurd (never_some t e)
 conditions_found x (field k s fs) t e =
     ⊎_elim
     (λ (b : bytes_eq k (codes "conditions") ≡ true).
     let value : s ≡ t = some_same s t (sym (ap (λ c. cond c (Some s) (find (codes "conditions") (pairs_of fs))) b) ∙ e) in
-    ap (λ c. cond c (list_says OfEmails x s) (conditions_say OfEmails x fs)) b ∙ ap (list_says OfEmails x) value)
+    ap (λ c. cond c (list_matches OfEmails x s) (conditions_match OfEmails x fs)) b ∙ ap (list_matches OfEmails x) value)
     (λ (b : bytes_eq k (codes "conditions") ≡ false).
-    ap (λ c. cond c (list_says OfEmails x s) (conditions_say OfEmails x fs)) b
+    ap (λ c. cond c (list_matches OfEmails x s) (conditions_match OfEmails x fs)) b
     ∙ conditions_found x fs t (sym (ap (λ c. cond c (Some s) (find (codes "conditions") (pairs_of fs))) b) ∙ e))
     (cases_Bool (bytes_eq k (codes "conditions")))
 
@@ -82,7 +82,7 @@ named_in : (fs : Fields) (mailbox : ℕ) → NamesMailbox (pairs_of fs) mailbox 
 named_in fs mailbox names texts s h =
     let x : Target = AnEmail texts s in
     let all : members_hold OfEmails x fs ≡ true =
-    sym (ap (λ o. by_operator o (conditions_say OfEmails x fs) (members_hold OfEmails x fs)) names.condition) ∙ h in
+    sym (ap (λ o. by_operator o (conditions_match OfEmails x fs) (members_hold OfEmails x fs)) names.condition) ∙ h in
     let value = and_then_some as_text (find (codes "inMailbox") (pairs_of fs)) names.id names.named in
     let says : passes (λ id. is_in_mailbox id s.email) (as_text value.0) ≡ true = member_says x fs (codes "inMailbox") value.0 all value.1 in
     let inside : is_in_mailbox names.id s.email ≡ true = sym (ap (passes (λ id. is_in_mailbox id s.email)) value.2) ∙ says in
@@ -93,10 +93,10 @@ within_condition t ms mailbox e names =
     let w = object_of t ms e in
     subst (λ u. IsInMailbox u mailbox) (sym w.1) (named_in w.0 mailbox (subst (λ ps. NamesMailbox ps mailbox) (sym w.2) names))
 
-one_says : (texts : ℕ → MessageTexts) (s : Seen) (us : Trees) (mailbox : ℕ) → IsAmong mailbox (list_of us) → list_all (λ b. b) (items_say OfEmails (AnEmail texts s) us) ≡ true → is_in mailbox s.email ≡ true
+one_says : (texts : ℕ → MessageTexts) (s : EmailInThread) (us : Trees) (mailbox : ℕ) → IsAmong mailbox (list_of us) → list_all (λ b. b) (items_match OfEmails (AnEmail texts s) us) ≡ true → is_in mailbox s.email ≡ true
 one_says texts s no_trees mailbox i h = absurd i
-one_says texts s (tree t us) mailbox (inl f) h = f texts s (and_parts (holds OfEmails (AnEmail texts s) t) (list_all (λ b. b) (items_say OfEmails (AnEmail texts s) us)) h).0
-one_says texts s (tree t us) mailbox (inr i) h = one_says texts s us mailbox i (and_parts (holds OfEmails (AnEmail texts s) t) (list_all (λ b. b) (items_say OfEmails (AnEmail texts s) us)) h).1
+one_says texts s (tree t us) mailbox (inl f) h = f texts s (and_parts (holds OfEmails (AnEmail texts s) t) (list_all (λ b. b) (items_match OfEmails (AnEmail texts s) us)) h).0
+one_says texts s (tree t us) mailbox (inr i) h = one_says texts s us mailbox i (and_parts (holds OfEmails (AnEmail texts s) t) (list_all (λ b. b) (items_match OfEmails (AnEmail texts s) us)) h).1
 
 passes_some : (p : List ℕ → Bool) (o : Option (List ℕ)) → passes p o ≡ true → (x : List ℕ) × (o ≡ Some x) × (p x ≡ true)
 passes_some p None e = absurd (true≢false (sym e))
@@ -113,11 +113,11 @@ joined_in fs mailbox and joins texts s h =
     let name : as_text op.0 ≡ Some (codes "AND") = op.2 ∙ ap Some ((bytes_eq-Decides word.0 (codes "AND")).0 word.2) in
     let is : operator_of op.0 ≡ Some And = named_and op.0 name in
     let lists = list_in joins.conditions joins.filters joins.listed in
-    let says : conditions_say OfEmails x fs ≡ items_say OfEmails x lists.0 = conditions_found x fs joins.conditions joins.found ∙ ap (list_says OfEmails x) lists.1 in
-    let all : list_all (λ b. b) (items_say OfEmails x lists.0) ≡ true =
+    let says : conditions_match OfEmails x fs ≡ items_match OfEmails x lists.0 = conditions_found x fs joins.conditions joins.found ∙ ap (list_matches OfEmails x) lists.1 in
+    let all : list_all (λ b. b) (items_match OfEmails x lists.0) ≡ true =
     sym
-    (ap (λ o. by_operator o (conditions_say OfEmails x fs) (members_hold OfEmails x fs)) op.1
-    ∙ (ap (λ o. if_joined o (conditions_say OfEmails x fs)) is ∙ ap (joined And) says))
+    (ap (λ o. by_operator o (conditions_match OfEmails x fs) (members_hold OfEmails x fs)) op.1
+    ∙ (ap (λ o. if_joined o (conditions_match OfEmails x fs)) is ∙ ap (joined And) says))
     ∙ h in
     one_says texts s lists.0 mailbox (subst (IsAmong mailbox) (sym lists.2) joins.among) all
 

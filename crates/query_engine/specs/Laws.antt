@@ -3,7 +3,7 @@ use Rattle.std.specs.Prelude.{◌≡◌, ℕ, true, false, List, []}
 use Rattle.jm_base.specs.declared.identifiers.Kind.TheVariants.{Mailbox as OfMailboxes, Email as OfEmails}
 use Rattle.mail_records.specs.Contents.{Content, email_number, mailbox_at}
 use Rattle.mail_records.specs.Tables.{IsTable}
-use Rattle.filter_terms.specs.Laws.{SameSeen}
+use Rattle.filter_terms.specs.Laws.{SameEmailInThread}
 use Rattle.filter_terms.specs.Texts.{MessageTexts}
 use Rattle.query_engine.specs.Queries.{IsResult, is_wide, result_list, shows}
 use Rattle.query_engine.specs.Threads.{first_of_threads}
@@ -30,7 +30,7 @@ CollapsingTakesOut =
 abbrev pub EmailsDecide : Type 0
 EmailsDecide =
     (q : QueryTree) (c d : Content) (texts : ℕ → MessageTexts) (n : ℕ) → q.kind ≡ OfEmails
-    → SameSeen (is_wide q) c d n → shows q c texts n ≡ shows q d texts n
+    → SameEmailInThread (is_wide q) c d n → shows q c texts n ≡ shows q d texts n
 
 abbrev pub MailboxesDecide : Type 0
 MailboxesDecide =

@@ -12,7 +12,7 @@ use Rattle.mail_records.specs.OrderSteps.{put_all_in}
 use Rattle.mail_records.specs.declared.records.Email.{Email}
 use Rattle.method_args.specs.Arguments.{passes}
 use Rattle.filter_terms.specs.Filters.{holds, matches}
-use Rattle.filter_terms.specs.Targets.{AnEmail, Seen, seen_at}
+use Rattle.filter_terms.specs.Targets.{AnEmail, EmailInThread, email_in_thread_at}
 use Rattle.filter_terms.specs.Texts.{MessageTexts}
 use Rattle.filter_terms.specs.ThreadScope
 use Rattle.sort_terms.specs.Comparators.{emails_cmp}
@@ -24,42 +24,44 @@ use Rattle.query_engine.specs.Views.{QueryTree}
 -- ---- emails
 
 -- the filter matches the email, in a store whose blobs have these texts
-abbrev pub email_matches : QueryTree → (ℕ → MessageTexts) → Seen → Bool
+abbrev pub email_matches : QueryTree → (ℕ → MessageTexts) → EmailInThread → Bool
 email_matches q texts s = holds OfEmails (AnEmail texts s) q.filter
 
--- the first email is before the second by the order; ties go by number, rising
-abbrev pub email_before : QueryTree → Seen → Seen → Bool
+-- the first email is before the second by the order; ties go by number, ascending
+abbrev pub email_before : QueryTree → EmailInThread → EmailInThread → Bool
 email_before q a b =
     is_lt
     (ordering_then (emails_cmp (comparators_of OfEmails q.order) a b)
     (nat_cmp a.email.number b.email.number))
 
 -- an email of the same thread
-abbrev pub beside : Seen → Email → Seen
-beside s e = record { email = e; thread = s.thread }
+abbrev pub in_same_thread : EmailInThread → Email → EmailInThread
+in_same_thread s e = record { email = e; thread = s.thread }
 
 -- some email of the thread matches, and is before this one
-abbrev pub is_hidden : QueryTree → (ℕ → MessageTexts) → Seen → Bool
+abbrev pub is_hidden : QueryTree → (ℕ → MessageTexts) → EmailInThread → Bool
 is_hidden q texts s =
-    list_any (λ e. email_matches q texts (beside s e) && email_before q (beside s e) s) s.thread
+    list_any
+    (λ e. email_matches q texts (in_same_thread s e) && email_before q (in_same_thread s e) s)
+    s.thread
 
 -- An email is shown if it matches and, where threads are collapsed, no email of its thread that
 -- matches is before it. Nothing is looked at but the email and the emails of its thread.
-abbrev pub shows_email : QueryTree → (ℕ → MessageTexts) → Seen → Bool
+abbrev pub shows_email : QueryTree → (ℕ → MessageTexts) → EmailInThread → Bool
 shows_email q texts s = email_matches q texts s && not (q.collapse && is_hidden q texts s)
 
 -- ---- the result list
 
 -- the query shows the record of this number
 abbrev pub shows_of : Kind → QueryTree → Content → (ℕ → MessageTexts) → ℕ → Bool
-shows_of OfEmails q c texts n = passes (λ s. shows_email q texts s) (seen_at c.emails n)
+shows_of OfEmails q c texts n = passes (λ s. shows_email q texts s) (email_in_thread_at c.emails n)
 shows_of OfMailboxes q c texts n = matches OfMailboxes q.filter c texts n
 shows_of OfThreads q c texts n = false
 
 abbrev pub shows : QueryTree → Content → (ℕ → MessageTexts) → ℕ → Bool
 shows q c texts n = shows_of q.kind q c texts n
 
--- the order of numbers: by the comparators, then by number, rising
+-- the order of numbers: by the comparators, then by number, ascending
 abbrev pub order_of : QueryTree → Content → ℕ → ℕ → Ordering
 order_of q c = numbers_cmp q.kind q.order c
 

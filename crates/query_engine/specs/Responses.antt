@@ -6,7 +6,8 @@ use Rattle.jm_base.specs.Ids.{id_text, state_text}
 use Rattle.jm_base.specs.declared.identifiers.Kind.{Kind}
 use Rattle.jm_base.specs.declared.identifiers.Kind.TheVariants.{Mailbox as OfMailboxes, Email as OfEmails, Thread as OfThreads}
 use Rattle.jm_json.specs.Find.{as_object, find}
-use Rattle.jm_json.specs.Tree.{Tree, null, boolean, number, text, list, object, fields_of, trees_of}
+use Rattle.jm_json.specs.Tree.{Tree, null, boolean, text, list, object, fields_of, trees_of}
+use Rattle.mail_counts.specs.Views.{count_tree}
 use Rattle.mail_records.specs.Contents.{Content}
 use Rattle.method_args.specs.Arguments.{Form, find_invalid, flag_in, given, integer_in, text_in}
 use Rattle.method_args.specs.declared.form.Presence.TheVariants.{Required, Optional, Nullable}
@@ -27,7 +28,8 @@ use Rattle.query_engine.specs.declared.faults.QueryCallFault.TheVariants.{Invali
 -- ---- the query of a call
 
 -- What the arguments of a call say of its query: it is this one, or the argument, condition or
--- member of a comparator with this name is at fault; the name is empty where a whole tree is.
+-- member of a comparator with this name is at fault; the name is empty where the tree of an
+-- argument is.
 pub data Reading : Type 0 where
   query : (q : QueryTree) → Reading
   invalid : (name : List ℕ) → Reading
@@ -171,21 +173,21 @@ id_trees kind numbers = map (λ n. text (id_text (record { kind = kind; number =
 
 abbrev pub limit_members : Option ℕ → List (List ℕ × Tree)
 limit_members None = []
-limit_members (Some limit) = (codes "limit", number (pos limit)) ∷ []
+limit_members (Some limit) = (codes "limit", count_tree limit) ∷ []
 
 abbrev pub total_members : Bool → ℕ → List (List ℕ × Tree)
 total_members false total = []
-total_members true total = (codes "total", number (pos total)) ∷ []
+total_members true total = (codes "total", count_tree total) ∷ []
 
 -- The members of a response: `limit` where it is not the one that was asked for, and `total` where
--- it is asked for.
+-- it is asked for. A number past the greatest integer of JSON is shown as that.
 abbrev pub response_members : Kind → List ℕ → ℕ → Shown → Bool → ℕ → List (List ℕ × Tree)
 response_members kind account state shown counted total =
     (codes "accountId", text account)
     ∷ (codes "canCalculateChanges", boolean true)
     ∷ (codes "ids", list (trees_of (id_trees kind shown.ids)))
     ∷ (limit_members shown.limit
-    ++ (codes "position", number (pos shown.position))
+    ++ (codes "position", count_tree shown.position)
     ∷ (codes "queryState", text (state_text state))
     ∷ total_members counted total)
 

@@ -15,7 +15,7 @@ use Rattle.mail_records.specs.OrderSteps.{put_all_in}
 use Rattle.mail_records.specs.States.{is_kind}
 use Rattle.method_args.specs.Arguments.{passes, text_in}
 use Rattle.filter_terms.specs.Filters.{holds, matches}
-use Rattle.filter_terms.specs.Targets.{AMailbox, AnEmail, Seen, seen_in}
+use Rattle.filter_terms.specs.Targets.{AMailbox, AnEmail, EmailInThread, email_in_thread}
 use Rattle.filter_terms.specs.Texts.{MessageTexts}
 use Rattle.sort_terms.specs.Forms.{comparators_of, is_ascending}
 use Rattle.sort_terms.specs.declared.comparators.Comparator.{Comparator}
@@ -67,7 +67,7 @@ abbrev pub kept_emails
     : QueryTree → Content → (ℕ → MessageTexts) → List Email → List ℕ
 kept_emails q c texts es =
     map email_number
-    (filter (λ e. holds q.kind (AnEmail texts (seen_in c.emails e)) q.filter) es)
+    (filter (λ e. holds q.kind (AnEmail texts (email_in_thread c.emails e)) q.filter) es)
 
 abbrev pub kept_mailboxes : QueryTree → List Mailbox → List ℕ
 kept_mailboxes q ms =
@@ -84,26 +84,26 @@ pub record Row : Type 0 where
   pub received : ℤ
   pub number : ℕ
 
-abbrev pub rising_cmp : Row → Row → Ordering
-rising_cmp a b = ordering_then (int_cmp a.received b.received) (nat_cmp a.number b.number)
+abbrev pub ascending_cmp : Row → Row → Ordering
+ascending_cmp a b = ordering_then (int_cmp a.received b.received) (nat_cmp a.number b.number)
 
 -- latest first; of the same time the lower number first
-abbrev pub falling_cmp : Row → Row → Ordering
-falling_cmp a b = ordering_then (int_cmp b.received a.received) (nat_cmp a.number b.number)
+abbrev pub descending_cmp : Row → Row → Ordering
+descending_cmp a b = ordering_then (int_cmp b.received a.received) (nat_cmp a.number b.number)
 
-abbrev pub RowsRise : List Row → Type 0
-RowsRise rows = IsStrictlySortedBy rising_cmp rows
+abbrev pub RowsAscend : List Row → Type 0
+RowsAscend rows = IsStrictlySortedBy ascending_cmp rows
 
 abbrev pub row_number : Row → ℕ
 row_number r = r.number
 
 -- the rows from the latest time on
-abbrev pub falling : List Row → List Row
-falling rows = put_all_in falling_cmp rows []
+abbrev pub descending : List Row → List Row
+descending rows = put_all_in descending_cmp rows []
 
 abbrev pub directed_rows : Bool → List Row → List Row
 directed_rows true rows = rows
-directed_rows false rows = falling rows
+directed_rows false rows = descending rows
 
 abbrev pub numbers_in : List Row → List ℕ
 numbers_in rows = map row_number rows
@@ -120,7 +120,7 @@ pub record IsRunStart (rows : List Row) (start : ℕ) (time : ℤ) : Type 0 wher
 
 -- ---- which list serves a query
 
--- the sort is by the time received alone, rising or falling
+-- the sort is by the time received alone, ascending or descending
 pub record IsSortedByReceived (sort : Tree) (ascending : Bool) : Type 0 where
   pub keyword : List ℕ
   pub order : comparators_of OfEmails sort
@@ -129,10 +129,10 @@ pub record IsSortedByReceived (sort : Tree) (ascending : Bool) : Type 0 where
 -- each email that the filter matches is in the mailbox
 abbrev pub IsInMailbox : Tree → ℕ → Type 0
 IsInMailbox filter mailbox =
-    (texts : ℕ → MessageTexts) (s : Seen) → holds OfEmails (AnEmail texts s) filter ≡ true
+    (texts : ℕ → MessageTexts) (s : EmailInThread) → holds OfEmails (AnEmail texts s) filter ≡ true
     → is_in mailbox s.email ≡ true
 
--- a comparator with these members is by the time received, rising or falling
+-- a comparator with these members is by the time received, ascending or descending
 abbrev pub received_by : List (List ℕ × Tree) → Option Bool
 received_by ms =
     option_and_then

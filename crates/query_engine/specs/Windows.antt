@@ -47,16 +47,17 @@ greatest_count None = MAX_IDS_PER_QUERY
 greatest_count (Some limit) = min limit MAX_IDS_PER_QUERY
 
 -- the limit is in the response if it is not the one that was asked for
-abbrev pub told_limit : Option ℕ → Option ℕ
-told_limit None = Some MAX_IDS_PER_QUERY
-told_limit (Some limit) = if nat_le limit MAX_IDS_PER_QUERY then None else Some MAX_IDS_PER_QUERY
+abbrev pub limit_in_response : Option ℕ → Option ℕ
+limit_in_response None = Some MAX_IDS_PER_QUERY
+limit_in_response (Some limit) =
+    if nat_le limit MAX_IDS_PER_QUERY then None else Some MAX_IDS_PER_QUERY
 
 -- the part that begins at an index, which may be past the end
 abbrev pub part_from : List ℕ → Option ℕ → ℕ → Shown
 part_from list limit start = record {
   position = start;
   ids = take (greatest_count limit) (drop start list);
-  limit = told_limit limit;
+  limit = limit_in_response limit;
 }
 
 -- a limit is from 0 on

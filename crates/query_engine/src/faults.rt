@@ -5,7 +5,7 @@ use jm_base::{NoMemory, Text};
 #[derive(Debug, Drop)]
 pub enum QueryFault {
     /// The argument, the condition or the member of a comparator with this name is missing or of a
-    /// wrong kind; with an empty name a whole tree is: `invalidArguments`.
+    /// wrong kind; with an empty name the tree of an argument is: `invalidArguments`.
     Invalid(Text),
     /// No filter has a condition or member of this name: `unsupportedFilter`.
     UnsupportedFilter(Text),

@@ -7,24 +7,16 @@
 #![tactic(auto)]
 
 mod arguments;
-#[cfg(test)]
-mod fault_tests;
 mod faults;
 mod frame;
 mod laws;
 mod limits;
-#[cfg(test)]
-mod list_tests;
 mod page;
 mod query;
 mod response;
 mod rows;
 mod run;
-#[cfg(test)]
-mod test_records;
 mod walks;
-#[cfg(test)]
-mod window_tests;
 mod windows;
 
 pub use faults::{QueryCallFault, QueryFault};
@@ -34,6 +26,6 @@ pub use laws::{
 };
 pub use limits::MAX_IDS_PER_QUERY;
 pub use query::{Query, read_query, read_query_in};
-pub use response::answer_query;
+pub use response::{answer_query, make_count};
 pub use run::{run_query, run_query_upto};
 pub use windows::window;

@@ -2,7 +2,8 @@
 // 4.4).
 ghost use Rattle.std.specs.Prelude.{◌≡◌, ◌+◌, pos, true, None, IfErr, IfOk, IfSome, OnOk};
 ghost use Rattle.jm_json.specs.Json.{tree_of};
-ghost use Rattle.jm_json.specs.Tree.{fields_of, number, object};
+ghost use Rattle.jm_json.specs.Tree.{fields_of, object};
+ghost use Rattle.mail_counts.specs.Views.{count_tree};
 ghost use Rattle.query_engine.specs.Queries.{result_list};
 ghost use Rattle.query_engine.specs.Replies.{Decides, plain_members, with_limit, with_total};
 ghost use Rattle.query_engine.specs.Responses.{ExplainsCall, id_trees, outcome_of_list, outcome_with, query_outcome, replied, response_members};
@@ -16,6 +17,7 @@ use crate::windows::{greatest_count, limit_of, window};
 use filter_terms::Texts2;
 use jm_base::{Id, Kind, NoMemory, Text, id_text, state_text};
 use jm_json::{Items, Json, Members};
+use mail_counts::MAX_JSON_INTEGER;
 use mail_records::Content;
 use std::alloc::Global;
 
@@ -33,14 +35,14 @@ fn make_ids(alloc: Global, kind: Kind, numbers: &[u64]) -> Result<Items, NoMemor
     Ok(ids)
 }
 
-// Returns an integer; one past those of 64 bits with a sign is out of memory.
-fn make_integer(value: u64) -> Result<Json, NoMemory>
-    ensures { IfOk result (λ j. tree_of j ≡ number (pos value)) }
+/// Returns a number as JSON has it, which has no greater one than [`MAX_JSON_INTEGER`] (RFC 8620,
+/// section 1.3).
+///
+/// [`MAX_JSON_INTEGER`]: mail_counts::MAX_JSON_INTEGER
+pub fn make_count(value: u64) -> Json
+    ensures { tree_of result ≡ count_tree value }
 {
-    match i64::try_from(value) {
-        Ok(number) => Ok(Json::Int(number)),
-        Err(_) => Err(NoMemory),
-    }
+    Json::Int(value.min(MAX_JSON_INTEGER) as i64)
 }
 
 // Returns the members that each response has.
@@ -55,13 +57,12 @@ fn make_members(
 {
     let account = Text::from_str(alloc, account)?;
     let ids = make_ids(alloc, kind, shown.ids.as_slice())?;
-    let position = make_integer(shown.position)?;
     let state = state_text(alloc, state)?;
     let mut reply = Members::with_room(alloc, 7)?;
     reply.set(alloc, "accountId", Json::Text(account))?;
     reply.set(alloc, "canCalculateChanges", Json::Bool(true))?;
     reply.set(alloc, "ids", Json::List(ids))?;
-    reply.set(alloc, "position", position)?;
+    reply.set(alloc, "position", make_count(shown.position))?;
     reply.set(alloc, "queryState", Json::Text(state))?;
     Ok(reply)
 }
@@ -70,7 +71,7 @@ fn set_limit(alloc: Global, reply: &mut Members, limit: Option<u64>) -> Result<(
     ensures { OnOk result (reply.new ≡ with_limit limit reply.old) }
 {
     match limit {
-        Some(limit) => reply.set(alloc, "limit", make_integer(limit)?),
+        Some(limit) => reply.set(alloc, "limit", make_count(limit)),
         None => Ok(()),
     }
 }
@@ -79,7 +80,7 @@ fn set_total(alloc: Global, reply: &mut Members, counted: bool, total: u64) -> R
     ensures { OnOk result (reply.new ≡ with_total counted total reply.old) }
 {
     if counted {
-        reply.set(alloc, "total", make_integer(total)?)
+        reply.set(alloc, "total", make_count(total))
     } else {
         Ok(())
     }

@@ -3,8 +3,8 @@ ghost use Rattle.std.specs.Prelude.{◌≡◌, List, OnOk, map};
 ghost use Rattle.jm_base.specs.declared.identifiers.Kind.TheVariants.{Email as OfEmails};
 ghost use Rattle.mail_records.specs.Contents.{email_at};
 ghost use Rattle.filter_terms.specs.Filters.{holds};
-ghost use Rattle.filter_terms.specs.Targets.{AnEmail, seen_in};
-ghost use Rattle.query_engine.specs.Walks.{Follows, IsRunStart, RowsRise, directed_rows, falling, is_match, matching};
+ghost use Rattle.filter_terms.specs.Targets.{AnEmail, email_in_thread};
+ghost use Rattle.query_engine.specs.Walks.{Follows, IsRunStart, RowsAscend, directed_rows, descending, is_match, matching};
 ghost use Rattle.std.specs.Prelude.{◌∷◌, [], Some, if◌then◌else◌};
 
 use crate::page::{Page, has_thread, is_full, put_number};
@@ -64,8 +64,9 @@ fn visit_email<T: Texts2>(
     requires emails { query.now.kind ≡ OfEmails }
     requires there { email_at content.now.content email.now.number ≡ Some email.now }
     ensures { OnOk result (Follows content.now.content page.old page.new
-        (if holds query.now.kind (AnEmail (T.texts texts.now) (seen_in content.now.content.emails
-        email.now)) query.now.filter then email.now.number ∷ [] else [])) }
+        (if holds query.now.kind
+        (AnEmail (T.texts texts.now) (email_in_thread content.now.content.emails email.now))
+        query.now.filter then email.now.number ∷ [] else [])) }
 {
     if has_thread(page, email.thread) {
         return Ok(());
@@ -96,7 +97,7 @@ fn visit<T: Texts2>(
 }
 
 /// Puts the emails of entries on the page, in their order, until it is full.
-fn walk_rising<E: Candidate, T: Texts2>(
+fn walk_ascending<E: Candidate, T: Texts2>(
     page: &mut Page,
     query: &Query,
     content: &Content,
@@ -118,14 +119,14 @@ fn walk_rising<E: Candidate, T: Texts2>(
 
 // Returns the index at which the entries begin that are not before a time.
 fn run_start<E: Candidate>(entries: &[E], time: i64) -> usize
-    requires { RowsRise (map E.timed entries.now) }
+    requires { RowsAscend (map E.timed entries.now) }
     ensures { IsRunStart (map E.timed entries.now) result time }
 {
     entries.partition_point(|entry| entry.received() < time)
 }
 
 // Puts the emails of entries on the page, latest first, until it is full.
-fn walk_falling<E: Candidate, T: Texts2>(
+fn walk_descending<E: Candidate, T: Texts2>(
     page: &mut Page,
     query: &Query,
     content: &Content,
@@ -133,10 +134,10 @@ fn walk_falling<E: Candidate, T: Texts2>(
     entries: &[E],
 ) -> Result<(), NoMemory>
     requires emails { query.now.kind ≡ OfEmails }
-    requires rise { RowsRise (map E.timed entries.now) }
+    requires rise { RowsAscend (map E.timed entries.now) }
     ensures { OnOk result (Follows content.now.content page.old page.new
         (matching query.now content.now.content (T.texts texts.now)
-        (falling (map E.timed entries.now)))) }
+        (descending (map E.timed entries.now)))) }
 {
     let mut left = entries;
     while let Some((last, others)) = left.split_last() {
@@ -144,7 +145,7 @@ fn walk_falling<E: Candidate, T: Texts2>(
             return Ok(());
         }
         let (before, run) = left.split_at(run_start(others, last.received()));
-        walk_rising(page, query, content, texts, run)?;
+        walk_ascending(page, query, content, texts, run)?;
         left = before;
     }
     Ok(())
@@ -161,14 +162,14 @@ pub(crate) fn walk<E: Candidate, T: Texts2>(
     ascending: bool,
 ) -> Result<(), NoMemory>
     requires emails { query.now.kind ≡ OfEmails }
-    requires rise { RowsRise (map E.timed entries.now) }
+    requires rise { RowsAscend (map E.timed entries.now) }
     ensures { OnOk result (Follows content.now.content page.old page.new
         (matching query.now content.now.content (T.texts texts.now)
         (directed_rows ascending (map E.timed entries.now)))) }
 {
     if ascending {
-        walk_rising(page, query, content, texts, entries)
+        walk_ascending(page, query, content, texts, entries)
     } else {
-        walk_falling(page, query, content, texts, entries)
+        walk_descending(page, query, content, texts, entries)
     }
 }

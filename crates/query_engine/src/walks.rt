@@ -17,9 +17,9 @@ use method_args::read_text;
 pub(crate) enum Walk {
     /// All records, which are sorted.
     Sorted,
-    /// All emails by the time received, rising or falling.
+    /// All emails by the time received, ascending or descending.
     ByReceived(bool),
-    /// The emails in a mailbox by the time received, rising or falling.
+    /// The emails in a mailbox by the time received, ascending or descending.
     InMailbox(u64, bool),
 }
 
@@ -41,7 +41,7 @@ fn is_ascending(members: &Members) -> bool
     }
 }
 
-// Returns whether a comparator is rising if it is by the time received.
+// Returns whether a comparator is ascending if it is by the time received.
 fn received_by(members: &Members) -> Option<bool>
     ensures { result ≡ received_by members.now }
 {
@@ -66,7 +66,7 @@ fn received_comparator(comparator: &Json) -> Option<bool>
     }
 }
 
-// Returns whether a sort is rising if it has one comparator, by the time received.
+// Returns whether a sort is ascending if it has one comparator, by the time received.
 #[tactic(auto, using(crate::proofs::Within::sorted_by_received))]
 fn received_order(sort: &Json) -> Option<bool>
     ensures { IfSome result (λ ascending. IsSortedByReceived (tree_of sort.now) ascending) }

@@ -1,7 +1,7 @@
 // The part of a result list that a frame names (RFC 8620, section 5.5).
 ghost use Rattle.std.specs.Prelude.{◌≡◌, ◌<◌, ◌^◌, ◌==◌, ℕ, drop, false, take, IfErr, IfNone, IfOk, IfSome, option_map};
 ghost use Rattle.mail_records.specs.States.{is_kind};
-ghost use Rattle.query_engine.specs.Windows.{ExplainsWindow, from_position, greatest_count, index_where, is_id_of, limit_of, moved, part, part_from, start_of, told_limit, unsigned, window_of};
+ghost use Rattle.query_engine.specs.Windows.{ExplainsWindow, from_position, greatest_count, index_where, is_id_of, limit_of, moved, part, part_from, start_of, limit_in_response, unsigned, window_of};
 
 use crate::frame::{Frame, Shown, WindowFault};
 use crate::limits::MAX_IDS_PER_QUERY;
@@ -104,8 +104,8 @@ pub(crate) fn greatest_count(limit: Option<u64>) -> u64
     }
 }
 
-fn told_limit(limit: Option<u64>) -> Option<u64>
-    ensures { result ≡ told_limit limit }
+fn limit_in_response(limit: Option<u64>) -> Option<u64>
+    ensures { result ≡ limit_in_response limit }
 {
     match limit {
         Some(limit) => {
@@ -166,7 +166,7 @@ fn part_from(alloc: Global, list: &[u64], limit: Option<u64>, start: u64) -> Res
     Ok(Shown {
         position: start,
         ids: Numbers::from_vec(ids),
-        limit: told_limit(limit),
+        limit: limit_in_response(limit),
     })
 }
 

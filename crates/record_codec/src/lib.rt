@@ -11,10 +11,6 @@ mod read_lists;
 mod read_records;
 mod read_texts;
 mod sizes;
-#[cfg(test)]
-mod test_rows;
-#[cfg(test)]
-mod tests;
 mod utf8;
 mod write_commit;
 mod write_edits;

@@ -6,8 +6,6 @@ mod laws;
 mod path;
 mod references;
 mod room;
-#[cfg(test)]
-mod tests;
 
 pub use fault::RefFault;
 pub use laws::a_reference_takes_what_it_makes;

@@ -8,8 +8,8 @@ use Rattle.jm_base.specs.declared.identifiers.Kind.TheVariants.{Mailbox as OfMai
 use Rattle.jm_json.specs.Tree.{Tree}
 use Rattle.mail_records.specs.Contents.{Content, email_at, mailbox_at}
 use Rattle.mail_records.specs.declared.records.Email.{Email}
-use Rattle.filter_terms.specs.Laws.{SameSeen}
-use Rattle.filter_terms.specs.Targets.{Seen, of_thread, seen_at, seen_in}
+use Rattle.filter_terms.specs.Laws.{SameEmailInThread}
+use Rattle.filter_terms.specs.Targets.{EmailInThread, of_thread, email_in_thread_at, email_in_thread}
 use Rattle.filter_terms.proofs.Alone.{with_thread}
 use Rattle.sort_terms.specs.Comparators.{directed, email_property_cmp, emails_cmp, mailboxes_cmp}
 use Rattle.sort_terms.specs.Forms.{comparators_of}
@@ -52,14 +52,14 @@ module _ (cs : List Comparator) (xs ys : List Email) where
   Same w e = w ≡ true → of_thread e.thread xs ≡ of_thread e.thread ys
 
   compare_same : (w : Bool) → list_any (λ (c : Comparator). is_wide_property c.property) cs ≡ w → (e f : Email) → Same w e → Same w f
-      → emails_cmp cs (seen_in xs e) (seen_in xs f) ≡ emails_cmp cs (seen_in ys e) (seen_in ys f)
+      → emails_cmp cs (email_in_thread xs e) (email_in_thread xs f) ≡ emails_cmp cs (email_in_thread ys e) (email_in_thread ys f)
   compare_same true is e f a b = ap₂ (λ m k. emails_cmp cs (with_thread e m) (with_thread f k)) (a refl) (b refl)
   compare_same false is e f a b = compare_alone e (of_thread e.thread xs) (of_thread e.thread ys) f (of_thread f.thread xs) (of_thread f.thread ys) cs is
 
   there : (w : Bool) → list_any (λ (c : Comparator). is_wide_property c.property) cs ≡ w → (o p : Option Email)
       → ((e : Email) → w ≡ true → o ≡ Some e → of_thread e.thread xs ≡ of_thread e.thread ys)
       → ((e : Email) → w ≡ true → p ≡ Some e → of_thread e.thread xs ≡ of_thread e.thread ys)
-      → option_cmp (emails_cmp cs) (option_map (seen_in xs) o) (option_map (seen_in xs) p) ≡ option_cmp (emails_cmp cs) (option_map (seen_in ys) o) (option_map (seen_in ys) p)
+      → option_cmp (emails_cmp cs) (option_map (email_in_thread xs) o) (option_map (email_in_thread xs) p) ≡ option_cmp (emails_cmp cs) (option_map (email_in_thread ys) o) (option_map (email_in_thread ys) p)
   there w is None None f g = refl
   there w is None (Some y) f g = refl
   there w is (Some x) None f g = refl
@@ -68,9 +68,9 @@ module _ (cs : List Comparator) (xs ys : List Email) where
 pub emails_decide : EmailsDecide
 emails_decide t c d a b h k =
     let cs = comparators_of OfEmails t in
-    let same : option_cmp (emails_cmp cs) (seen_at c.emails a) (seen_at c.emails b) ≡ option_cmp (emails_cmp cs) (seen_at d.emails a) (seen_at d.emails b) =
+    let same : option_cmp (emails_cmp cs) (email_in_thread_at c.emails a) (email_in_thread_at c.emails b) ≡ option_cmp (emails_cmp cs) (email_in_thread_at d.emails a) (email_in_thread_at d.emails b) =
     there cs c.emails d.emails (is_wide OfEmails t) refl (email_at c a) (email_at c b) (λ e w is. h.thread w e is) (λ e w is. k.thread w e is)
-    ∙ ap₂ (λ o p. option_cmp (emails_cmp cs) (option_map (seen_in d.emails) o) (option_map (seen_in d.emails) p)) h.email k.email in
+    ∙ ap₂ (λ o p. option_cmp (emails_cmp cs) (option_map (email_in_thread d.emails) o) (option_map (email_in_thread d.emails) p)) h.email k.email in
     ap (λ r. is_lt (ordering_then r (nat_cmp a b))) same
 
 pub mailboxes_decide : MailboxesDecide

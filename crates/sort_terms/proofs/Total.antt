@@ -18,7 +18,7 @@ use Rattle.mail_records.proofs.KeyTables.{nat_equal}
 use Rattle.mail_records.specs.Contents.{Content, mailbox_at}
 use Rattle.mail_records.specs.declared.records.Email.{Email}
 use Rattle.mail_records.specs.declared.records.Mailbox.{Mailbox}
-use Rattle.filter_terms.specs.Targets.{Seen, seen_at}
+use Rattle.filter_terms.specs.Targets.{EmailInThread, email_in_thread_at}
 use Rattle.sort_terms.specs.Comparators.{directed, email_property_cmp, emails_cmp, equal_cmp, mailbox_property_cmp, mailboxes_cmp, sent_seconds, text_cmp}
 use Rattle.sort_terms.specs.Forms.{comparators_of}
 use Rattle.sort_terms.specs.Laws.{BeforeGoesOn, NeverBeforeItself, OneIsBefore}
@@ -34,15 +34,15 @@ text_total : IsTotalOrder text_cmp
 text_total = on_total str_to_ascii_uppercase nat_list_cmp_total
 
 email_total : (p : Property) (k : List ℕ) → IsTotalOrder (email_property_cmp p k)
-email_total ReceivedAt k = on_total (λ (s : Seen). s.email.received.seconds) int_cmp_total
-email_total Size k = on_total (λ (s : Seen). s.email.size) nat_cmp_total
-email_total From k = on_total (λ (s : Seen). s.email.summary.from) text_total
-email_total To k = on_total (λ (s : Seen). s.email.summary.to) text_total
-email_total Subject k = on_total (λ (s : Seen). s.email.summary.subject) text_total
+email_total ReceivedAt k = on_total (λ (s : EmailInThread). s.email.received.seconds) int_cmp_total
+email_total Size k = on_total (λ (s : EmailInThread). s.email.size) nat_cmp_total
+email_total From k = on_total (λ (s : EmailInThread). s.email.summary.from) text_total
+email_total To k = on_total (λ (s : EmailInThread). s.email.summary.to) text_total
+email_total Subject k = on_total (λ (s : EmailInThread). s.email.summary.subject) text_total
 email_total SentAt k = on_total sent_seconds (options_total int_cmp_total)
-email_total HasKeyword k = on_total (λ (s : Seen). has_keyword k s.email) bool_cmp_total
-email_total AllInThread k = on_total (λ (s : Seen). list_all (λ e. has_keyword k e) s.thread) bool_cmp_total
-email_total SomeInThread k = on_total (λ (s : Seen). list_any (λ e. has_keyword k e) s.thread) bool_cmp_total
+email_total HasKeyword k = on_total (λ (s : EmailInThread). has_keyword k s.email) bool_cmp_total
+email_total AllInThread k = on_total (λ (s : EmailInThread). list_all (λ e. has_keyword k e) s.thread) bool_cmp_total
+email_total SomeInThread k = on_total (λ (s : EmailInThread). list_any (λ e. has_keyword k e) s.thread) bool_cmp_total
 email_total SortOrder k = equal_total
 email_total Name k = equal_total
 
@@ -72,7 +72,7 @@ mailboxes_total [] = equal_total
 mailboxes_total (c ∷ cs) = then_total (directed_total c.ascending (mailbox_total c.property)) (mailboxes_total cs)
 
 records_total : (kind : Kind) (cs : List Comparator) (c : Content) → IsTotalOrder (records_cmp kind cs c)
-records_total OfEmails cs c = on_total (seen_at c.emails) (options_total (emails_total cs))
+records_total OfEmails cs c = on_total (email_in_thread_at c.emails) (options_total (emails_total cs))
 records_total OfMailboxes cs c = on_total (mailbox_at c) (options_total (mailboxes_total cs))
 records_total OfThreads cs c = equal_total
 

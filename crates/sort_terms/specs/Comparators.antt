@@ -9,7 +9,7 @@ use Rattle.std.specs.declared.cmp.Ordering.{Ordering}
 use Rattle.mail_counts.specs.Counts.{has_keyword}
 use Rattle.mail_records.specs.declared.records.Email.{Email}
 use Rattle.mail_records.specs.declared.records.Mailbox.{Mailbox}
-use Rattle.filter_terms.specs.Targets.{Seen}
+use Rattle.filter_terms.specs.Targets.{EmailInThread}
 use Rattle.sort_terms.specs.declared.comparators.Comparator.{Comparator}
 use Rattle.sort_terms.specs.declared.properties.Property.{Property}
 use Rattle.sort_terms.specs.declared.properties.Property.TheVariants.{ReceivedAt, Size, From, To, Subject, SentAt, HasKeyword, AllInThread, SomeInThread, SortOrder, Name}
@@ -23,12 +23,12 @@ abbrev pub equal_cmp : {X : Type 0} → X → X → Ordering
 equal_cmp {X} = on (λ (x : X). 0) nat_cmp
 
 -- the time that the message says it was sent at, in Unix seconds
-abbrev pub sent_seconds : Seen → Option ℤ
+abbrev pub sent_seconds : EmailInThread → Option ℤ
 sent_seconds s = option_map (λ date. date.seconds) s.email.summary.sent
 
 -- Ascending, by a property of an email or of its thread: an absent date is before every date, false
 -- is before true, and the subject is without the prefixes of replies and forwards.
-abbrev pub email_property_cmp : Property → List ℕ → Seen → Seen → Ordering
+abbrev pub email_property_cmp : Property → List ℕ → EmailInThread → EmailInThread → Ordering
 email_property_cmp ReceivedAt k = on (λ s. s.email.received.seconds) int_cmp
 email_property_cmp Size k = on (λ s. s.email.size) nat_cmp
 email_property_cmp From k = on (λ s. s.email.summary.from) text_cmp
@@ -53,7 +53,7 @@ directed true R = R
 directed false R = flip_args R
 
 -- by each comparator in turn, until one tells them apart
-abbrev pub emails_cmp : List Comparator → Seen → Seen → Ordering
+abbrev pub emails_cmp : List Comparator → EmailInThread → EmailInThread → Ordering
 emails_cmp [] = equal_cmp
 emails_cmp (c ∷ cs) =
     then_cmp (directed c.ascending (email_property_cmp c.property c.keyword)) (emails_cmp cs)

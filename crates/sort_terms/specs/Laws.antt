@@ -4,7 +4,7 @@ use Rattle.jm_base.specs.declared.identifiers.Kind.{Kind}
 use Rattle.jm_base.specs.declared.identifiers.Kind.TheVariants.{Mailbox as OfMailboxes, Email as OfEmails}
 use Rattle.jm_json.specs.Tree.{Tree}
 use Rattle.mail_records.specs.Contents.{Content, mailbox_at}
-use Rattle.filter_terms.specs.Laws.{SameSeen}
+use Rattle.filter_terms.specs.Laws.{SameEmailInThread}
 use Rattle.sort_terms.specs.Orders.{is_before, is_wide}
 
 abbrev pub NeverBeforeItself : Type 0
@@ -23,8 +23,8 @@ OneIsBefore =
 
 abbrev pub EmailsDecide : Type 0
 EmailsDecide =
-    (t : Tree) (c d : Content) (a b : ℕ) → SameSeen (is_wide OfEmails t) c d a
-    → SameSeen (is_wide OfEmails t) c d b
+    (t : Tree) (c d : Content) (a b : ℕ) → SameEmailInThread (is_wide OfEmails t) c d a
+    → SameEmailInThread (is_wide OfEmails t) c d b
     → is_before OfEmails t c a b ≡ is_before OfEmails t d a b
 
 abbrev pub MailboxesDecide : Type 0

@@ -9,7 +9,7 @@ use Rattle.jm_base.specs.declared.identifiers.Kind.{Kind}
 use Rattle.jm_base.specs.declared.identifiers.Kind.TheVariants.{Mailbox, Email, Thread}
 use Rattle.jm_json.specs.Tree.{Tree}
 use Rattle.mail_records.specs.Contents.{Content, mailbox_at}
-use Rattle.filter_terms.specs.Targets.{seen_at}
+use Rattle.filter_terms.specs.Targets.{email_in_thread_at}
 use Rattle.sort_terms.specs.Comparators.{emails_cmp, equal_cmp, mailboxes_cmp}
 use Rattle.sort_terms.specs.Forms.{comparators_of}
 use Rattle.sort_terms.specs.Properties.{is_wide_property}
@@ -17,7 +17,7 @@ use Rattle.sort_terms.specs.declared.comparators.Comparator.{Comparator}
 
 -- by the comparators, of the records of a kind: a record that is not there is before all others
 abbrev pub records_cmp : Kind → List Comparator → Content → ℕ → ℕ → Ordering
-records_cmp Email cs c = on (seen_at c.emails) (option_cmp (emails_cmp cs))
+records_cmp Email cs c = on (email_in_thread_at c.emails) (option_cmp (emails_cmp cs))
 records_cmp Mailbox cs c = on (mailbox_at c) (option_cmp (mailboxes_cmp cs))
 records_cmp Thread cs c = equal_cmp
 

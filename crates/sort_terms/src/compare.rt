@@ -2,7 +2,7 @@
 ghost use Rattle.std.specs.Prelude.{◌≡◌, ℕ, List, ◌∷◌, MatchResult, option_map};
 ghost use Rattle.std.specs.Option.{option_cmp};
 ghost use Rattle.std.specs.Ordering.{int_cmp};
-ghost use Rattle.filter_terms.specs.Targets.{seen_in};
+ghost use Rattle.filter_terms.specs.Targets.{email_in_thread};
 ghost use Rattle.sort_terms.specs.Comparators.{directed, email_property_cmp, emails_cmp, mailbox_property_cmp, mailboxes_cmp, sent_seconds, text_cmp};
 
 use crate::comparators::Comparator;
@@ -59,8 +59,8 @@ fn seconds_of(date: Option<UtcDate>) -> Option<i64>
 
 fn compare_sent(left: &Email, right: &Email, content: &Content) -> Ordering
     ensures { result ≡ option_cmp int_cmp
-        (sent_seconds (seen_in content.now.content.emails left.now))
-        (sent_seconds (seen_in content.now.content.emails right.now)) }
+        (sent_seconds (email_in_thread content.now.content.emails left.now))
+        (sent_seconds (email_in_thread content.now.content.emails right.now)) }
 {
     seconds_of(left.summary.sent).cmp(&seconds_of(right.summary.sent))
 }
@@ -74,8 +74,8 @@ fn compare_by(
     right: &Email,
 ) -> Ordering
     ensures { result ≡ email_property_cmp property keyword.now
-        (seen_in content.now.content.emails left.now)
-        (seen_in content.now.content.emails right.now) }
+        (email_in_thread content.now.content.emails left.now)
+        (email_in_thread content.now.content.emails right.now) }
 {
     match property {
         Property::ReceivedAt => left.received.seconds.cmp(&right.received.seconds),
@@ -108,8 +108,8 @@ fn compare_directed(
 ) -> Ordering
     ensures { result ≡ directed comparator.now.ascending
         (email_property_cmp comparator.now.property comparator.now.keyword)
-        (seen_in content.now.content.emails left.now)
-        (seen_in content.now.content.emails right.now) }
+        (email_in_thread content.now.content.emails left.now)
+        (email_in_thread content.now.content.emails right.now) }
 {
     let property = comparator.property;
     let keyword = comparator.keyword.as_str();
@@ -127,8 +127,9 @@ pub(crate) fn compare_emails(
     left: &Email,
     right: &Email,
 ) -> Ordering
-    ensures { result ≡ emails_cmp comparators.now (seen_in content.now.content.emails left.now)
-        (seen_in content.now.content.emails right.now) }
+    ensures { result ≡ emails_cmp comparators.now
+        (email_in_thread content.now.content.emails left.now)
+        (email_in_thread content.now.content.emails right.now) }
 {
     for comparator in comparators {
         match compare_directed(comparator, content, left, right) {

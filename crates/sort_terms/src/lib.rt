@@ -11,8 +11,6 @@ mod forms;
 mod laws;
 mod order;
 mod properties;
-#[cfg(test)]
-mod tests;
 
 pub use laws::{orders_are_strict, orders_see_only_their_records};
 pub use order::{

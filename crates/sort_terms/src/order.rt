@@ -6,7 +6,7 @@ ghost use Rattle.std.specs.List.{list_any};
 ghost use Rattle.jm_base.specs.declared.identifiers.Kind.TheVariants.{Email as OfEmails, Mailbox as OfMailboxes};
 ghost use Rattle.jm_json.specs.Json.{tree_of};
 ghost use Rattle.mail_records.specs.Contents.{mailbox_at};
-ghost use Rattle.filter_terms.specs.Targets.{seen_at, seen_in};
+ghost use Rattle.filter_terms.specs.Targets.{email_in_thread_at, email_in_thread};
 ghost use Rattle.sort_terms.specs.Comparators.{emails_cmp, mailboxes_cmp};
 ghost use Rattle.sort_terms.specs.Forms.{IsOrder, Refuses, comparators_of};
 ghost use Rattle.sort_terms.specs.Orders;
@@ -101,8 +101,9 @@ pub fn is_wide(order: &Order) -> bool
 /// Compares two emails of a content by an order of emails; ties are broken by number, ascending.
 pub fn compare_emails(order: &Order, content: &Content, left: &Email, right: &Email) -> Ordering
     ensures { result ≡ ordering_then (emails_cmp (comparators_of order.now.kind order.now.tree)
-        (seen_in content.now.content.emails left.now)
-        (seen_in content.now.content.emails right.now)) (nat_cmp left.now.number right.now.number) }
+        (email_in_thread content.now.content.emails left.now)
+        (email_in_thread content.now.content.emails right.now))
+        (nat_cmp left.now.number right.now.number) }
 {
     match compare::compare_emails(&order.comparators, content, left, right) {
         Ordering::Equal => left.number.cmp(&right.number),

@@ -7,8 +7,6 @@
 mod laws;
 mod log;
 mod notes;
-#[cfg(test)]
-mod tests;
 mod touched;
 
 pub use laws::{logs_follow_histories, logs_tell_histories};

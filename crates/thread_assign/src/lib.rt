@@ -10,8 +10,6 @@ mod by_links;
 mod candidates;
 mod laws;
 mod rule;
-#[cfg(test)]
-mod tests;
 
 pub use by_links::thread_in;
 pub use laws::least_related_email_decides;

@@ -11,8 +11,6 @@ mod mailboxes;
 mod numbers;
 mod rising;
 mod roots;
-#[cfg(test)]
-mod tests;
 mod threads;
 
 pub use content::is_tidy;

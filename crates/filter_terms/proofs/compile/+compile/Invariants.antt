@@ -2,8 +2,8 @@ use Rattle.std.proofs.Common.{◌≡◌, ◌+◌, ◌*◌, ◌++◌, map, drop}
 use Rattle.jm_json.specs.Tree.{trees_of, fields_of}
 use Rattle.jm_json.specs.Size.{size_of, trees_size, fields_size}
 use Rattle.jm_json.specs.Json.{tree_of, member_of}
-use Rattle.filter_terms.specs.Filters.{conditions_say, items_say}
-use Rattle.filter_terms.specs.Compiled.{say_all}
+use Rattle.filter_terms.specs.Filters.{conditions_match, items_match}
+use Rattle.filter_terms.specs.Compiled.{match_each}
 use Rattle.filter_terms.specs.Targets.{Target}
 use Rattle.filter_terms.proofs.compile.+compile.Given as goal
 
@@ -24,8 +24,8 @@ decreases-compile_items l = 4 * trees_size (trees_of (map tree_of l.items.now)) 
 
 abbrev pub invariant-compile_conditions-loop-member : goal.invariant-compile_conditions-loop-member
 invariant-compile_conditions-loop-member l =
-    (x : Target) → conditions_say l.kind x (fields_of (map member_of (drop l.member-index l.members))) ≡ conditions_say l.kind x (fields_of (map member_of l.members))
+    (x : Target) → conditions_match l.kind x (fields_of (map member_of (drop l.member-index l.members))) ≡ conditions_match l.kind x (fields_of (map member_of l.members))
 
 abbrev pub invariant-compile_items-loop-item : goal.invariant-compile_items-loop-item
 invariant-compile_items-loop-item l =
-    (x : Target) → say_all l.all.items x ++ items_say l.kind x (trees_of (map tree_of (drop l.item-index l.items))) ≡ items_say l.kind x (trees_of (map tree_of l.items))
+    (x : Target) → match_each l.all.items x ++ items_match l.kind x (trees_of (map tree_of (drop l.item-index l.items))) ≡ items_match l.kind x (trees_of (map tree_of l.items))

@@ -1,13 +1,15 @@
-use Rattle.std.proofs.Common.{◌≡◌, drop}
-use Rattle.std.specs.List.{list_any, list_all}
-use Rattle.filter_terms.specs.Compiled.{say_all}
-use Rattle.filter_terms.specs.Targets.{AnEmail, seen_in}
+use Rattle.std.proofs.Common.{◌≡◌, ℕ, drop}
+use Rattle.filter_terms.specs.Compiled.{match_each, all_true, some_true}
+use Rattle.filter_terms.specs.Targets.{AnEmail, email_in_thread}
+use Rattle.filter_terms.specs.Texts.{MessageTexts}
 use Rattle.filter_terms.proofs.compiled.+email_holds.Given as goal
 
 abbrev pub invariant-all_hold-loop-item : goal.invariant-all_hold-loop-item
 invariant-all_hold-loop-item o l =
-    list_all (λ c. c) (say_all (drop l.item-index l.items) (AnEmail (o.T.Texts2.texts l.texts) (seen_in l.content.content.emails l.email))) ≡ list_all (λ c. c) (say_all l.items (AnEmail (o.T.Texts2.texts l.texts) (seen_in l.content.content.emails l.email)))
+    (o.M.OpenedMessage.contents l.message ≡ o.M.OpenedMessage.contents l.initial.message)
+    × ((texts : ℕ → MessageTexts) → texts l.email.blob ≡ o.M.OpenedMessage.contents l.initial.message → all_true (match_each (drop l.item-index l.items) (AnEmail texts (email_in_thread l.content.content.emails l.email))) ≡ all_true (match_each l.items (AnEmail texts (email_in_thread l.content.content.emails l.email))))
 
 abbrev pub invariant-some_holds-loop-item : goal.invariant-some_holds-loop-item
 invariant-some_holds-loop-item o l =
-    list_any (λ c. c) (say_all (drop l.item-index l.items) (AnEmail (o.T.Texts2.texts l.texts) (seen_in l.content.content.emails l.email))) ≡ list_any (λ c. c) (say_all l.items (AnEmail (o.T.Texts2.texts l.texts) (seen_in l.content.content.emails l.email)))
+    (o.M.OpenedMessage.contents l.message ≡ o.M.OpenedMessage.contents l.initial.message)
+    × ((texts : ℕ → MessageTexts) → texts l.email.blob ≡ o.M.OpenedMessage.contents l.initial.message → some_true (match_each (drop l.item-index l.items) (AnEmail texts (email_in_thread l.content.content.emails l.email))) ≡ some_true (match_each l.items (AnEmail texts (email_in_thread l.content.content.emails l.email))))

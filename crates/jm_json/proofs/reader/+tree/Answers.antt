@@ -16,15 +16,15 @@ items_from-returns-clause-ok t c =
     let e : map data_of c.loop-i.items ≡ map view.view c.args.values.now.items = grind (arith, common_steps) in
     items_as_list c.loop-i.items ∙ ap view.items_of e
 
-pub members_from-push-requires : goal.members_from-push-requires
-members_from-push-requires t c =
+pub members_from-push_named-requires : goal.members_from-push_named-requires
+members_from-push_named-requires t c =
     let l = c.loop-name in
     let done = l.invariant.0 in
     let e : Entry = (c.in-Some.name.now, c.in-Some.value.now) in
     let left = c.next.new.self in
     let all : c.args.values.now.entries ≡ done ++ e ∷ left = l.invariant.1 ∙ ap (λ es. done ++ es) c.in-Some.ensures.steps in
-    let named : c.in_ok-from_str-in-Ok.field-0 ≡ string_bytes e.0 = search rules in
-    rises _ (done ++ e ∷ []) left (pairs_more l.members done c.in_ok-from_str-in-Ok.field-0 (tree_of c.in-Ok.tree) e l.invariant.2 named c.in-Ok.ensures.ok)
+    let named : c.as_str.result.now ≡ string_bytes e.0 = search rules in
+    rises _ (done ++ e ∷ []) left (pairs_more l.members done c.as_str.result.now (tree_of c.in-Ok.tree) e l.invariant.2 named c.in-Ok.ensures.ok)
     (subst (λ es. IsStrictlySortedBy string_cmp (keys_of es)) (all ∙ sym (append_assoc done (e ∷ []) left)) c.iter-name-items.ensures.ordered)
 
 pub members_from-loop-name-preserved : goal.members_from-loop-name-preserved
@@ -34,10 +34,10 @@ members_from-loop-name-preserved t c =
     let e : Entry = (c.in-Some.name.now, c.in-Some.value.now) in
     let left = c.next.new.self in
     let all : c.args.values.now.entries ≡ done ++ e ∷ left = l.invariant.1 ∙ ap (λ es. done ++ es) c.in-Some.ensures.steps in
-    let named : c.in_ok-from_str-in-Ok.field-0 ≡ string_bytes e.0 = search rules in (
+    let named : c.as_str.result.now ≡ string_bytes e.0 = search rules in (
       done ++ e ∷ [],
       all ∙ sym (append_assoc done (e ∷ []) left),
-      ap (map pair_of) c.in_ok-push-in-Ok.ensures.ok ∙ pairs_more l.members done c.in_ok-from_str-in-Ok.field-0 (tree_of c.in-Ok.tree) e l.invariant.2 named c.in-Ok.ensures.ok,
+      ap (map pair_of) c.in_ok-push_named-in-Ok.ensures ∙ pairs_more l.members done c.as_str.result.now (tree_of c.in-Ok.tree) e l.invariant.2 named c.in-Ok.ensures.ok,
       l.invariant.3 ∙ ap (λ es. first_invalid_member (view.members_view es)) c.in-Some.ensures.steps ∙ rw c.in-Ok.ensures.whole refl,
     )
 

@@ -2,8 +2,8 @@ use Rattle.std.proofs.Common.{length, sym, arith}
 use Rattle.mail_view.proofs.TreeFacts.{part_size, placed_part}
 use Rattle.message_texts.proofs.bodies.+bodies.Goals as goal
 
-pub some_part_contains-part_contains-requires : goal.some_part_contains-part_contains-requires
-some_part_contains-part_contains-requires t c =
+pub push_all_texts-push_texts-requires : goal.push_all_texts-push_texts-requires
+push_all_texts-push_texts-requires t c =
     let size = rw (sym c.part-item.is) at (part_size c.args.parts.now c.loop-part.part-index c.part-item.result (omega arith)) in
     let placed = rw (sym c.part-item.is) at (placed_part (length c.args.bytes.now) c.args.parts.now c.loop-part.part-index c.part-item.result (omega arith) c.requires) in
     (omega (arith, size, c.decreases), placed)

@@ -6,5 +6,6 @@ use Rattle.message_texts.proofs.headers.named_fields_contain.Given as goal
 
 abbrev pub invariant-loop-name : goal.invariant-loop-name
 invariant-loop-name l =
-    list_any (λ (name : Bor (List ℕ)). list_any (λ f. field_has l.bytes name.now l.needle f) l.fields) (drop l.name-index l.names)
-    ≡ list_any (λ (name : Bor (List ℕ)). list_any (λ f. field_has l.bytes name.now l.needle f) l.fields) l.names
+    (l.fields ≡ l.initial.fields)
+    × (list_any (λ (name : Bor (List ℕ)). list_any (λ f. field_has name.now l.needle f) l.initial.fields) (drop l.name-index l.names)
+    ≡ list_any (λ (name : Bor (List ℕ)). list_any (λ f. field_has name.now l.needle f) l.initial.fields) l.names)

@@ -1,25 +1,26 @@
-use Rattle.std.proofs.Common.{◌≡◌, option_map, ap, ◌∙◌}
+use Rattle.std.proofs.Common.{◌≡◌, IfOk, option_map, subst}
 use Rattle.mime_type.specs.Grammar.{Kind}
 use Rattle.mime_type.specs.Content.{type_of, disposition_of, charset_of, boundary_of, media_of, name_of}
-use Rattle.mime_type.specs.Head.{kind_in, shown_in}
-use Rattle.mime_type.specs.Views.{kind_of}
+use Rattle.mime_type.specs.Head.{kind_in}
 use Rattle.mime_type.proofs.head.read_content.Goals as goal
 
 pub returns-clause-media : goal.returns-clause-media
-returns-clause-media c = c.in_ok-read_media.ensures ∙ ap media_of (c.in_ok-kind.ensures.value ∙ ap (type_of c.args.digest) c.in_ok-kind_text.ensures)
+returns-clause-media c =
+    subst (λ t. IfOk c.read_kinds.result (λ x. x.media ≡ media_of (type_of c.args.digest t))) c.in_ok-kind_text.ensures c.read_kinds.ensures.media
 
 pub returns-clause-charset : goal.returns-clause-charset
-returns-clause-charset c = c.in_ok-read_charset.ensures ∙ ap charset_of (c.in_ok-kind.ensures.value ∙ ap (type_of c.args.digest) c.in_ok-kind_text.ensures)
+returns-clause-charset c =
+    subst (λ t. IfOk c.read_kinds.result (λ x. x.charset ≡ charset_of (type_of c.args.digest t))) c.in_ok-kind_text.ensures c.read_kinds.ensures.charset
 
 pub returns-clause-boundary : goal.returns-clause-boundary
-returns-clause-boundary c = c.in_ok-boundary.ensures ∙ ap boundary_of (c.in_ok-kind.ensures.value ∙ ap (type_of c.args.digest) c.in_ok-kind_text.ensures)
+returns-clause-boundary c =
+    subst (λ t. IfOk c.read_kinds.result (λ x. x.boundary ≡ boundary_of (type_of c.args.digest t))) c.in_ok-kind_text.ensures c.read_kinds.ensures.boundary
 
 pub returns-clause-disposition : goal.returns-clause-disposition
 returns-clause-disposition c =
-    c.read_shown.ensures ∙ ap (option_map (λ (k : Kind). k.kind)) (c.in_ok-shown.ensures.value ∙ ap disposition_of c.in_ok-shown_text.ensures)
+    subst (λ t. IfOk c.read_kinds.result (λ x. x.disposition ≡ option_map (λ (k : Kind). k.kind) (disposition_of t))) c.in_ok-shown_text.ensures c.read_kinds.ensures.disposition
 
 pub returns-clause-name : goal.returns-clause-name
 returns-clause-name c =
-    let kind : kind_of c.in_ok-kind.kind ≡ kind_in c.args.digest c.args.bytes.now = c.in_ok-kind.ensures.value ∙ ap (type_of c.args.digest) c.in_ok-kind_text.ensures in
-    let shown : option_map kind_of c.in_ok-shown.shown ≡ shown_in c.args.bytes.now = c.in_ok-shown.ensures.value ∙ ap disposition_of c.in_ok-shown_text.ensures in
-    c.in_ok-read_name.ensures ∙ ap (name_of (option_map kind_of c.in_ok-shown.shown)) kind ∙ ap (λ s. name_of s (kind_in c.args.digest c.args.bytes.now)) shown
+    subst (λ t. IfOk c.read_kinds.result (λ x. x.name ≡ name_of (disposition_of t) (kind_in c.args.digest c.args.bytes.now))) c.in_ok-shown_text.ensures
+    (subst (λ t. IfOk c.read_kinds.result (λ x. x.name ≡ name_of (disposition_of c.in_ok-shown_text.shown_text) (type_of c.args.digest t))) c.in_ok-kind_text.ensures c.read_kinds.ensures.name)

@@ -1,0 +1,13 @@
+pub mod Escapes
+pub mod Entering
+pub mod Refiling
+pub mod Found
+pub mod Lasting
+pub mod Naming
+pub mod PathParts
+pub mod Destroying
+pub mod Stepping
+pub mod Planning
+pub mod Promising
+pub mod Results
+pub mod EmailSteps

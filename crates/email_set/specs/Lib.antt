@@ -1,0 +1,4 @@
+pub mod Patches
+pub mod Emails
+pub mod Plans
+pub mod Views

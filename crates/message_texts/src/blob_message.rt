@@ -1,0 +1,141 @@
+// A message in a blob, of which each field and each body is decoded at most once.
+ghost use Rattle.std.specs.Prelude.{◌≡◌, ◌==◌, not, IfOk, length};
+ghost use Rattle.std.specs.List.{list_any};
+ghost use Rattle.mime_tree.specs.PartLimit.{parts_of, walked};
+ghost use Rattle.filter_terms.specs.Contains.{some_contains};
+ghost use Rattle.filter_terms.specs.Texts.{has_text};
+ghost use Rattle.filter_terms.specs.declared.texts.Place.TheVariants as at;
+ghost use Rattle.message_texts.specs.Texts.{field_texts, main_texts, message_texts, part_texts};
+
+use crate::bodies::{read_bodies, some_contains};
+use crate::header_field::HeaderField;
+use crate::headers::{header_fields, is_any_named, named_fields_contain};
+use filter_terms::{OpenedMessage, Place};
+use jm_base::{NoMemory, Texts};
+use std::alloc::Global;
+use std::marker::Model;
+
+/// A message that was opened: the fields of its header, and the texts of its text parts once a
+/// condition looked at them. Contracts see the bytes of the message.
+#[derive(Drop)]
+pub struct BlobMessage<'a> {
+    alloc: Global,
+    bytes: &'a [u8],
+    fields: Vec<HeaderField<'a>>,
+    bodies: Option<Texts>,
+}
+
+impl<'a> Model for BlobMessage<'a> {
+    ghost use Rattle.std.specs.Prelude.{List, ℕ};
+
+    ghost Value = { List ℕ };
+
+    ghost use Rattle.message_texts.specs.Opened.{IsOpened};
+
+    ghost view = { λ m. m.bytes.now };
+
+    ghost invariant = { λ m. IsOpened m.bytes.now m.fields.items m.bodies };
+}
+
+/// Opens the message with these bytes: finds the fields of its header, and decodes nothing.
+pub(crate) fn open_message<'a>(alloc: Global, bytes: &'a [u8]) -> Result<BlobMessage<'a>, NoMemory>
+    ensures { IfOk result (λ m. m ≡ bytes.now) }
+{
+    let fields = header_fields(alloc, bytes)?;
+    Ok(BlobMessage {
+        alloc,
+        bytes,
+        fields,
+        bodies: None,
+    })
+}
+
+impl<'a> BlobMessage<'a> {
+    // Returns whether a header field of one of these names contains the needle. No body is read.
+    fn header_contains(&mut self, names: &[&[u8]], needle: &[u8]) -> Result<bool, NoMemory>
+        ensures value { IfOk result (λ b. b ≡ list_any
+            (λ name. some_contains needle.now (field_texts self.old name.now)) names.now) }
+        ensures same { self.new ≡ self.old }
+    {
+        named_fields_contain(self.alloc, self.fields.as_mut_slice(), names, needle)
+    }
+
+    // Returns whether there is a header field of this name. No value is decoded.
+    #[tactic(auto, using(crate::proofs::Found::some_field_named))]
+    fn has_field(&self, name: &[u8]) -> bool
+        ensures { result ≡ not (length (field_texts self.now name.now) == 0) }
+    {
+        is_any_named(self.fields.as_slice(), name)
+    }
+
+    // Returns whether a text part contains the needle. The bodies are decoded the first time.
+    fn body_contains(&mut self, needle: &[u8]) -> Result<bool, NoMemory>
+        ensures value { IfOk result (λ b. b ≡ some_contains needle.now
+            (part_texts self.old (walked (parts_of self.old)))) }
+        ensures same { self.new ≡ self.old }
+    {
+        if let Some(texts) = &self.bodies {
+            return Ok(some_contains(texts.as_slice(), needle));
+        }
+        let texts = read_bodies(self.alloc, self.bytes)?;
+        let found = some_contains(texts.as_slice(), needle);
+        self.bodies = Some(texts);
+        Ok(found)
+    }
+
+    // Returns whether a header field that the condition `text` looks at contains the needle.
+    fn main_fields_contain(&mut self, needle: &[u8]) -> Result<bool, NoMemory>
+        ensures value { IfOk result (λ b. b ≡ some_contains needle.now
+            (main_texts (message_texts self.old))) }
+        ensures same { self.new ≡ self.old }
+    {
+        let names = [
+            b"From".as_slice(),
+            b"To".as_slice(),
+            b"Cc".as_slice(),
+            b"Bcc".as_slice(),
+            b"Subject".as_slice(),
+        ];
+        self.header_contains(&names, needle)
+    }
+
+    // Returns whether one of the texts of all places contains the needle. The bodies are read only
+    // if no header field contains it.
+    fn text_contains(&mut self, needle: &[u8]) -> Result<bool, NoMemory>
+        ensures value { IfOk result (λ b. b ≡ has_text (message_texts self.old) at.Text
+            needle.now) }
+        ensures same { self.new ≡ self.old }
+    {
+        if self.main_fields_contain(needle)? {
+            return Ok(true);
+        }
+        self.body_contains(needle)
+    }
+}
+
+impl OpenedMessage for BlobMessage<'_> {
+    ghost use Rattle.message_texts.specs.Texts.{message_texts};
+
+    ghost contents = { λ m. message_texts m };
+
+    #[tactic(auto, using(crate::proofs::Found::or_false))]
+    fn has(&mut self, place: Place, needle: &[u8]) -> Result<bool, NoMemory> {
+        match place {
+            Place::From => self.header_contains(&[b"From".as_slice()], needle),
+            Place::To => self.header_contains(&[b"To".as_slice()], needle),
+            Place::Cc => self.header_contains(&[b"Cc".as_slice()], needle),
+            Place::Bcc => self.header_contains(&[b"Bcc".as_slice()], needle),
+            Place::Subject => self.header_contains(&[b"Subject".as_slice()], needle),
+            Place::Body => self.body_contains(needle),
+            Place::Text => self.text_contains(needle),
+        }
+    }
+
+    #[tactic(auto, using(crate::proofs::Found::or_false))]
+    fn field(&mut self, name: &[u8], needle: Option<&[u8]>) -> Result<bool, NoMemory> {
+        match needle {
+            Some(needle) => self.header_contains(&[name], needle),
+            None => Ok(self.has_field(name)),
+        }
+    }
+}

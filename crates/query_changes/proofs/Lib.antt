@@ -1,0 +1,7 @@
+pub mod Stays
+pub mod Untouched
+pub mod Touching
+pub mod UpToDate
+pub mod ThreadMembers
+pub mod Finding
+pub mod States

@@ -1,0 +1,28 @@
+use Rattle.std.proofs.Common.{ℕ, List, sym, subst, ◌∙◌}
+use Rattle.jm_base.specs.declared.identifiers.Kind.{Kind}
+use Rattle.mail_records.specs.States.{AreNamed, ids_between}
+use Rattle.state_log.specs.Logs.{ids_in}
+use Rattle.query_changes.proofs.Finding.{narrow_touched, wide_touched}
+use Rattle.query_changes.proofs.touched.find_touched.Goals as goal
+
+pub returns-then-looks_at_threads-clause-touched : goal.returns-then-looks_at_threads-clause-touched
+returns-then-looks_at_threads-clause-touched c =
+    let l = c.args.log.now in
+    let ids = ids_between l.floor c.args.from c.end-end.result (ids_in l.notes) in
+    let named : AreNamed c.args.query.now.kind ids c.into_vec-numbers.result.items =
+    subst (λ (ns : List ℕ). AreNamed c.args.query.now.kind ids ns) (sym c.into_vec-numbers.ensures)
+    (subst (λ (k : Kind). AreNamed k ids c.in_ok-named.named) c.kind.ensures c.in_ok-named.ensures) in
+    λ h are.
+    wide_touched h l c.args.content.now.content c.args.query.now c.args.from c.end-end.result c.notes_between.result.now c.into_vec-numbers.result.items c.add_threads.new.numbers.items
+    are c.end-end.ensures (sym c.looks_at_threads.ensures ∙ c.if-looks_at_threads.true) c.notes_between.ensures named c.in_ok-add_threads.ensures.rise c.in_ok-add_threads.ensures.same
+
+pub returns-clause-touched : goal.returns-clause-touched
+returns-clause-touched c =
+    let l = c.args.log.now in
+    let ids = ids_between l.floor c.args.from c.end-end.result (ids_in l.notes) in
+    let named : AreNamed c.args.query.now.kind ids c.into_vec-numbers.result.items =
+    subst (λ (ns : List ℕ). AreNamed c.args.query.now.kind ids ns) (sym c.into_vec-numbers.ensures)
+    (subst (λ (k : Kind). AreNamed k ids c.in_ok-named.named) c.kind.ensures c.in_ok-named.ensures) in
+    λ h are.
+    narrow_touched h l c.args.content.now.content c.args.query.now c.args.from c.end-end.result c.into_vec-numbers.result.items
+    are c.end-end.ensures (sym c.looks_at_threads.ensures ∙ c.if-looks_at_threads.false) named

@@ -1,0 +1,4 @@
+pub mod Values
+pub mod Configuration
+pub mod BadPlaces
+pub mod Lookups

@@ -1,0 +1,229 @@
+use jm_base::{Bytes, NoMemory, Numbers};
+use jm_edge::{
+    Arrival, Clock, CountingGate, EdgeFault, Failed, Gate, Link, MemoryClock, MemoryLink,
+    MemorySink, MemorySocket, MemorySource, MessageLink, NoGate, Reading, Script, Sent, Sink,
+    Source, Writing, put_all, put_to_link,
+};
+use std::alloc::Global;
+use std::collections::VecDeque;
+use std::io::{self, Read, Write};
+use std::test::Fail;
+
+// A reader and a writer that take at most so many bytes a call, and fail when their calls are used
+// up.
+#[derive(Drop)]
+struct Slow {
+    held: Vec<u8>,
+    most: usize,
+    calls: u8,
+}
+
+impl Slow {
+    fn turn(&mut self, len: usize) -> io::Result<usize> {
+        if self.calls == 0 {
+            return Err(io::Error::from(io::ErrorKind::WouldBlock));
+        }
+        self.calls -= 1;
+        Ok(len.min(self.most))
+    }
+}
+
+impl Write for Slow {
+    fn write(&mut self, piece: &[u8]) -> io::Result<usize> {
+        let count = self.turn(piece.len())?.min(piece.len());
+        self.held.extend_from_slice(&piece[..count])?;
+        Ok(count)
+    }
+
+    fn flush(&mut self) -> io::Result<()> {
+        Ok(())
+    }
+}
+
+impl Read for Slow {
+    fn read(&mut self, room: &mut [u8]) -> io::Result<usize> {
+        let count = self.turn(room.len())?.min(room.len());
+        room[..count].fill(b'x');
+        Ok(count)
+    }
+}
+
+#[test]
+fn reads_in_pieces_and_fails_once(rt: HostRuntime) -> Result<(), Fail> {
+    let mut fails = Numbers::new(rt.alloc());
+    fails.push(2)?;
+    let mut source = MemorySource::in_pieces(b"abcde".to_vec(rt.alloc())?, 3, fails);
+    let mut room = [0u8; 8];
+    assert_eq!(rt; source.read(&mut room), Ok(3));
+    assert_eq!(rt; source.read(&mut room), Err(Failed));
+    assert_eq!(rt; source.read(&mut room), Ok(2));
+    assert_eq!(rt; &room[..3], b"dec".as_slice());
+    assert_eq!(rt; source.read(&mut room), Ok(0));
+    Ok(())
+}
+
+#[test]
+fn writes_all_until_a_fault(rt: HostRuntime) -> Result<(), Fail> {
+    let mut fails = Numbers::new(rt.alloc());
+    fails.push(2)?;
+    let mut sink = MemorySink::failing(rt.alloc(), fails);
+    assert_eq!(rt; put_all(&mut sink, b"ab"), Ok(()));
+    assert_eq!(rt; put_all(&mut sink, b"cd"), Err(Failed));
+    assert_eq!(rt; put_all(&mut sink, b"ef"), Ok(()));
+    assert_eq!(rt; sink.bytes(), b"abef".as_slice());
+    Ok(())
+}
+
+#[test]
+fn puts_all_through_a_writer_that_takes_a_front(rt: HostRuntime) -> Result<(), Fail> {
+    let held = Vec::new(rt.alloc());
+    let mut slow = Slow {
+        held,
+        most: 2,
+        calls: 3,
+    };
+    let mut sink = Writing::new(&mut slow);
+    assert_eq!(rt; put_all(&mut sink, b"abc"), Ok(()));
+    assert_eq!(rt; put_all(&mut sink, b"def"), Err(Failed));
+    assert_eq!(rt; slow.held.as_slice(), b"abcde".as_slice());
+    let mut nothing = Writing::new(Slow {
+        held: Vec::new(rt.alloc()),
+        most: 0,
+        calls: 9,
+    });
+    assert_eq!(rt; put_all(&mut nothing, b"a"), Err(Failed));
+    Ok(())
+}
+
+#[test]
+fn reads_until_a_reader_fails(rt: HostRuntime) -> Result<(), Fail> {
+    let mut source = Reading::new(Slow {
+        held: Vec::new(rt.alloc()),
+        most: 2,
+        calls: 1,
+    });
+    let mut room = [0u8; 3];
+    assert_eq!(rt; source.read(&mut room), Ok(2));
+    assert_eq!(rt; &room[..2], b"xx".as_slice());
+    assert_eq!(rt; source.read(&mut room), Err(Failed));
+    Ok(())
+}
+
+#[test]
+fn a_link_reads_and_writes_apart(rt: HostRuntime) -> Result<(), Fail> {
+    let alloc = rt.alloc();
+    let (mut sizes, mut reads, mut writes) = (
+        Numbers::new(alloc),
+        Numbers::new(alloc),
+        Numbers::new(alloc),
+    );
+    sizes.push(1)?;
+    sizes.push(0)?;
+    reads.push(3)?;
+    writes.push(2)?;
+    let input = MemorySource::in_sizes(b"abcdef".to_vec(alloc)?, sizes, 3, reads);
+    let mut link = MemoryLink::new(input, MemorySink::failing(alloc, writes));
+    let mut room = [0u8; 8];
+    // calls of one byte, of one (a size of 0 counts as 1), one that fails, and of three
+    for read in [Ok(1), Ok(1), Err(Failed), Ok(3), Ok(1), Ok(0)] {
+        assert_eq!(rt; link.read(&mut room), read);
+    }
+    assert_eq!(rt; put_to_link(&mut link, b"ab"), Ok(()));
+    assert_eq!(rt; put_to_link(&mut link, b"cd"), Err(Failed));
+    assert_eq!(rt; put_to_link(&mut link, b"ef"), Ok(()));
+    assert_eq!(rt; link.bytes(), b"abef".as_slice());
+    Ok(())
+}
+
+#[test]
+fn a_clock_shows_its_times(rt: HostRuntime) -> Result<(), Fail> {
+    let mut times = Numbers::new(rt.alloc());
+    times.push(7)?;
+    times.push(u64::MAX)?;
+    let mut clock = MemoryClock::new(times, 9);
+    for time in [7, 253_402_300_799, 9, 9] {
+        assert_eq!(rt; clock.now(), time);
+    }
+    Ok(())
+}
+
+#[test]
+fn a_gate_is_counted(rt: HostRuntime) -> Result<(), Fail> {
+    let gate = CountingGate::new();
+    gate.pass(1);
+    gate.pass(2);
+    NoGate.pass(3);
+    assert_eq!(rt; gate.count(), 2);
+    Ok(())
+}
+
+// A socket of a link to which "a" was written, with the early bytes "e". A text, a quiet look and a
+// binary message are to come; the second look and the second call that sends fail.
+fn make_socket(alloc: Global) -> Result<MemorySocket, NoMemory> {
+    let (mut look_fails, mut send_fails) = (Numbers::new(alloc), Numbers::new(alloc));
+    look_fails.push(2)?;
+    send_fails.push(2)?;
+    let mut coming = VecDeque::new(alloc);
+    coming.push_back(Arrival::Text(Bytes::from_slice(alloc, b"t")?))?;
+    coming.push_back(Arrival::Quiet)?;
+    coming.push_back(Arrival::Binary)?;
+    let script = Script {
+        coming,
+        look_fails,
+        send_fails,
+    };
+    let input = MemorySource::new(alloc, Vec::new(alloc));
+    let mut link = MemoryLink::with_script(input, MemorySink::new(alloc), script);
+    if put_to_link(&mut link, b"a").is_err() {
+        return Err(NoMemory);
+    }
+    link.upgrade(alloc, Bytes::from_slice(alloc, b"e")?)
+}
+
+// The name of what a look found.
+fn name_of(found: &Result<Arrival, EdgeFault>) -> &'static str {
+    match found {
+        Ok(Arrival::Text(text)) => if text.as_slice() == b"t".as_slice() {
+            "text t"
+        } else {
+            "text"
+        },
+        Ok(Arrival::Binary) => "binary",
+        Ok(Arrival::Closed) => "closed",
+        Ok(Arrival::Quiet) => "quiet",
+        Err(EdgeFault::Failed) => "failed",
+        Err(EdgeFault::NoMemory) => "no memory",
+    }
+}
+
+#[test]
+fn a_socket_shows_what_is_to_come(rt: HostRuntime) -> Result<(), Fail> {
+    let mut socket = make_socket(rt.alloc())?;
+    for found in ["text t", "failed", "quiet", "binary", "closed", "closed"] {
+        assert_eq!(rt; name_of(&socket.next(rt.alloc())), found);
+    }
+    assert_eq!(rt; socket.link_bytes(), b"a".as_slice());
+    assert_eq!(rt; socket.early(), b"e".as_slice());
+    Ok(())
+}
+
+// The code of a close, the first byte of a text.
+fn code_of(sent: &Sent) -> u16 {
+    match sent {
+        Sent::Text(text) => text.as_slice().first().map_or(0, |b| *b as u16),
+        Sent::Close(code) => *code,
+    }
+}
+
+#[test]
+fn a_socket_keeps_what_is_sent(rt: HostRuntime) -> Result<(), Fail> {
+    let mut socket = make_socket(rt.alloc())?;
+    assert_eq!(rt; socket.send(rt.alloc(), b"x"), Ok(()));
+    assert_eq!(rt; socket.send(rt.alloc(), b"y"), Err(EdgeFault::Failed));
+    assert_eq!(rt; socket.close(rt.alloc(), 1003), Ok(()));
+    assert_eq!(rt; socket.sent().len(), 2);
+    for (i, sent) in socket.sent().iter().enumerate() {
+        assert_eq!(rt; code_of(sent), [120, 1003][i.min(1)]);
+    }
+    Ok(())
+}

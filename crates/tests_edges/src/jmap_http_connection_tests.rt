@@ -1,0 +1,147 @@
+// Connections in memory. The expected bytes are those of the rules in docs/rules/http.md.
+use crate::jmap_http_tests::{Shows, read_all};
+use jm_base::Numbers;
+use jm_edge::{CountingGate, MemoryClock, MemoryLink, MemorySink, MemorySource};
+use jmap_http::{Served, serve_requests};
+use server_users::Users;
+use std::alloc::{AllocError, Global};
+use std::test::Fail;
+
+const UNKNOWN: &str = "HTTP/1.1 401 Unauthorized\r\nContent-Type: application/problem+json\r\n\
+    Content-Length: 35\r\nCache-Control: no-store\r\nWWW-Authenticate: Bearer\r\n\r\n\
+    {\"status\":401,\"type\":\"about:blank\"}";
+
+const UNKNOWN_LAST: &str = "HTTP/1.1 401 Unauthorized\r\nContent-Type: application/problem+json\r\n\
+    Content-Length: 35\r\nCache-Control: no-store\r\nWWW-Authenticate: Bearer\r\n\
+    Connection: close\r\n\r\n{\"status\":401,\"type\":\"about:blank\"}";
+
+const EMPTY: &str = "HTTP/1.1 200 OK\r\nContent-Type: application/json\r\nContent-Length: 41\r\n\
+    Cache-Control: no-store\r\n\r\n{\"methodResponses\":[],\"sessionState\":\"0\"}";
+
+const CONTINUED: &str = "HTTP/1.1 100 Continue\r\n\r\n\
+    HTTP/1.1 200 OK\r\nContent-Type: application/json\r\nContent-Length: 41\r\n\
+    Cache-Control: no-store\r\nConnection: close\r\n\r\n\
+    {\"methodResponses\":[],\"sessionState\":\"0\"}";
+
+const TWO: &str = "HTTP/1.1 401 Unauthorized\r\nContent-Type: application/problem+json\r\n\
+    Content-Length: 35\r\nCache-Control: no-store\r\nWWW-Authenticate: Bearer\r\n\r\n\
+    {\"status\":401,\"type\":\"about:blank\"}\
+    HTTP/1.1 200 OK\r\nContent-Type: application/json\r\nContent-Length: 41\r\n\
+    Cache-Control: no-store\r\n\r\n{\"methodResponses\":[],\"sessionState\":\"0\"}";
+
+const INVALID: &str = "HTTP/1.1 400 Bad Request\r\nContent-Type: application/problem+json\r\n\
+    Content-Length: 35\r\nCache-Control: no-store\r\nConnection: close\r\n\r\n\
+    {\"status\":400,\"type\":\"about:blank\"}";
+
+const TOO_LONG: &str = "HTTP/1.1 413 Content Too Large\r\n\
+    Content-Type: application/problem+json\r\nContent-Length: 80\r\nCache-Control: no-store\r\n\
+    Connection: close\r\n\r\n\
+    {\"limit\":\"maxSizeUpload\",\"status\":413,\"type\":\"urn:ietf:params:jmap:error:limit\"}";
+
+// What is read, what is written for it, and how the connection ends.
+const CONNECTIONS: [(&str, &str, Served); 9] = [
+    (
+        "GET /.well-known/jmap HTTP/1.1\r\nHost: h\r\n\r\n",
+        UNKNOWN,
+        Served::End,
+    ),
+    ("GET / HT", "", Served::CutOff(8)),
+    (
+        "POST /jmap/api HTTP/1.1\r\nHost: h\r\nAuthorization: Bearer t\r\nContent-Length: 29\r\n\r\n{\"using\":[],\"methodCalls\":[]}",
+        EMPTY,
+        Served::End,
+    ),
+    (
+        "POST /jmap/api HTTP/1.1\r\nHost: h\r\nAuthorization: Bearer t\r\nTransfer-Encoding: chunked\r\n\r\n1d\r\n{\"using\":[],\"methodCalls\":[]}\r\n0\r\n\r\n",
+        EMPTY,
+        Served::End,
+    ),
+    (
+        "POST /jmap/api HTTP/1.1\r\nHost: h\r\nContent-Length: 29\r\nTransfer-Encoding: chunked\r\n\r\n",
+        INVALID,
+        Served::Refused(400),
+    ),
+    (
+        "GET / HTTP/1.0\r\nHost: h\r\n\r\nGET / HTTP/1.1\r\n",
+        UNKNOWN_LAST,
+        Served::End,
+    ),
+    (
+        "POST /jmap/api HTTP/1.1\r\nHost: h\r\nAuthorization: Bearer t\r\nExpect: 100-continue\r\nConnection: close\r\nContent-Length: 29\r\n\r\n{\"using\":[],\"methodCalls\":[]}GET",
+        CONTINUED,
+        Served::End,
+    ),
+    (
+        "GET / HTTP/1.1\r\nHost: h\r\n\r\nPOST /jmap/api HTTP/1.1\r\nHost: h\r\nAuthorization: Bearer t\r\nContent-Length: 29\r\n\r\n{\"using\":[],\"methodCalls\":[]}\r\n",
+        TWO,
+        Served::End,
+    ),
+    (
+        "POST /jmap/upload/A1/ HTTP/1.1\r\nHost: h\r\nContent-Length: 50000001\r\n\r\n",
+        TOO_LONG,
+        Served::Refused(413),
+    ),
+];
+
+// What was written, and how the connection ended.
+#[derive(Drop)]
+struct Outcome {
+    written: String,
+    served: Served,
+}
+
+// Serves a connection of these bytes, of which the first read takes so many.
+fn serve_cut(alloc: Global, users: &Users, text: &str, first: u64) -> Result<Outcome, AllocError> {
+    let mut sizes = Vec::new(alloc);
+    sizes.push(first)?;
+    let bytes = text.as_bytes().to_vec(alloc)?;
+    let sizes = Numbers::from_vec(sizes);
+    let input = MemorySource::in_sizes(bytes, sizes, 64, Numbers::new(alloc));
+    let mut link = MemoryLink::new(input, MemorySink::new(alloc));
+    let mut clock = MemoryClock::new(Numbers::new(alloc), 5);
+    let mut port = Shows { user: 0, time: 0 };
+    let gate = CountingGate::new();
+    let served = serve_requests(alloc, users, &mut port, &mut link, &mut clock, &gate);
+    let written = String::from_utf8_lossy(alloc, link.bytes())?;
+    Ok(Outcome { written, served })
+}
+
+#[test]
+fn connections_are_served_however_they_are_cut(rt: HostRuntime) -> Result<(), Fail> {
+    let users = read_all(rt.alloc())?;
+    for (text, want, served) in CONNECTIONS {
+        for first in [1, 30, 4096] {
+            let got = serve_cut(rt.alloc(), &users, text, first)?;
+            assert_eq!(rt; got.written.as_str(), want, "at {text}");
+            assert_eq!(rt; got.served, served, "at {text}");
+        }
+    }
+    Ok(())
+}
+
+// Returns the bytes of so many requests without a token.
+fn write_requests(alloc: Global, count: u64) -> Result<Vec<u8>, AllocError> {
+    let mut bytes = Vec::new(alloc);
+    for _ in 0..count {
+        bytes.extend_from_slice(b"GET / HTTP/1.1\r\nHost: h\r\n\r\n")?;
+    }
+    Ok(bytes)
+}
+
+#[test]
+fn the_thousandth_request_is_the_last(rt: HostRuntime) -> Result<(), Fail> {
+    let users = read_all(rt.alloc())?;
+    let bytes = write_requests(rt.alloc(), 1001)?;
+    let mut link = MemoryLink::from_vec(rt.alloc(), bytes);
+    let mut clock = MemoryClock::new(Numbers::new(rt.alloc()), 5);
+    let mut port = Shows { user: 0, time: 0 };
+    let gate = CountingGate::new();
+    let served = serve_requests(rt.alloc(), &users, &mut port, &mut link, &mut clock, &gate);
+    assert_eq!(rt; served, Served::Limit);
+    assert_eq!(rt;
+        link.bytes().len(),
+        999 * UNKNOWN.len() + UNKNOWN_LAST.len()
+    );
+    assert_eq!(rt; link.bytes().ends_with(UNKNOWN_LAST.as_bytes()), true);
+    Ok(())
+}
