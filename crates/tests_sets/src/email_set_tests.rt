@@ -413,6 +413,24 @@ fn an_email_has_at_most_64_mailboxes_and_128_keywords(rt: HostRuntime) -> Result
     Ok(())
 }
 
+#[test]
+fn a_keyword_has_at_most_255_characters(rt: HostRuntime) -> Result<(), Fail> {
+    let alloc = rt.alloc();
+    for (count, wanted) in [
+        (255, "\"notUpdated\":null"),
+        (
+            256,
+            "{\"properties\":[\"keywords\"],\"type\":\"invalidProperties\"}",
+        ),
+    ] {
+        let keyword = "k".repeat(alloc, count)?;
+        let patch = format!(in alloc; "{{\"keywords/{keyword}\":true}}")?;
+        let reply = error_of(alloc, 3, patch.as_str())?;
+        assert!(rt; reply.as_str().contains(wanted), "{count}");
+    }
+    Ok(())
+}
+
 // ---- the call
 
 fn fault(alloc: Global, args: &str) -> Result<String, Fail> {

@@ -49,9 +49,9 @@ const ROWS: &[Row] = &[
     },
     // A set for another state than the present one changes nothing.
     Row {
-        before: ONE_EMAIL,
-        calls: "[\"Email/set\",{\"accountId\":\"A1\",\"destroy\":[\"E1\"],\"ifInState\":\"1\"},\"0\"],[\"Email/get\",{\"accountId\":\"A1\",\"ids\":[\"E1\"],\"properties\":[\"size\"]},\"1\"]",
-        responses: "[\"error\",{\"type\":\"stateMismatch\"},\"0\"],[\"Email/get\",{\"accountId\":\"A1\",\"list\":[{\"id\":\"E1\",\"size\":17}],\"notFound\":[],\"state\":\"2\"},\"1\"]",
+        before: ONE_EMAIL_IN_TWO,
+        calls: "[\"Email/set\",{\"accountId\":\"A1\",\"destroy\":[\"E1\"],\"ifInState\":\"2\"},\"0\"],[\"Email/get\",{\"accountId\":\"A1\",\"ids\":[\"E1\"],\"properties\":[\"size\"]},\"1\"]",
+        responses: "[\"error\",{\"type\":\"stateMismatch\"},\"0\"],[\"Email/get\",{\"accountId\":\"A1\",\"list\":[{\"id\":\"E1\",\"size\":17}],\"notFound\":[],\"state\":\"3\"},\"1\"]",
     },
     // An email is read, and its mailbox has one less that is unread.
     Row {

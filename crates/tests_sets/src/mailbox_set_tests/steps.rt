@@ -142,6 +142,13 @@ fn updates_that_break_a_rule_together_are_tried_one_by_one(rt: HostRuntime) -> R
             "{\"M2\":{\"properties\":[\"parentId\"],\"type\":\"invalidProperties\"}}",
             "5",
         ),
+        // A role that an earlier update takes.
+        (
+            "{\"M1\":{\"role\":\"inbox\"},\"M3\":{\"role\":\"inbox\"}}",
+            "{\"M1\":null}",
+            "{\"M3\":{\"properties\":[\"role\"],\"type\":\"invalidProperties\"}}",
+            "4",
+        ),
         // A swap is not tried with an update that is invalid by itself.
         (
             "{\"M1\":{\"name\":\"C\"},\"M2\":{\"name\":\"\"},\"M3\":{\"name\":\"A\"}}",
