@@ -1,4 +1,4 @@
-"""The emails that `measure query N` generates, as tuples, and what Python finds among them."""
+"""The emails that `measure_queries N` generates, as tuples, and what Python finds among them."""
 import email
 import email.policy
 import json
