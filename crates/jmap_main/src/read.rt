@@ -9,15 +9,12 @@ ghost use Rattle.jmap_main.specs.Endings.{Explains, Unread, Written};
 use crate::arguments::Command;
 use crate::ending::Ending;
 use crate::message_line::message_line;
-use jm_base::Bytes;
+use jm_base::{Bytes, READ_BUFFER_BYTES};
 use jm_edge::{Sink, Source, put_all};
 use std::alloc::Global;
 
 // The most bytes that a message may have.
 const MAX_MESSAGE_BYTES: u64 = 50000000;
-
-// The bytes that are read at once.
-const READ_BUFFER_BYTES: usize = 65536;
 
 /// Reads a message to its end, and writes the line of what it is shown as.
 pub(crate) fn read_message<S: Source, O: Sink>(alloc: Global, source: &mut S, out: &mut O) -> Ending
