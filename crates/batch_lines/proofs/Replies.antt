@@ -4,15 +4,16 @@ use Rattle.std.proofs.Math.Seq.{take-append_seam}
 use Rattle.std.proofs.lemmas.List.{take-append-drop}
 use Rattle.std.specs.Io.KnownBytes.{Appends}
 use Rattle.jm_base.specs.declared.memory.NoMemory.{NoMemory}
+use Rattle.serde_json.specs.Written.{compact_text}
 use Rattle.jm_json.specs.Json.{tree_of}
+use Rattle.jm_json.specs.JsonValues.{data_of}
 use Rattle.jm_json.specs.declared.tree.Json.{Json}
 use Rattle.jm_json.specs.Call.{Call}
 use Rattle.jm_json.specs.declared.invocation.Created.{Created}
 use Rattle.jm_json.specs.declared.invocation.Replied.{Replied}
 use Rattle.batch_lines.specs.declared.upload.Uploaded.{Uploaded}
-use Rattle.method_batch.specs.Outcome.{IsAnswer, IsRefusal, HasBegunAnswer}
+use Rattle.method_batch.specs.Outcome.{IsAnswer, HasBegunAnswer}
 use Rattle.method_batch.specs.declared.outcome.Outcome.{Outcome}
-use Rattle.method_batch.specs.declared.outcome.Problem.TheVariants.{NotJson}
 use Rattle.method_batch.proofs.Together.{Stays, not_begun}
 use Rattle.batch_lines.specs.Replies.{AreReplies, IsLineReply, IsRequestReply, IsUploadReply, HasBegunLine, HasBegunFirst, HasBegunReplies, StopsInLine, begins_with_plus, line_text}
 use Rattle.batch_lines.specs.Uploads.{HasBegunUpload, IsUploadAnswer}
@@ -111,6 +112,22 @@ module _ {S : Type 0} (answers : S → Call → List Created → Replied → S �
 pub text_stands : (r : Kept) (old mid new text : List ℕ) → mid ≡ old ++ text → OnErr r (new ≡ mid) → OnErr r ((n : ℕ) × (new ≡ old ++ take n (text ++ 10 ∷ [])))
 text_stands (Ok u) old mid new text e h = tt
 text_stands (Err x) old mid new text e h = (length text, h ∙ e ∙ ap (λ bs. old ++ bs) (sym (take-append_seam text (10 ∷ []))))
+
+-- ---- a line that is a request, whose text is there before its line feed
+
+module _ {S : Type 0} (answers : S → Call → List Created → Replied → S → Type 0) (uploads : S → List ℕ → Uploaded → S → Type 0) (stops : S → Call → List Created → S → Type 0) (halts : S → List ℕ → S → Type 0) (s s' : S) where
+  abbrev pub IsWritten : List ℕ → List ℕ → List ℕ → Type 0
+  IsWritten line old mid = (o : Outcome) × IsAnswer answers s s' line o × (mid ≡ old ++ compact_text (data_of (tree_of o.tree)))
+
+  pub request_ok : (r : Kept) (line old mid new : List ℕ) → line ≢ [] → begins_with_plus line ≡ false → IsWritten line old mid → OnOk r (new ≡ mid ++ 10 ∷ []) → OnOk r (HasAnsweredLine answers uploads s s' line old new)
+  request_ok (Ok u) line old mid new some plain (o, is, e) h =
+      (line_text (tree_of o.tree), request_at answers uploads stops halts s s' line o some plain is, h ∙ ap (λ bs. bs ++ 10 ∷ []) e ∙ append_assoc old (compact_text (data_of (tree_of o.tree))) (10 ∷ []))
+  request_ok (Err x) line old mid new some plain w h = tt
+
+  pub request_err : (r : Kept) (line old mid new : List ℕ) → line ≢ [] → begins_with_plus line ≡ false → IsWritten line old mid → OnErr r (new ≡ mid) → OnErr r (HasStopped answers uploads stops halts s s' line old new)
+  request_err r line old mid new some plain (o, is, e) h =
+      written_err answers uploads stops halts s s' r line old new (line_text (tree_of o.tree)) (request_at answers uploads stops halts s s' line o some plain is)
+      (text_stands r old mid new (compact_text (data_of (tree_of o.tree))) e h)
 
 -- ---- lines one after another
 

@@ -1,5 +1,5 @@
 -- Uploads: what base64 is read as, and an upload that was not begun.
-use Rattle.std.proofs.Common.{◌≡◌, inl, ℕ, nat_lt, cond, Bool, true, false, List, length, Option, Some, None, Ok, Err, refl, sym, ap, ◌∙◌, subst}
+use Rattle.std.proofs.Common.{◌≡◌, inl, ℕ, nat_lt, cond, Bool, true, false, List, length, Option, Some, None, Ok, Err, sym, ap, subst}
 use Rattle.std.specs.Result.{result_ok}
 use Rattle.base64.specs.GeneralPurpose.{decode_of, decoded_of}
 use Rattle.base64.specs.Engines.{standard}

@@ -1,5 +1,5 @@
 // The reply to one line, and the line that is held until it ends.
-ghost use Rattle.std.specs.Prelude.{◌≡◌, ◌≢◌, ◌-◌, ℕ, [], ◌∷◌, ◌++◌, length, take, IfOk, OnOk, OnErr, MatchOption};
+ghost use Rattle.std.specs.Prelude.{◌≡◌, ◌≢◌, ◌-◌, ℕ, [], ◌∷◌, ◌++◌, length, take, true, false, IfOk, OnOk, OnErr, MatchOption};
 ghost use Rattle.jm_json.specs.Json.{tree_of};
 ghost use Rattle.batch_lines.specs.Lines.{IsOneLine};
 ghost use Rattle.batch_lines.specs.Replies.{HasBegunLine, IsLineReply, begins_with_plus, line_text};
@@ -10,7 +10,7 @@ use crate::upload::{UploadPort, answer_upload};
 use jm_base::{Bytes, NoMemory};
 use jm_json::{Json, Scratch, write_after};
 use memchr::memchr;
-use method_batch::answer_request_with;
+use method_batch::write_answer;
 use std::alloc::Global;
 
 /// The line that ends first, and what follows its line feed.
@@ -131,8 +131,49 @@ fn answer_line<P: UploadPort>(
     if line.is_empty() {
         return Ok(());
     }
-    match answer_some(alloc, scratch, port, line) {
+    if begins_with_plus(line) {
+        return reply_to_upload(alloc, port, line, replies);
+    }
+    reply_to_request(alloc, scratch, port, line, replies)
+}
+
+// Answers a line that begins with `+`, and appends the reply.
+fn reply_to_upload<P: UploadPort>(
+    alloc: Global,
+    port: &mut P,
+    line: &[u8],
+    replies: &mut Bytes,
+) -> Result<(), NoMemory>
+    requires some { line.now ≢ [] }
+    requires plus { begins_with_plus line.now ≡ true }
+    ensures ok { OnOk result (HasAnsweredLine P.answers
+        P.uploads port.old port.new line.now replies.old replies.new) }
+    ensures err { OnErr result (HasStopped P.answers P.uploads P.stops
+        P.halts port.old port.new line.now replies.old replies.new) }
+{
+    match answer_plus(alloc, port, line) {
         Ok(tree) => append_line(alloc, &tree, replies),
+        Err(refused) => Err(refused),
+    }
+}
+
+// Answers a line that is the bytes of a request, and appends the reply.
+fn reply_to_request<P: UploadPort>(
+    alloc: Global,
+    scratch: &mut Scratch,
+    port: &mut P,
+    line: &[u8],
+    replies: &mut Bytes,
+) -> Result<(), NoMemory>
+    requires some { line.now ≢ [] }
+    requires plain { begins_with_plus line.now ≡ false }
+    ensures ok { OnOk result (HasAnsweredLine P.answers
+        P.uploads port.old port.new line.now replies.old replies.new) }
+    ensures err { OnErr result (HasStopped P.answers P.uploads P.stops
+        P.halts port.old port.new line.now replies.old replies.new) }
+{
+    match write_answer(alloc, scratch, port, line, replies) {
+        Ok(()) => replies.append(b"\n"),
         Err(refused) => Err(refused),
     }
 }
@@ -150,26 +191,16 @@ pub fn append_line(alloc: Global, tree: &Json, line: &mut Bytes) -> Result<(), N
     }
 }
 
-// Answers a line that isn't empty.
-fn answer_some<P: UploadPort>(
-    alloc: Global,
-    scratch: &mut Scratch,
-    port: &mut P,
-    line: &[u8],
-) -> Result<Json, NoMemory>
+// Answers a line that begins with `+`.
+fn answer_plus<P: UploadPort>(alloc: Global, port: &mut P, line: &[u8]) -> Result<Json, NoMemory>
     requires some { line.now ≢ [] }
+    requires plus { begins_with_plus line.now ≡ true }
     ensures ok { IfOk result (λ t. IsLineReply P.answers
         P.uploads port.old port.new line.now (line_text (tree_of t))) }
     ensures err { OnErr result (HasBegunLine P.answers P.uploads P.stops
         P.halts port.old port.new line.now) }
 {
-    if begins_with_plus(line) {
-        return answer_upload(alloc, port, &line[1..]);
-    }
-    match answer_request_with(alloc, scratch, port, line) {
-        Ok(outcome) => Ok(outcome.tree),
-        Err(refused) => Err(refused),
-    }
+    answer_upload(alloc, port, &line[1..])
 }
 
 fn begins_with_plus(line: &[u8]) -> bool

@@ -1,5 +1,5 @@
 -- What is written of a value is its text, and is read back as it.
-use Rattle.std.proofs.Common.{◌≡◌, ◌≤◌, ℕ, List, [], false, Some, IsUtf8, sym, ap, ◌∙◌, subst, arith, append-nil}
+use Rattle.std.proofs.Common.{◌≡◌, ◌≤◌, ℕ, List, [], ◌++◌, append_assoc, false, Some, IsUtf8, sym, ap, ◌∙◌, subst, arith, append-nil}
 use Rattle.json.specs.Json as json
 use Rattle.json.proofs.Printed.Trees.{value-json_tokens}
 use Rattle.json.specs.Token.{Token}
@@ -29,3 +29,7 @@ utf8_written d old ts none w same whole utf8 = subst IsUtf8 (text_written d old 
 pub read_written : (d : Data) (old ts : List Token) → old ≡ [] → WritesValue d old ts → tokens (print ts) ≡ ts → has_float d ≡ false → depth d ≤ max_depth → json_text.read (compact_text d) ≡ Some d
 read_written d old ts none w same whole shallow =
     ap json_text.read (sym (text_written d old ts none w same whole)) ∙ read_back d ts (print ts) (subst (λ o. WritesValue d o ts) none w) same shallow
+
+-- what is put after what was put
+pub joined : (o t u xs ys : List Token) → t ≡ o ++ xs → u ≡ t ++ ys → u ≡ o ++ (xs ++ ys)
+joined o t u xs ys first next = next ∙ ap (λ ts. ts ++ ys) first ∙ append_assoc o xs ys

@@ -13,6 +13,7 @@ pub mod Reading
 pub mod Causes
 pub mod Call
 pub mod Invocations
+pub mod Responses
 pub mod Find
 pub mod Tokens
 pub mod Pointer

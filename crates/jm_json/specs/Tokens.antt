@@ -1,5 +1,5 @@
 -- For private clauses: the tokens begin with a value, and these tokens are left after it.
-use Rattle.std.specs.Prelude.{◌≡◌, ℕ, List, length, Some}
+use Rattle.std.specs.Prelude.{◌≡◌, ℕ, List, ◌∷◌, length, Some}
 use Rattle.json.specs.Token.{Token}
 use Rattle.json.specs.Json as json
 use Rattle.serde_json.specs.Data.{no_members}
@@ -10,6 +10,13 @@ use Rattle.jm_json.specs.JsonValues.{data_of, items_of, members_of}
 abbrev pub IsTaken : ℕ → Tree → List Token → List Token → Type 0
 IsTaken depth t old new =
     (j : json.Json) × (json.value depth old ≡ Some (j, new)) × (of_json j ≡ Some (data_of t))
+
+-- the token alone is this value, whatever follows it
+abbrev pub IsAlone : Token → Tree → Type 0
+IsAlone k t =
+    (j : json.Json)
+    × ((depth : ℕ) (rest : List Token) → json.value depth (k ∷ rest) ≡ Some (j, rest))
+    × (of_json j ≡ Some (data_of t))
 
 -- the items of an array, with the closing bracket
 abbrev pub AreTaken : ℕ → List Tree → List Token → List Token → Type 0

@@ -122,6 +122,10 @@ impl Invocations {
         ensures ok { OnOk result (self.new ≡ self.old ++ more) }
         ensures err { OnErr result (self.new ≡ self.old) }
     {
+        if self.items.is_empty() {
+            *self = more;
+            return Ok(());
+        }
         let mut items = more.into_vec();
         self.items.append(&mut items)?;
         Ok(())

@@ -12,6 +12,7 @@ mod parser;
 mod patches;
 mod paths;
 mod reader;
+mod responses;
 mod tree;
 mod writer;
 
@@ -22,5 +23,6 @@ pub use parser::Scratch;
 pub use patches::{PatchFault, patch};
 pub use paths::{child, part_end, pointer};
 pub use reader::{ReadFault, read, read_with};
+pub use responses::write_responses;
 pub use tree::{Items, Json, Member, Members};
-pub use writer::{write, write_after};
+pub use writer::{write, write_after, write_with};

@@ -1,9 +1,10 @@
 // Reads a tree from the tokens of its text (RFC 8259). What is irregular is left to the exact
 // reader: a text that is no JSON, a number that is no integer, or very many keys out of order.
-ghost use Rattle.std.specs.Prelude.{◌≡◌, ◌==◌, ◌<◌, length, slice_index, true, false, IsTrue, Some, None, IfOk, IfSome, OnOk};
+ghost use Rattle.std.specs.Prelude.{◌≡◌, ◌==◌, ◌<◌, ◌≤◌, ◌∷◌, length, slice_index, true, false, IsTrue, Some, None, IfOk, IfSome, OnOk};
 ghost use Rattle.serde_json.specs.Find.{of_integer};
 ghost use Rattle.serde_json.specs.Read.{number_of, number_from};
-ghost use Rattle.jm_json.specs.Tokens.{IsTaken, AreTaken, MembersTaken};
+ghost use Rattle.json.specs.Reads.{token_of};
+ghost use Rattle.jm_json.specs.Tokens.{IsTaken, IsAlone, AreTaken, MembersTaken};
 ghost use Rattle.jm_json.specs.Reading as reading;
 ghost use Rattle.jm_json.specs.Reading.{reading_of};
 ghost use Rattle.jm_json.specs.Tree.{trees_of, fields_of};
@@ -27,10 +28,11 @@ const MAX_UNSORTED_MEMBERS: usize = 512;
 // The integers that are read are below this limit, and above its negative.
 pub(crate) const INTEGER_LIMIT: i64 = NUMBER_LIMIT as i64;
 
-/// The buffers of a reader, which may be reused for the next text.
+/// The buffers of a reader and of a writer, which may be reused for the next text.
 #[derive(Drop)]
 pub struct Scratch {
     room: json::Scratch,
+    pub(crate) text: Vec<u8>,
 }
 
 impl Scratch {
@@ -38,6 +40,7 @@ impl Scratch {
     pub fn new(alloc: Global) -> Scratch {
         Scratch {
             room: json::Scratch::new(alloc),
+            text: Vec::new(alloc),
         }
     }
 }
@@ -82,35 +85,58 @@ pub(crate) fn read_plainly(alloc: Global, scratch: &mut Scratch, bytes: &[u8]) -
     Ok(tree)
 }
 
-#[cycle(take)]
-#[inline(always)]
 fn take_tree(alloc: Global, reader: &mut Reader<'_>, depth: usize) -> Result<Json, Stop>
     ensures ok { IfOk result (λ t. IsTaken depth (tree_of t) reader.old reader.new) }
     ensures whole { IfOk result (λ t. first_invalid (data_of (tree_of t)) ≡ None) }
-    ensures shorter { OnOk result (length reader.new < length reader.old) }
 {
     let token = reader.next().ok_or(Stop::Irregular)?;
+    match take_scalar(alloc, token)? {
+        Some(tree) => Ok(tree),
+        None => take_nested(alloc, reader, token, depth),
+    }
+}
+
+// Returns the tree that a token is alone, and none where it begins an array or an object. It stands
+// outside the cycle, so that the loops over items and members can have it inline.
+#[inline(always)]
+fn take_scalar(alloc: Global, token: Token<'_>) -> Result<Option<Json>, Stop>
+    ensures ok { IfOk result (λ o. IfSome o (λ t. IsAlone (token_of token.entry) (tree_of t))) }
+    ensures whole { IfOk result
+        (λ o. IfSome o (λ t. first_invalid (data_of (tree_of t)) ≡ None)) }
+{
     match token {
-        Token::String(text) => Ok(Json::Text(Text::from_str(alloc, text)?)),
+        Token::String(text) => Ok(Some(Json::Text(Text::from_str(alloc, text)?))),
         Token::Number(text) => match parse_integer(text) {
-            Some(z) => Ok(Json::Int(z)),
+            Some(z) => Ok(Some(Json::Int(z))),
             None => Err(Stop::Irregular),
         },
-        Token::Bool(b) => Ok(Json::Bool(b)),
-        Token::Null => Ok(Json::Null),
-        Token::EndObject | Token::EndArray | Token::Key(_) | Token::Bad => Err(Stop::Irregular),
-        Token::BeginArray => {
-            if depth == 0 {
-                return Err(Stop::Irregular);
-            }
-            Ok(Json::List(take_items(alloc, reader, depth - 1)?))
-        }
-        Token::BeginObject => {
-            if depth == 0 {
-                return Err(Stop::Irregular);
-            }
-            Ok(Json::Object(take_members(alloc, reader, depth - 1)?))
-        }
+        Token::Bool(b) => Ok(Some(Json::Bool(b))),
+        Token::Null => Ok(Some(Json::Null)),
+        _ => Ok(None),
+    }
+}
+
+// Reads the array or the object that this token, which was read, begins.
+#[cycle(take)]
+#[inline(never)]
+fn take_nested(
+    alloc: Global,
+    reader: &mut Reader<'_>,
+    token: Token<'_>,
+    depth: usize,
+) -> Result<Json, Stop>
+    ensures ok { IfOk result
+        (λ t. IsTaken depth (tree_of t) (token_of token.entry ∷ reader.old) reader.new) }
+    ensures whole { IfOk result (λ t. first_invalid (data_of (tree_of t)) ≡ None) }
+    ensures shorter { OnOk result (length reader.new ≤ length reader.old) }
+{
+    if depth == 0 {
+        return Err(Stop::Irregular);
+    }
+    match token {
+        Token::BeginArray => Ok(Json::List(take_items(alloc, reader, depth - 1)?)),
+        Token::BeginObject => Ok(Json::Object(take_members(alloc, reader, depth - 1)?)),
+        _ => Err(Stop::Irregular),
     }
 }
 
@@ -123,7 +149,12 @@ fn take_items(alloc: Global, reader: &mut Reader<'_>, depth: usize) -> Result<It
 {
     let mut found = Items::new(alloc);
     'items: while !reader.take_end_array() {
-        let item = take_tree(alloc, reader, depth)?;
+        let token = reader.next().ok_or(Stop::Irregular)?;
+        if let Some(item) = take_scalar(alloc, token)? {
+            found.push(item)?;
+            continue;
+        }
+        let item = take_nested(alloc, reader, token, depth)?;
         found.push(item)?;
     }
     Ok(found)
@@ -142,7 +173,12 @@ fn take_members(alloc: Global, reader: &mut Reader<'_>, depth: usize) -> Result<
             return Err(Stop::Irregular);
         }
         let key = Text::from_str(alloc, name)?;
-        let member = take_tree(alloc, reader, depth)?;
+        let token = reader.next().ok_or(Stop::Irregular)?;
+        if let Some(member) = take_scalar(alloc, token)? {
+            found.put(key, member)?;
+            continue;
+        }
+        let member = take_nested(alloc, reader, token, depth)?;
         found.put(key, member)?;
     }
     Ok(found)

@@ -380,6 +380,10 @@ fn put_member(members: &mut Vec<Member>, name: Text, value: Json) -> Result<(), 
             Ok(())
         }
         KeyIndex::New(at) => {
+            if at == members.len() {
+                members.push(Member { name, value })?;
+                return Ok(());
+            }
             members.insert(at, Member { name, value })?;
             Ok(())
         }

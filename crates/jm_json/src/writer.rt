@@ -13,6 +13,7 @@ ghost use Rattle.jm_json.specs.Json.{tree_of, member_of};
 ghost use Rattle.jm_json.specs.Order.{KeysRise};
 ghost use Rattle.jm_json.specs.JsonValues.{data_of, items_of, members_of};
 
+use crate::parser::Scratch;
 use crate::tree::{Json, Member};
 use jm_base::{Bytes, NoMemory};
 use json::Writer;
@@ -47,6 +48,26 @@ pub fn write_after(alloc: Global, out: &mut Bytes, tree: &Json) -> Result<(), No
     done
 }
 
+/// Adds the compact text of a tree after what is there, like `write_after`. A text that others go
+/// before is made in the buffer of the scratch, which costs what the text is long. If an allocation
+/// fails, the bytes are unchanged.
+pub fn write_with(
+    alloc: Global,
+    scratch: &mut Scratch,
+    out: &mut Bytes,
+    tree: &Json,
+) -> Result<(), NoMemory>
+    ensures ok { OnOk result (out.new ≡ out.old ++ compact_text (data_of (tree_of tree.now))) }
+    ensures err { OnErr result (out.new ≡ out.old) }
+{
+    if out.is_empty() {
+        return write_after(alloc, out, tree);
+    }
+    scratch.text.clear();
+    append_text(alloc, &mut scratch.text, tree)?;
+    out.append(scratch.text.as_slice())
+}
+
 fn append_text(alloc: Global, out: &mut Vec<u8>, tree: &Json) -> Result<(), NoMemory>
     ensures ok { OnOk result
         (out.new.items ≡ out.old.items ++ compact_text (data_of (tree_of tree.now))) }
@@ -71,7 +92,7 @@ fn append_text(alloc: Global, out: &mut Vec<u8>, tree: &Json) -> Result<(), NoMe
 
 // If an allocation fails, some of the tokens were written.
 #[cycle(put)]
-fn put_tree(tree: &Json, out: &mut Writer) -> Result<(), AllocError>
+pub(crate) fn put_tree(tree: &Json, out: &mut Writer) -> Result<(), AllocError>
     ensures ok { OnOk result
         (WritesValue (data_of (tree_of tree.now)) out.old.tokens out.new.tokens) }
     ensures before { out.new.before ≡ out.old.before }

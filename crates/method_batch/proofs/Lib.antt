@@ -1,3 +1,4 @@
 pub mod Together
 pub mod Plain
 pub mod Ids
+pub mod Outcomes

@@ -3,3 +3,4 @@ pub mod Request
 pub mod Prepared
 pub mod Answer
 pub mod Outcome
+pub mod Answered

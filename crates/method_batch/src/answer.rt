@@ -1,18 +1,22 @@
 // The answer to a request: its calls in order, each by the text and the responses up to here, or by
 // the port (RFC 8620, section 3.4).
-ghost use Rattle.std.specs.Prelude.{Some, IfOk, OnErr};
+ghost use Rattle.std.specs.Prelude.{◌≡◌, ◌++◌, Some, IfOk, OnOk, OnErr};
+ghost use Rattle.serde_json.specs.Written.{compact_text};
 ghost use Rattle.jm_json.specs.Json.{tree_of};
+ghost use Rattle.jm_json.specs.JsonValues.{data_of};
 ghost use Rattle.method_batch.specs.Request.{problem_in};
 ghost use Rattle.method_batch.specs.Outcome.{IsOutcome, IsOutcomeBy, IsResponse, IsAnswer, HasBegun, HasBegunBy, HasBegunRequest, HasBegunAnswer};
+ghost use Rattle.method_batch.specs.Answered.{outcome_of};
+ghost use Rattle.method_batch.specs.declared.outcome.Outcome.{Outcome as TheOutcome};
 
+use crate::answered::Answered;
 use crate::method::{CORE, MAIL};
 use crate::outcome::{Outcome, Problem};
 use crate::port::Port;
 use crate::progress::Progress;
 use crate::request::Request;
-use crate::response::response;
 use crate::using::uses;
-use jm_base::{MAX_REQUEST_BYTES, NoMemory};
+use jm_base::{Bytes, MAX_REQUEST_BYTES, NoMemory};
 use jm_json::{Json, ReadFault, Scratch, copy, read_with};
 use std::alloc::Global;
 
@@ -29,7 +33,10 @@ pub fn answer_tree<P: Port>(
         (HasBegun P.answers P.stops port.old port.new (tree_of request.now)) }
 {
     let tree = copy(alloc, request)?;
-    answer_moved(alloc, port, tree)
+    match answer_moved(alloc, port, tree) {
+        Ok(answered) => answered.into_outcome(alloc),
+        Err(refused) => Err(refused),
+    }
 }
 
 /// Answers the bytes of a request, of which there may be [`MAX_REQUEST_BYTES`]. If memory runs out,
@@ -56,39 +63,84 @@ pub fn answer_request_with<P: Port>(
     ensures outcome { IfOk result (λ o. IsAnswer P.answers port.old port.new request.now o) }
     ensures begun { OnErr result (HasBegunAnswer P.answers P.stops port.old port.new request.now) }
 {
+    match answer_bytes(alloc, scratch, port, request) {
+        Ok(answered) => answered.into_outcome(alloc),
+        Err(refused) => Err(refused),
+    }
+}
+
+/// Answers the bytes of a request like `answer_request_with`, and adds the compact text of the
+/// outcome's tree after what is there. If memory runs out, the bytes are unchanged; the first calls
+/// were performed, the port stopped at the next one, and no other was performed.
+pub fn write_answer<P: Port>(
+    alloc: Global,
+    scratch: &mut Scratch,
+    port: &mut P,
+    request: &[u8],
+    out: &mut Bytes,
+) -> Result<(), NoMemory>
+    ensures written { OnOk result
+        ((o : TheOutcome) × IsAnswer P.answers port.old port.new request.now o
+        × (out.new ≡ out.old ++ compact_text (data_of (tree_of o.tree)))) }
+    ensures begun { OnErr result (HasBegunAnswer P.answers P.stops port.old port.new request.now) }
+    ensures err { OnErr result (out.new ≡ out.old) }
+{
+    match answer_bytes(alloc, scratch, port, request) {
+        Ok(answered) => answered.write(alloc, scratch, out),
+        Err(refused) => Err(refused),
+    }
+}
+
+fn answer_bytes<P: Port>(
+    alloc: Global,
+    scratch: &mut Scratch,
+    port: &mut P,
+    request: &[u8],
+) -> Result<Answered, NoMemory>
+    ensures outcome { IfOk result
+        (λ a. IsAnswer P.answers port.old port.new request.now (outcome_of a)) }
+    ensures begun { OnErr result (HasBegunAnswer P.answers P.stops port.old port.new request.now) }
+{
     if request.len() > MAX_REQUEST_BYTES {
-        return Outcome::refusal(alloc, Problem::TooLarge);
+        return Ok(Answered::Rejected(Problem::TooLarge));
     }
     match read_with(alloc, scratch, request) {
         Ok(tree) => answer_moved(alloc, port, tree),
-        Err(ReadFault::NotJson) => Outcome::refusal(alloc, Problem::NotJson),
-        Err(ReadFault::NotWhole(_)) => Outcome::refusal(alloc, Problem::NotRequest),
+        Err(ReadFault::NotJson) => Ok(Answered::Rejected(Problem::NotJson)),
+        Err(ReadFault::NotWhole(_)) => Ok(Answered::Rejected(Problem::NotRequest)),
         Err(ReadFault::NoMemory) => Err(NoMemory),
     }
 }
 
-fn answer_moved<P: Port>(alloc: Global, port: &mut P, request: Json) -> Result<Outcome, NoMemory>
-    ensures outcome { IfOk result (λ o. IsOutcome P.answers port.old port.new (tree_of request) o) }
+fn answer_moved<P: Port>(alloc: Global, port: &mut P, request: Json) -> Result<Answered, NoMemory>
+    ensures outcome { IfOk result
+        (λ a. IsOutcome P.answers port.old port.new (tree_of request) (outcome_of a)) }
     ensures begun { OnErr result (HasBegun P.answers P.stops port.old port.new (tree_of request)) }
 {
     match Request::of_tree(alloc, request)? {
         Some(request) => answer_form(alloc, port, request),
-        None => Outcome::refusal(alloc, Problem::NotRequest),
+        None => Ok(Answered::Rejected(Problem::NotRequest)),
     }
 }
 
-fn answer_form<P: Port>(alloc: Global, port: &mut P, request: Request) -> Result<Outcome, NoMemory>
-    ensures outcome { IfOk result (λ o. IsOutcomeBy P.answers port.old port.new (Some request) o) }
+fn answer_form<P: Port>(alloc: Global, port: &mut P, request: Request) -> Result<Answered, NoMemory>
+    ensures outcome { IfOk result
+        (λ a. IsOutcomeBy P.answers port.old port.new (Some request) (outcome_of a)) }
     ensures begun { OnErr result (HasBegunBy P.answers P.stops port.old port.new (Some request)) }
 {
     match request.problem() {
-        Some(problem) => Outcome::refusal(alloc, problem),
+        Some(problem) => Ok(Answered::Rejected(problem)),
         None => answer_calls(alloc, port, request),
     }
 }
 
-fn answer_calls<P: Port>(alloc: Global, port: &mut P, request: Request) -> Result<Outcome, NoMemory>
-    ensures outcome { IfOk result (λ o. IsResponse P.answers port.old port.new request o) }
+fn answer_calls<P: Port>(
+    alloc: Global,
+    port: &mut P,
+    request: Request,
+) -> Result<Answered, NoMemory>
+    ensures outcome { IfOk result
+        (λ a. IsResponse P.answers port.old port.new request (outcome_of a)) }
     ensures begun { OnErr result (HasBegunRequest P.answers P.stops port.old port.new request) }
 {
     let Request {
@@ -101,10 +153,7 @@ fn answer_calls<P: Port>(alloc: Global, port: &mut P, request: Request) -> Resul
     let shows = created.is_some();
     let begun = Progress::begin(alloc, created);
     match begun.after_calls(alloc, port, core, mail, calls) {
-        Ok(after) => Ok(Outcome {
-            status: 200,
-            tree: response(alloc, shows, after)?,
-        }),
+        Ok(after) => Ok(Answered::Performed(shows, after)),
         Err(refused) => Err(refused),
     }
 }

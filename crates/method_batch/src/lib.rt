@@ -2,6 +2,7 @@
 #![tactic(auto)]
 
 mod answer;
+mod answered;
 mod calls;
 mod created;
 mod limits;
@@ -16,7 +17,7 @@ mod request;
 mod response;
 mod using;
 
-pub use answer::{answer_request, answer_request_with, answer_tree};
+pub use answer::{answer_request, answer_request_with, answer_tree, write_answer};
 pub use limits::MAX_CALLS_PER_REQUEST;
 pub use outcome::{Outcome, Problem};
 pub use port::Port;

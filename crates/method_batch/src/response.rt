@@ -1,15 +1,22 @@
 // The Response to a request as a tree (RFC 8620, section 3.4).
-ghost use Rattle.std.specs.Prelude.{◌≡◌, IfOk, List, Bool, map};
+ghost use Rattle.std.specs.Prelude.{◌≡◌, ◌++◌, IfOk, OnOk, OnErr, List, Bool, map};
+ghost use Rattle.serde_json.specs.Written.{compact_text};
 ghost use Rattle.jm_json.specs.Json.{tree_of};
+ghost use Rattle.jm_json.specs.JsonValues.{data_of};
 ghost use Rattle.jm_json.specs.Invocations.{call_of};
 ghost use Rattle.method_batch.specs.Outcome.{call_tree, created_member, response_tree};
 
 use crate::created::id_members;
 use crate::progress::Progress;
-use jm_base::{NoMemory, Text};
-use jm_json::{Invocation, Invocations, Items, Json, Made, Members};
+use jm_base::{Bytes, NoMemory, Text};
+use jm_json::{
+    Invocation, Invocations, Items, Json, Made, Members, Scratch, write_responses, write_with,
+};
 use std::alloc::Global;
 use std::collections::VecDeque;
+
+// The state of the session (RFC 8620, section 2), which never changes.
+const SESSION_STATE: &str = "0";
 
 /// Returns the tree of the Response to a request that came this far, which is moved into it. It has
 /// `createdIds` if the request had them.
@@ -20,9 +27,35 @@ pub(crate) fn response(alloc: Global, shows: bool, after: Progress) -> Result<Js
     let items = call_lists(alloc, responses)?;
     let mut members = created_members(alloc, shows, made)?;
     members.set(alloc, "methodResponses", Json::List(items))?;
-    let state = Text::from_str(alloc, "0")?;
+    let state = Text::from_str(alloc, SESSION_STATE)?;
     members.set(alloc, "sessionState", Json::Text(state))?;
     Ok(Json::Object(members))
+}
+
+/// Adds the compact text of the Response to a request that came this far, after what is there. It
+/// has `createdIds` if the request had them. If memory runs out, the bytes are unchanged.
+pub(crate) fn write_response(
+    alloc: Global,
+    scratch: &mut Scratch,
+    shows: bool,
+    after: Progress,
+    out: &mut Bytes,
+) -> Result<(), NoMemory>
+    ensures ok { OnOk result (out.new ≡ out.old
+        ++ compact_text (data_of (response_tree shows after))) }
+    ensures err { OnErr result (out.new ≡ out.old) }
+{
+    if shows {
+        let tree = response(alloc, shows, after)?;
+        return write_with(alloc, scratch, out, &tree);
+    }
+    write_responses(
+        alloc,
+        scratch,
+        out,
+        after.responses.as_slice(),
+        SESSION_STATE,
+    )
 }
 
 fn created_members(alloc: Global, shows: bool, made: Made) -> Result<Members, NoMemory>

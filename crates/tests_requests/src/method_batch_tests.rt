@@ -1,8 +1,10 @@
 // Requests over ports in memory. The expected replies are worked out from RFC 8620, sections 3.3 to
 // 3.7.
-use jm_base::{NoMemory, Text};
-use jm_json::{Created, Invocation, Invocations, Json, Made, Members, Replied, copy, read, write};
-use method_batch::{Outcome, Port, answer_request, answer_tree};
+use jm_base::{Bytes, NoMemory, Text};
+use jm_json::{
+    Created, Invocation, Invocations, Json, Made, Members, Replied, Scratch, copy, read, write,
+};
+use method_batch::{Outcome, Port, answer_request, answer_tree, write_answer};
 use std::alloc::Global;
 use std::test::Fail;
 
@@ -83,6 +85,38 @@ fn asks_the_port_in_order(rt: HostRuntime) -> Result<(), Fail> {
         write(rt.alloc(), &same.tree)?.as_slice(),
         RESPONSE.as_bytes()
     );
+    Ok(())
+}
+
+// The requests whose answers are written, and those answers.
+const WRITTEN: [(&str, &str); 3] = [
+    (REQUEST, RESPONSE),
+    (
+        "{\"using\":[\"urn:ietf:params:jmap:core\"],\"methodCalls\":[],\"createdIds\":{\"k\":\"M1\"}}",
+        "{\"createdIds\":{\"k\":\"M1\"},\"methodResponses\":[],\"sessionState\":\"0\"}",
+    ),
+    (
+        "{",
+        "{\"status\":400,\"type\":\"urn:ietf:params:jmap:error:notJSON\"}",
+    ),
+];
+
+#[test]
+fn writes_answers_one_behind_another(rt: HostRuntime) -> Result<(), Fail> {
+    let mut scratch = Scratch::new(rt.alloc());
+    let mut out = Bytes::new(rt.alloc());
+    let mut expected = Bytes::new(rt.alloc());
+    for (request, reply) in WRITTEN {
+        write_answer(
+            rt.alloc(),
+            &mut scratch,
+            &mut Maker,
+            request.as_bytes(),
+            &mut out,
+        )?;
+        expected.append(reply.as_bytes())?;
+    }
+    assert_eq!(rt; out, expected);
     Ok(())
 }
 

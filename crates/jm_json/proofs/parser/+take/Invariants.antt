@@ -6,8 +6,8 @@ use Rattle.jm_json.specs.Integers.{first_invalid_item, first_invalid_member}
 use Rattle.jm_json.proofs.Parsing.{EndsItems, EndsMembers}
 use Rattle.jm_json.proofs.parser.+take.Given as goal
 
-abbrev pub decreases-take_tree : goal.decreases-take_tree
-decreases-take_tree l = 2 * l.depth
+abbrev pub decreases-take_nested : goal.decreases-take_nested
+decreases-take_nested l = 2 * l.depth
 
 abbrev pub decreases-take_items : goal.decreases-take_items
 decreases-take_items l = 2 * l.depth + 1

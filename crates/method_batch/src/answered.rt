@@ -1,0 +1,72 @@
+// How a request was answered, before it is a tree or a text.
+ghost use Rattle.std.specs.Prelude.{◌≡◌, ◌++◌, IfOk, OnOk, OnErr};
+ghost use Rattle.serde_json.specs.Written.{compact_text};
+ghost use Rattle.jm_json.specs.Json.{tree_of};
+ghost use Rattle.jm_json.specs.JsonValues.{data_of};
+ghost use Rattle.method_batch.specs.Outcome.{problem_tree};
+
+use crate::outcome::{Outcome, Problem};
+use crate::progress::Progress;
+use crate::response::{response, write_response};
+use jm_base::{Bytes, NoMemory};
+use jm_json::{Scratch, write_with};
+use std::alloc::Global;
+
+/// How a request was answered: it is rejected as a whole, or its calls were performed, and it has
+/// come this far. Its Response then has `createdIds` or not.
+#[derive(Drop)]
+pub enum Answered {
+    Rejected(Problem),
+    Performed(bool, Progress),
+}
+
+impl Answered {
+    ghost use Rattle.method_batch.specs.Outcome.{IsReply};
+    ghost use Rattle.method_batch.specs.Answered.{outcome_of};
+
+    /// Returns the outcome of the request.
+    pub(crate) fn into_outcome(self, alloc: Global) -> Result<Outcome, NoMemory>
+        ensures { IfOk result
+            (λ o. IsReply o (outcome_of self).status (tree_of (outcome_of self).tree)) }
+    {
+        match self {
+            Answered::Rejected(problem) => Outcome::refusal(alloc, problem),
+            Answered::Performed(shows, after) => Ok(Outcome {
+                status: 200,
+                tree: response(alloc, shows, after)?,
+            }),
+        }
+    }
+
+    /// Adds the compact text of the outcome's tree after what is there. If memory runs out, the
+    /// bytes are unchanged.
+    pub(crate) fn write(
+        self,
+        alloc: Global,
+        scratch: &mut Scratch,
+        out: &mut Bytes,
+    ) -> Result<(), NoMemory>
+        ensures ok { OnOk result (out.new ≡ out.old
+            ++ compact_text (data_of (tree_of (outcome_of self).tree))) }
+        ensures err { OnErr result (out.new ≡ out.old) }
+    {
+        match self {
+            Answered::Rejected(problem) => write_refusal(alloc, scratch, problem, out),
+            Answered::Performed(shows, after) => write_response(alloc, scratch, shows, after, out),
+        }
+    }
+}
+
+fn write_refusal(
+    alloc: Global,
+    scratch: &mut Scratch,
+    problem: Problem,
+    out: &mut Bytes,
+) -> Result<(), NoMemory>
+    ensures ok { OnOk result (out.new ≡ out.old
+        ++ compact_text (data_of (problem_tree problem))) }
+    ensures err { OnErr result (out.new ≡ out.old) }
+{
+    let Outcome { tree, .. } = Outcome::refusal(alloc, problem)?;
+    write_with(alloc, scratch, out, &tree)
+}
