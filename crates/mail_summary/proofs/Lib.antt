@@ -8,3 +8,4 @@ mod LineEnds
 mod Tags
 mod Semicolons
 mod Fronts
+mod Returns

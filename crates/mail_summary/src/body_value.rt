@@ -1,5 +1,6 @@
 // The text of a part's body, and a body value.
-ghost use Rattle.std.specs.Prelude.{◌≡◌, Option, is_none, length, IfOk, IfSome, string_bytes};
+ghost use Rattle.std.specs.Prelude.{◌≡◌, ◌<◌, ◌≤◌, ◌++◌, Option, is_none, length, IfOk, IfSome, IsTrue, string_bytes};
+ghost use Rattle.std.specs.Str.{IsAscii};
 ghost use Rattle.mime_codec.specs.Decoded.{decoded};
 ghost use Rattle.mime_type.specs.PartViews.{node_of};
 ghost use Rattle.mime_tree.specs.Places.{IsPlaced};
@@ -10,7 +11,7 @@ ghost use Rattle.mail_summary.specs.Texts;
 ghost use Rattle.mail_summary.specs.Texts.{body_text, body_value, with_line_feeds};
 ghost use Rattle.mail_summary.specs.Views.{value_of};
 
-use crate::texts_lines::with_line_feeds_of;
+use crate::texts_lines::{bytes_with_line_feeds, with_line_feeds_of};
 use jm_base::{NoMemory, Text};
 use mime_codec::{Coding, decode};
 use mime_type::Part;
@@ -82,19 +83,71 @@ pub(crate) fn read_body_text(alloc: Global, bytes: &[u8], part: &Part) -> Result
     read_text(alloc, part.coding, charset_name(part), body)
 }
 
-/// Returns ASCII bytes as the text that they are in every charset. None if a byte is above 127.
-fn ascii_text(bytes: &[u8]) -> Option<&str>
-    ensures text { IfSome result (λ t. (charset : Option Charset)
-        → t.now ≡ decoded_text charset bytes.now) }
-    ensures problem { IfSome result (λ _. (charset : Option Charset) → has_problem charset bytes.now
-        ≡ is_none charset) }
+/// How many bytes are looked at together: the most that a `u8` counts.
+const BLOCK_BYTES: usize = 255;
+
+/// Returns one for a byte above 127, and else none.
+fn highs_of(byte: u8) -> u8
+    ensures value { result ≡ 0 → byte < 128 }
+    ensures within { result ≤ 1 }
 {
-    if !bytes.is_ascii() {
-        return None;
+    if byte > 127 { 1 } else { 0 }
+}
+
+/// Returns how many bytes of a block are above 127. The loop doesn't stop early, so that it becomes
+/// vector code.
+fn count_highs(block: &[u8]) -> u8
+    requires { length block.now ≤ BLOCK_BYTES }
+    ensures { result ≡ 0 → IsAscii block.now }
+{
+    let mut count = 0;
+    for byte in block {
+        count += highs_of(*byte);
     }
-    match std::str::from_utf8(bytes) {
-        Ok(text) => Some(text),
-        Err(_) => None,
+    count
+}
+
+/// Splits off the next block.
+fn split_block(bytes: &[u8]) -> (&[u8], &[u8])
+    ensures whole { bytes.now ≡ result.0.now ++ result.1.now }
+    ensures small { length result.0.now ≤ BLOCK_BYTES }
+    ensures shorter { 0 < length bytes.now → length result.1.now < length bytes.now }
+{
+    if bytes.len() > BLOCK_BYTES {
+        return bytes.split_at(BLOCK_BYTES);
+    }
+    bytes.split_at(bytes.len())
+}
+
+/// Returns whether no byte is above 127.
+fn is_ascii(bytes: &[u8]) -> bool
+    ensures { IsTrue result → IsAscii bytes.now }
+{
+    let mut left = bytes;
+    while !left.is_empty() {
+        let (block, rest) = split_block(left);
+        if count_highs(block) > 0 {
+            return false;
+        }
+        left = rest;
+    }
+    true
+}
+
+/// Returns ASCII bytes as the text that they are in every charset, with LF for each CRLF. None if a
+/// byte is above 127.
+fn ascii_lines(alloc: Global, bytes: &[u8]) -> Result<Option<String>, NoMemory>
+    ensures text { IfOk result (λ o. IfSome o (λ t. (charset : Option Charset)
+        → string_bytes t ≡ with_line_feeds (decoded_text charset bytes.now))) }
+    ensures problem { IfOk result (λ o. IfSome o (λ _. (charset : Option Charset)
+        → has_problem charset bytes.now ≡ is_none charset)) }
+{
+    if !is_ascii(bytes) {
+        return Ok(None);
+    }
+    match String::from_utf8(bytes_with_line_feeds(alloc, bytes)?) {
+        Ok(lines) => Ok(Some(lines)),
+        Err(_) => Ok(None),
     }
 }
 
@@ -114,8 +167,7 @@ fn read_lines(alloc: Global, charset: &[u8], bytes: &[u8]) -> Result<(String, bo
     ensures problem { IfOk result
         (λ r. r.1 ≡ has_problem (charset_named charset.now) bytes.now) }
 {
-    if let Some(text) = ascii_text(bytes) {
-        let lines = with_line_feeds_of(alloc, text)?;
+    if let Some(lines) = ascii_lines(alloc, bytes)? {
         return Ok((lines, is_unknown_charset(alloc, charset)?));
     }
     let Decoded { text, problem } = decode_charset(alloc, charset, bytes)?;

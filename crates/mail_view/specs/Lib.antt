@@ -11,3 +11,4 @@ pub mod Threads
 pub mod Emails
 pub mod Gets
 pub mod Parses
+pub mod Sizes

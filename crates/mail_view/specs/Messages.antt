@@ -9,6 +9,7 @@ use Rattle.mime_tree.specs.PartLimit.{parts_of, walked}
 use Rattle.mime_tree.specs.Places.{AllPlaced}
 use Rattle.body_lists.specs.Lists.{Lists, lists_in}
 use Rattle.body_lists.specs.Views.{lists_of}
+use Rattle.mail_view.specs.Sizes.{IsSizeOf}
 use Rattle.mail_view.specs.Parts.{leaves_tree, structure_tree}
 use Rattle.mail_view.specs.Views.{ArePlaced, nodes_of}
 use Rattle.mail_view.specs.declared.message.Message.{Message}
@@ -21,6 +22,7 @@ pub record IsRead (m : Message) : Type 0 where
   pub walk : nodes_of m.parts.now ≡ walked (parts_of m.showing.bytes.now)
   pub places : ArePlaced (length m.showing.bytes.now) (nodes_of m.parts.now)
   pub lists : lists_of m.lists.now ≡ lists_in (parts_of m.showing.bytes.now)
+  pub sizes : All (IsSizeOf m.showing.bytes.now) m.showing.sizes.now
 
 -- the three lists of its leaves (RFC 8621, 4.1.4)
 abbrev pub message_lists : Message → Lists

@@ -11,6 +11,7 @@ mod message_view;
 mod metadata;
 mod part;
 mod part_list;
+mod sizes;
 mod structure;
 mod values;
 

@@ -15,6 +15,7 @@ use crate::message::{
 use crate::metadata::write_metadata;
 use crate::part::Showing;
 use crate::part_list::list_parts;
+use crate::sizes::sizes_for;
 use crate::values::write_body_values;
 use body_lists::lists;
 use get_args::{NamedProperty, Property, Wanted};
@@ -176,11 +177,13 @@ fn write_message_members(
     let root = parts(alloc, bytes)?;
     let lists = lists(alloc, &root)?;
     let parts = list_parts(alloc, &root)?;
+    let sizes = sizes_for(alloc, bytes, parts.as_slice(), wanted)?;
     let message = Message {
         showing: Showing {
             bytes,
             blob,
             asked: wanted.parts.as_slice(),
+            sizes: sizes.as_slice(),
         },
         fields: &head.fields,
         root: &root,

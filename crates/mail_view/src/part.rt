@@ -10,9 +10,11 @@ ghost use Rattle.mime_words.specs.Words.{decoded_words};
 ghost use Rattle.header_forms.specs.Forms;
 ghost use Rattle.mail_view.specs.Objects;
 ghost use Rattle.mail_view.specs.Parts;
+ghost use Rattle.mail_view.specs.Sizes.{IsSizeOf};
 ghost use Rattle.mail_view.specs.Parts.{leaf_tree, bytes_with_header, part_tree, size_tree};
 
 use crate::headers::{write_header, write_headers};
+use crate::sizes::{BodySize, find_size};
 use get_args::{NamedPartProperty, PartProperty};
 use jm_base::{NoMemory, Text, Texts};
 use jm_json::{Items, Json, Members};
@@ -22,13 +24,14 @@ use mime_type::Part;
 use mime_words::decode_words;
 use std::alloc::Global;
 
-/// What the view of a part needs: the bytes of the message, its blob id, and the properties that
-/// are asked for.
+/// What the view of a part needs: the bytes of the message, its blob id, the properties that are
+/// asked for, and the sizes of bodies that are known.
 #[derive(Clone, Copy)]
 pub(crate) struct Showing<'a> {
     pub bytes: &'a [u8],
     pub blob: &'a str,
     pub asked: &'a [NamedPartProperty],
+    pub sizes: &'a [BodySize],
 }
 
 /// Returns a string, or null.
@@ -98,11 +101,15 @@ fn write_name(alloc: Global, name: &Option<Text>) -> Result<Json, NoMemory>
 }
 
 // Returns the number of bytes of the decoded body of a part.
-fn write_size(bytes: &[u8], part: &Part) -> Json
-    requires { IsPlaced (length bytes.now) (node_of part.now) }
-    ensures { tree_of result ≡ size_tree bytes.now (node_of part.now) }
+fn write_size(showing: &Showing<'_>, part: &Part) -> Json
+    requires placed { IsPlaced (length showing.now.bytes.now) (node_of part.now) }
+    requires sizes { All (IsSizeOf showing.now.bytes.now) showing.now.sizes.now }
+    ensures { tree_of result ≡ size_tree showing.now.bytes.now (node_of part.now) }
 {
-    let body = &bytes[part.body as usize..part.end as usize];
+    if let Some(size) = find_size(showing.bytes, showing.sizes, part) {
+        return Json::Int(size as i64);
+    }
+    let body = &showing.bytes[part.body as usize..part.end as usize];
     Json::Int(decoded_size(part.coding, body) as i64)
 }
 
@@ -116,6 +123,7 @@ fn write_part_property(
     property: &PartProperty,
 ) -> Result<Json, NoMemory>
     requires placed { IsPlaced (length showing.now.bytes.now) (node_of part.now) }
+    requires sizes { All (IsSizeOf showing.now.bytes.now) showing.now.sizes.now }
     requires own { own.now ≡ bytes_with_header showing.now.bytes.now (node_of part.now) }
     requires found { fields.now ≡ fields_of own.now }
     requires within { All (IsWithin own.now) fields.now }
@@ -125,7 +133,7 @@ fn write_part_property(
     match property {
         PartProperty::PartId => write_decimal(alloc, part.number),
         PartProperty::BlobId => write_leaf_blob_id(alloc, showing.blob, part.number),
-        PartProperty::Size => Ok(write_size(showing.bytes, part)),
+        PartProperty::Size => Ok(write_size(showing, part)),
         PartProperty::Header(asked) => write_header(alloc, own, fields, asked),
         PartProperty::Headers => write_headers(alloc, own, fields),
         PartProperty::Name => write_name(alloc, &part.name),
@@ -145,7 +153,8 @@ pub(crate) fn write_part_members(
     showing: &Showing<'_>,
     part: &Part,
 ) -> Result<Members, NoMemory>
-    requires { IsPlaced (length showing.now.bytes.now) (node_of part.now) }
+    requires placed { IsPlaced (length showing.now.bytes.now) (node_of part.now) }
+    requires sizes { All (IsSizeOf showing.now.bytes.now) showing.now.sizes.now }
     ensures { IfOk result (λ ms. ms
         ≡ Parts.part_members showing.now.bytes.now showing.now.blob.now showing.now.asked.now
         (node_of part.now)) }
@@ -166,7 +175,8 @@ pub(crate) fn write_leaf(
     showing: &Showing<'_>,
     part: &Part,
 ) -> Result<Json, NoMemory>
-    requires { IsPlaced (length showing.now.bytes.now) (node_of part.now) }
+    requires placed { IsPlaced (length showing.now.bytes.now) (node_of part.now) }
+    requires sizes { All (IsSizeOf showing.now.bytes.now) showing.now.sizes.now }
     ensures { IfOk result (λ t. tree_of t
         ≡ leaf_tree showing.now.bytes.now showing.now.blob.now showing.now.asked.now
         (node_of part.now)) }

@@ -1,11 +1,12 @@
 // The parts of a message in walk order, and views of some of them (RFC 8621, section 4.1.4).
-ghost use Rattle.std.specs.Prelude.{◌≡◌, ◌++◌, IfOk, OnOk, length, option_map};
+ghost use Rattle.std.specs.Prelude.{◌≡◌, ◌++◌, All, IfOk, OnOk, length, option_map};
 ghost use Rattle.mime_tree.specs.PartLimit.{walked};
 ghost use Rattle.mime_tree.specs.Places.{AllPlaced};
 ghost use Rattle.mime_type.specs.PartTrees.{none};
 ghost use Rattle.mime_type.specs.PartViews.{joined, node_of, tree_of};
 ghost use Rattle.mail_summary.specs.Leaves.{is_number};
 ghost use Rattle.mail_view.specs.Parts.{leaves_among, part_numbered};
+ghost use Rattle.mail_view.specs.Sizes.{IsSizeOf};
 ghost use Rattle.mail_view.specs.Views.{ArePlaced, nodes_of};
 
 use crate::part::{Showing, write_leaf};
@@ -72,7 +73,8 @@ pub(crate) fn write_leaves(
     parts: &[&Part],
     numbers: &[u64],
 ) -> Result<Items, NoMemory>
-    requires { ArePlaced (length showing.now.bytes.now) (nodes_of parts.now) }
+    requires placed { ArePlaced (length showing.now.bytes.now) (nodes_of parts.now) }
+    requires sizes { All (IsSizeOf showing.now.bytes.now) showing.now.sizes.now }
     ensures { IfOk result (λ ts. ts
         ≡ leaves_among showing.now.bytes.now showing.now.blob.now showing.now.asked.now
         (nodes_of parts.now) numbers.now) }

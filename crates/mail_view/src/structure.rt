@@ -1,10 +1,11 @@
 // bodyStructure: the parts of a message as a tree (RFC 8621, section 4.1.4).
-ghost use Rattle.std.specs.Prelude.{◌≡◌, ◌∷◌, [], IfOk, length};
+ghost use Rattle.std.specs.Prelude.{◌≡◌, ◌∷◌, [], All, IfOk, length};
 ghost use Rattle.jm_json.specs.Json.{tree_of as json_of};
 ghost use Rattle.mime_tree.specs.Places.{AllPlaced};
 ghost use Rattle.mime_type.specs.PartTrees.{none};
 ghost use Rattle.mime_type.specs.PartViews.{joined, node_of, tree_of};
 ghost use Rattle.mail_view.specs.Parts;
+ghost use Rattle.mail_view.specs.Sizes.{IsSizeOf};
 
 use crate::part::{Showing, write_part_members};
 use jm_base::NoMemory;
@@ -37,7 +38,8 @@ pub(crate) fn write_structure(
     showing: &Showing<'_>,
     part: &Part,
 ) -> Result<Json, NoMemory>
-    requires { AllPlaced (length showing.now.bytes.now) (tree_of part.now none) }
+    requires placed { AllPlaced (length showing.now.bytes.now) (tree_of part.now none) }
+    requires sizes { All (IsSizeOf showing.now.bytes.now) showing.now.sizes.now }
     ensures { IfOk result (λ t.
         Parts.structures showing.now.bytes.now showing.now.blob.now showing.now.asked.now
         (tree_of part.now none) ≡ json_of t ∷ []) }
@@ -49,7 +51,8 @@ pub(crate) fn write_structure(
 
 #[cycle(structure)]
 fn write_structures(alloc: Global, showing: &Showing<'_>, parts: &[Part]) -> Result<Items, NoMemory>
-    requires { AllPlaced (length showing.now.bytes.now) (joined parts.now none) }
+    requires placed { AllPlaced (length showing.now.bytes.now) (joined parts.now none) }
+    requires sizes { All (IsSizeOf showing.now.bytes.now) showing.now.sizes.now }
     ensures { IfOk result (λ ts. ts
         ≡ Parts.structures showing.now.bytes.now showing.now.blob.now showing.now.asked.now
         (joined parts.now none)) }

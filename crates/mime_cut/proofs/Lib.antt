@@ -1,3 +1,4 @@
 pub mod CutFacts
 pub mod ReadFacts
 pub mod LineKindFacts
+pub mod PlainLines

@@ -1,10 +1,12 @@
 // The next delimiter line of a multipart's body, found in one pass over its lines.
-ghost use Rattle.std.specs.Prelude.{◌≡◌, ◌≤◌, ◌<◌, ◌+◌, ◌∷◌, ℕ, drop, take, length};
-ghost use Rattle.mime_lines.specs.Lines.{lines};
+ghost use Rattle.std.specs.Prelude.{◌≡◌, ◌≤◌, ◌<◌, ◌+◌, ◌∷◌, ◌++◌, List, ℕ, drop, take, length};
+ghost use Rattle.mime_lines.specs.Lines.{lines, text};
+ghost use Rattle.mime_cut.specs.DelimiterLines.{line_kind};
 ghost use Rattle.mime_cut.specs.Cut.{pieces, cut, piece, after_line};
 ghost use Rattle.mime_cut.specs.UpToDelimiter.{UpToDelimiter, up_to_delimiter, lines_after};
 
 use crate::line_kind::{LineKind, read_line_kind};
+use memchr::memmem::find;
 use mime_lines::{split_line, text_len};
 
 /// The first delimiter line or close-delimiter in some bytes, or their end if there is none.
@@ -18,6 +20,27 @@ pub struct Delimiter<'a> {
     pub kind: LineKind,
     /// The bytes after its line.
     pub rest: &'a [u8],
+}
+
+/// Splits off the first line and the lines after it that don't begin with two dashes: if the first
+/// is no delimiter, none of them is.
+fn split_plain(bytes: &[u8]) -> (&[u8], &[u8])
+    requires { 0 < length bytes.now }
+    ensures some { 0 < length result.0.now }
+    ensures whole { bytes.now ≡ result.0.now ++ result.1.now }
+    ensures plain { (boundary line : List ℕ) (more : List (List ℕ)) (before size : ℕ)
+        → lines bytes.now ≡ line ∷ more → line_kind boundary line ≡ LineKind.Other
+        → up_to_delimiter boundary before size (lines bytes.now)
+        ≡ up_to_delimiter boundary (size + length (text result.0.now))
+        (size + length result.0.now) (lines result.1.now) }
+    ensures lines_after { (boundary line : List ℕ) (more : List (List ℕ))
+        → lines bytes.now ≡ line ∷ more → line_kind boundary line ≡ LineKind.Other
+        → lines_after boundary (lines bytes.now) ≡ lines_after boundary (lines result.1.now) }
+{
+    match find(bytes, b"\n--") {
+        Some(i) => bytes.split_at(i + 1),
+        None => bytes.split_at(bytes.len()),
+    }
 }
 
 /// Reads the lines up to the next delimiter line or close-delimiter.
@@ -39,9 +62,10 @@ fn scan<'a>(boundary: &[u8], bytes: &'a [u8]) -> Delimiter<'a>
         let kind = read_line_kind(boundary, line);
         match kind {
             LineKind::Other => {
-                before = size + text_len(line);
-                size += line.len();
-                rest = more;
+                let (plain, later) = split_plain(rest);
+                before = size + text_len(plain);
+                size += plain.len();
+                rest = later;
             }
             LineKind::DelimiterLine | LineKind::CloseDelimiter => {
                 return Delimiter {

@@ -7,7 +7,7 @@ use Rattle.mail_view.specs.Views.{nodes_of}
 use Rattle.mail_view.proofs.TreeFacts.{found_placed}
 use Rattle.mail_view.proofs.part_list.write_leaves.Goals as goal
 
-pub write_leaf-requires : goal.write_leaf-requires
-write_leaf-requires c =
+pub write_leaf-requires-clause-placed : goal.write_leaf-requires-clause-placed
+write_leaf-requires-clause-placed c =
     let size = length c.args.showing.now.bytes.now in
-    subst (λ (o : Option Node). IfSome o (IsPlaced size)) (sym c.in-Some.ensures) (found_placed size (has_number _) (nodes_of c.args.parts.now) c.requires)
+    subst (λ (o : Option Node). IfSome o (IsPlaced size)) (sym c.in-Some.ensures) (found_placed size (has_number _) (nodes_of c.args.parts.now) c.requires.placed)
