@@ -1,0 +1,50 @@
+-- The account on which a call is performed is one of the user's.
+use Rattle.std.proofs.Common.{◌≡◌, ℕ, Bool, true, false, cond, eqb, ◌&&◌, List, [], ◌∷◌, Option, Some, None, Ok, Err, is_none, codes, bytes_eq, refl, subst}
+use Rattle.std.specs.List.{AllByRecursion}
+use Rattle.jm_json.specs.Call.{Call}
+use Rattle.server_users.specs.declared.users.UserAccount.{UserAccount}
+use Rattle.jmap_http.specs.Targets.{account_with}
+use Rattle.hall_port.specs.Lines.{first_changeable}
+use Rattle.hall_port.specs.Targets.{from_found, from_named, is_change, is_copy, target_of, text_in, to_found, to_named}
+
+module _ (P : UserAccount → Type 0) (a : UserAccount) where
+  found : (id : List ℕ) (accounts : List UserAccount) → AllByRecursion P accounts → account_with id accounts ≡ Some a → P a
+  found id [] all is = absurd (cc is)
+  found id (x ∷ xs) all is =
+      elim (bytes_eq x.id id) as (λ b. cond b (Some x) (account_with id xs) ≡ Some a → P a) [ true ↦ λ here. let e : x ≡ a = cc here in subst P e all.0 | false ↦ λ there. found id xs all.1 there ] is
+
+  at_from : (to : UserAccount) (o : Option UserAccount) → P to → from_found to o ≡ Ok a → P a
+  at_from to None here is = absurd (cc is)
+  at_from to (Some from) here is =
+      elim (eqb from.number to.number) as (λ b. cond b (Err (codes "invalidArguments")) (Ok to) ≡ Ok a → P a) [ true ↦ λ e. absurd (cc e) | false ↦ λ e. let same : to ≡ a = cc e in subst P same here ] is
+
+  named_from : (accounts : List UserAccount) (to : UserAccount) (from : Option (List ℕ)) → P to → from_named accounts to from ≡ Ok a → P a
+  named_from accounts to None here is = absurd (cc is)
+  named_from accounts to (Some id) here is = at_from to (account_with id accounts) here is
+
+  at_to : (accounts : List UserAccount) (copies changes : Bool) (from : Option (List ℕ)) (to : UserAccount) → P to → to_found accounts copies changes from (Some to) ≡ Ok a → P a
+  at_to accounts copies changes from to here is =
+      elim (changes && to.read_only) as (λ b. cond b (Err (codes "accountReadOnly")) (cond copies (from_named accounts to from) (Ok to)) ≡ Ok a → P a) [
+        | true ↦ λ e. absurd (cc e)
+        | false ↦ elim copies as (λ b. cond b (from_named accounts to from) (Ok to) ≡ Ok a → P a) [ true ↦ named_from accounts to from here | false ↦ λ e. let same : to ≡ a = cc e in subst P same here ]
+      ] is
+
+  at_found : (accounts : List UserAccount) (copies changes : Bool) (from : Option (List ℕ)) (o : Option UserAccount) → ((to : UserAccount) → o ≡ Some to → P to) → to_found accounts copies changes from o ≡ Ok a → P a
+  at_found accounts copies changes from None there is = absurd (cc is)
+  at_found accounts copies changes from (Some to) there is = at_to accounts copies changes from to (there to refl) is
+
+  named : (accounts : List UserAccount) (copies changes : Bool) (from to : Option (List ℕ)) → ((id : List ℕ) (b : UserAccount) → account_with id accounts ≡ Some b → P b) → to_named accounts copies changes from to ≡ Ok a → P a
+  named accounts copies changes from None there is = absurd (cc is)
+  named accounts copies changes from (Some id) there is =
+      elim (copies && is_none from) as (λ b. cond b (Err (codes "invalidArguments")) (to_found accounts copies changes from (account_with id accounts)) ≡ Ok a → P a) [ true ↦ λ e. absurd (cc e) | false ↦ at_found accounts copies changes from (account_with id accounts) (there id) ] is
+
+-- what holds of each account of a user holds of the account on which a call is performed
+pub target_among : (P : UserAccount → Type 0) (accounts : List UserAccount) (c : Call) (a : UserAccount) → AllByRecursion P accounts → target_of accounts c ≡ Ok a → P a
+target_among P accounts c a all is =
+    named P a accounts (is_copy c.name) (is_change c.name) (text_in (codes "fromAccountId") c.args) (text_in (codes "accountId") c.args) (λ id b there. found P b id accounts all there) is
+
+-- what holds of each account of a user holds of the first one that the user may change
+pub changeable_among : (P : UserAccount → Type 0) (accounts : List UserAccount) (a : UserAccount) → AllByRecursion P accounts → first_changeable accounts ≡ Some a → P a
+changeable_among P [] a all is = absurd (cc is)
+changeable_among P (x ∷ xs) a all is =
+    elim (x.read_only) as (λ b. cond b (first_changeable xs) (Some x) ≡ Some a → P a) [ true ↦ λ there. changeable_among P xs a all.1 there | false ↦ λ here. let e : x ≡ a = cc here in subst P e all.0 ] is

@@ -1,0 +1,167 @@
+-- After each step of a port the session has all that it had.
+use Rattle.std.proofs.Common.{◌≡◌, ◌⊎◌, inl, inr, ℕ, zero, suc, List, [], ◌∷◌, ◌++◌, Option, None, Some, Result, Ok, Err, slice_get, IsUtf8, refl, sym, ap, ◌∙◌, subst, append_assoc}
+use Rattle.std.proofs.Math.ListN.{set}
+use Rattle.std.proofs.lemmas.List.{append-nil}
+use Rattle.jm_json.specs.Call.{Call as Invocation}
+use Rattle.jm_json.specs.declared.invocation.Created.{Created}
+use Rattle.jm_json.specs.declared.invocation.Replied.{Replied}
+use Rattle.mail_records.specs.Histories.{Entry, History}
+use Rattle.account_book.specs.declared.asks.Call.{Call}
+use Rattle.account_book.specs.declared.plans.Out.{Out}
+use Rattle.account_book.specs.declared.plans.Plan.{Plan}
+use Rattle.account_book.specs.declared.plans.Point.{Point}
+use Rattle.account_lock.specs.Entries.{StartsWith}
+use Rattle.account_lock.specs.Views.{PassFacts}
+use Rattle.account_hall.specs.Halls.{RoomView}
+use Rattle.account_hall.specs.Sessions.{IsCall, IsLook, SessionView}
+use Rattle.batch_lines.specs.Input.{Seen}
+use Rattle.batch_lines.specs.declared.fault.LinesFault.{LinesFault}
+use Rattle.batch_lines.specs.declared.upload.Uploaded.{Uploaded}
+use Rattle.jmap_http.specs.Connections.{asks_to_end}
+use Rattle.jmap_http.specs.declared.port.Stored.{Stored}
+use Rattle.jmap_http.specs.declared.served.Served.{Served}
+use Rattle.server_users.specs.Configuration.{Configuration}
+use Rattle.server_users.specs.declared.users.UserAccount.{UserAccount}
+use Rattle.hall_port.specs.Growing.{HasGrown}
+use Rattle.hall_port.specs.Lines.{AnswersLines, HaltsAt, UploadsTo, first_changeable, line_halts, line_uploads}
+use Rattle.hall_port.specs.Serving.{ServesHall, hall_steps, port_over}
+use Rattle.hall_port.specs.Steps.{AnswersBy, HasStopped, IsAsked, IsRead, IsUploaded, StopsBy, begins, calls_by, has_account, hall_answers, hall_halts, hall_reads, hall_stops, hall_uploads}
+use Rattle.hall_port.specs.Targets.{accounts_of, target_of}
+use Rattle.hall_port.specs.Views.{PortView}
+use Rattle.hall_port.proofs.ThroughLines.{IsKeptByLines, through_lines}
+use Rattle.hall_port.proofs.Through.{IsKeptBySteps, by_cond, through}
+
+starts_with_itself : (es : List Entry) → StartsWith es es
+starts_with_itself es = ([], sym (append-nil es))
+
+-- of each account in these passes, the same or more was seen
+abbrev AreSeen : List PassFacts → List PassFacts → Type 0
+AreSeen ks ks' = (account : ℕ) (k : PassFacts) → slice_get ks account ≡ Some k → (k' : PassFacts) × (slice_get ks' account ≡ Some k') × StartsWith k'.seen k.seen
+
+kept_there : (ks : List PassFacts) (i : ℕ) (k k' : PassFacts) → slice_get ks i ≡ Some k → StartsWith k'.seen k.seen → AreSeen ks (set ks i k')
+kept_there [] i k k' there more j x here = absurd (cc there)
+kept_there (z ∷ zs) zero k k' there more zero x here = let e : k ≡ x = cc (there, here) in (k', refl, subst (λ (y : PassFacts). StartsWith k'.seen y.seen) e more)
+kept_there (z ∷ zs) zero k k' there more (suc j) x here = (x, here, starts_with_itself x.seen)
+kept_there (z ∷ zs) (suc i) k k' there more zero x here = (x, here, starts_with_itself x.seen)
+kept_there (z ∷ zs) (suc i) k k' there more (suc j) x here = kept_there zs i k k' there more j x here
+
+unchanged : (s : SessionView) → HasGrown s s
+unchanged s = record {
+  added = [];
+  trail = sym (append-nil s.trail);
+  seen = λ account k there. (k, there, starts_with_itself k.seen);
+}
+
+same : (s s' : SessionView) → s' ≡ s → HasGrown s s'
+same s s' is = subst (HasGrown s) (sym is) (unchanged s)
+
+same_port : (s s' : PortView) → s' ≡ s → HasGrown s.session s'.session
+same_port s s' is = same s.session s'.session (ap (λ (p : PortView). p.session) is)
+
+called : (plan : History → Call → ℕ → Plan) (account : ℕ) (call : Call) (time : ℕ) (s s' : SessionView) (out : Out) → IsCall plan account call time s s' out → HasGrown s s'
+called plan account call time s s' out c = record {
+  added = c.point ∷ [];
+  trail = c.trail;
+  seen = subst (AreSeen s.passes) (sym c.passes) (kept_there s.passes account c.pass c.pass' c.there c.seen);
+}
+
+looked : (account : ℕ) (s s' : SessionView) → IsLook account s s' → HasGrown s s'
+looked account s s' l = record {
+  added = [];
+  trail = let e = l.trail in subst (λ t. t ≡ s.trail ++ []) (sym e) (sym (append-nil s.trail));
+  seen = subst (AreSeen s.passes) (sym l.passes) (kept_there s.passes account l.pass l.pass' l.there l.looked.seen);
+}
+
+asked : {R : Type 0} (plan_of : R → History → Call → ℕ → Plan) (s s' : PortView) (account : ℕ) (call : Call) (out : Out) → IsAsked (calls_by plan_of) s account call out s' → HasGrown s.session s'.session
+asked plan_of s s' account call out a = called (plan_of a.next.0) account call s.time s.session s'.session out a.next.1
+
+stopped : (account : ℕ) (s s' : PortView) → HasStopped account s s' → HasGrown s.session s'.session
+stopped account s s' (inl is) = same_port s s' is
+stopped account s s' (inr (look, rest)) = looked account s.session s'.session look
+
+answered : {R : Type 0} (plan_of : R → History → Call → ℕ → Plan) (t : Result UserAccount (List ℕ)) (s s' : PortView) (c : Invocation) (made : List Created) (r : Replied) → AnswersBy (calls_by plan_of) t s c made r s' → HasGrown s.session s'.session
+answered plan_of (Ok a) s s' c made r did = asked plan_of s s' _ _ _ did.asked
+answered plan_of (Err kind) s s' c made r (is, shown) = same_port s s' is
+
+stops : (t : Result UserAccount (List ℕ)) (s s' : PortView) → StopsBy t s s' → HasGrown s.session s'.session
+stops (Ok a) s s' did = stopped a.number s s' did
+stops (Err kind) s s' is = same_port s s' is
+
+read : {R : Type 0} (plan_of : R → History → Call → ℕ → Plan) (s s' : PortView) (account : ℕ) (blob : List ℕ) (bytes : Option (List ℕ))
+    → (IsUtf8 blob × IsRead (calls_by plan_of) s account blob bytes s') ⊎ (¬ IsUtf8 blob × (s' ≡ s) × (bytes ≡ None)) → HasGrown s.session s'.session
+read plan_of s s' account blob bytes (inl (utf8, did)) = asked plan_of s s' _ _ _ did.asked
+read plan_of s s' account blob bytes (inr (others, is, none)) = same_port s s' is
+
+-- ---- the whole connection
+
+seen_further : (log seen more : List Entry) → StartsWith more log → StartsWith log seen → StartsWith more seen
+seen_further log seen more (rest, is) (others, was) = (others ++ rest, is ∙ (ap (λ (es : List Entry). es ++ rest) was ∙ append_assoc seen others rest))
+
+further : (s m s' : SessionView) → HasGrown s m → HasGrown m s' → HasGrown s s'
+further s m s' one two = record {
+  added = one.added ++ two.added;
+  trail = two.trail ∙ (ap (λ (ps : List Point). ps ++ two.added) one.trail ∙ append_assoc s.trail one.added two.added);
+  seen = λ account k there. let first = one.seen account k there in let second = two.seen account first.0 first.1 in (second.0, second.1, seen_further first.0.seen k.seen second.0.seen second.2 first.2);
+}
+
+-- ---- the clauses
+
+pub grown_begun : (s s' : PortView) (user time : ℕ) → begins s user time s' → HasGrown s.session s'.session
+grown_begun s s' user time is = same s.session s'.session (ap (λ (p : PortView). p.session) is)
+
+pub grown_answered : {R : Type 0} (plan_of : R → History → Call → ℕ → Plan) (s s' : PortView) (c : Invocation) (made : List Created) (r : Replied) → hall_answers (calls_by plan_of) s c made r s' → HasGrown s.session s'.session
+grown_answered plan_of s s' c made r did = answered plan_of (target_of (accounts_of s.users s.user) c) s s' c made r did
+
+pub grown_stopped : (s s' : PortView) (c : Invocation) (made : List Created) → hall_stops s c made s' → HasGrown s.session s'.session
+grown_stopped s s' c made did = stops (target_of (accounts_of s.users s.user) c) s s' did
+
+pub grown_uploaded : {R : Type 0} (plan_of : R → History → Call → ℕ → Plan) (s s' : PortView) (account : ℕ) (bytes : List ℕ) (stored : Stored) → hall_uploads (calls_by plan_of) s account bytes stored s' → HasGrown s.session s'.session
+grown_uploaded plan_of s s' account bytes stored did = by_cond (has_account s account) _ _ _ (λ (u : IsUploaded (calls_by plan_of) s account bytes stored s'). asked plan_of s s' _ _ _ u.asked) (λ u. same_port s s' u.0) did
+
+pub grown_read : {R : Type 0} (plan_of : R → History → Call → ℕ → Plan) (s s' : PortView) (account : ℕ) (blob : List ℕ) (bytes : Option (List ℕ)) → hall_reads (calls_by plan_of) s account blob bytes s' → HasGrown s.session s'.session
+grown_read plan_of s s' account blob bytes did = by_cond (has_account s account) _ _ _ (read plan_of s s' account blob bytes) (λ u. same_port s s' u.0) did
+
+pub grown_halted : (s s' : PortView) (account : ℕ) → hall_halts s account s' → HasGrown s.session s'.session
+grown_halted s s' account did = by_cond (has_account s account) _ _ _ (stopped account s s') (same_port s s') did
+
+abbrev HasGrownPort : PortView → PortView → Type 0
+HasGrownPort s s' = HasGrown s.session s'.session
+
+grows : {R : Type 0} (plan_of : R → History → Call → ℕ → Plan) → IsKeptBySteps (hall_steps (calls_by plan_of)) HasGrownPort
+grows plan_of = record {
+  stay = λ s. unchanged s.session;
+  go = λ s m s' one two. further s.session m.session s'.session one two;
+  begins = λ s user time s' is. grown_begun s s' user time is;
+  answers = λ s c made r s' did. grown_answered plan_of s s' c made r did;
+  stops = λ s c made s' did. grown_stopped s s' c made did;
+  uploads = λ s account bytes stored s' did. grown_uploaded plan_of s s' account bytes stored did;
+  upload_stops = λ s account bytes s' did. grown_halted s s' account did;
+  reads = λ s account blob bytes s' did. grown_read plan_of s s' account blob bytes did;
+  read_stops = λ s account blob s' did. grown_halted s s' account did;
+}
+
+pub grown_served : {R : Type 0} (plan_of : R → History → Call → ℕ → Plan) (rooms : List RoomView) (users : Configuration) (session session' : SessionView) (times times' left left' held held' : Option (List ℕ)) (reads reads' puts puts' : ℕ) (served : Served)
+    → ServesHall (calls_by plan_of) rooms users session session' times times' left left' held held' reads reads' puts puts' served → HasGrown session session'
+grown_served plan_of rooms users session session' times times' left left' held held' reads reads' puts puts' served w =
+    subst (HasGrown session) (sym w.session_is) (through (hall_steps (calls_by plan_of)) HasGrownPort (grows plan_of) users.users asks_to_end (port_over rooms users session) w.after times times' left left' held held' reads reads' puts puts' served w.serves)
+
+-- ---- lines
+
+uploaded_to : {R : Type 0} (plan_of : R → History → Call → ℕ → Plan) (o : Option UserAccount) (s : PortView) (bytes : List ℕ) (u : Uploaded) (s' : PortView) → UploadsTo (calls_by plan_of) o s bytes u s' → HasGrownPort s s'
+uploaded_to plan_of None s bytes u s' w = same_port s s' w.0
+uploaded_to plan_of (Some a) s bytes u s' (stored, did, shown) = asked plan_of s s' _ _ _ did.asked
+
+halted_at : (o : Option UserAccount) (s s' : PortView) → HaltsAt o s s' → HasGrownPort s s'
+halted_at None s s' is = same_port s s' is
+halted_at (Some a) s s' w = stopped a.number s s' w
+
+grows_by_lines : {R : Type 0} (plan_of : R → History → Call → ℕ → Plan) → IsKeptByLines (line_uploads (calls_by plan_of)) line_halts HasGrownPort
+grows_by_lines plan_of = record {
+  uploaded = λ s bytes u s' w. uploaded_to plan_of (first_changeable (accounts_of s.users s.user)) s bytes u s' w;
+  halted = λ s bytes s' w. halted_at (first_changeable (accounts_of s.users s.user)) s s' w;
+}
+
+pub grown_by_lines : {R : Type 0} (plan_of : R → History → Call → ℕ → Plan) (rooms : List RoomView) (users : Configuration) (session session' : SessionView) (outcome : Result (Unit {0}) LinesFault) (v : Seen)
+    → AnswersLines (calls_by plan_of) rooms users session session' outcome v → HasGrown session session'
+grown_by_lines plan_of rooms users session session' outcome v w =
+    subst (HasGrown session) (sym w.session_is) (through_lines (hall_steps (calls_by plan_of)) (line_uploads (calls_by plan_of)) line_halts HasGrownPort (grows plan_of) (grows_by_lines plan_of) (port_over rooms users session) w.after v w.begun)
