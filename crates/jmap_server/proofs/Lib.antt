@@ -1,0 +1,4 @@
+pub mod Told
+pub mod Served
+pub mod Keepers
+pub mod Runs

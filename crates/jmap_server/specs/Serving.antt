@@ -1,0 +1,286 @@
+-- What a run of a server did.
+use Rattle.std.specs.Prelude.{◌≡◌, ◌⊎◌, ℕ, ◌<◌, List, [], ◌∷◌, ◌++◌, map, take, reverse, length, Option, Result, Ok, Err, ⊤}
+use Rattle.mail_records.specs.Histories.{History}
+use Rattle.jm_edge.specs.Causes.{Rose}
+use Rattle.jm_edge.specs.declared.fault.EdgeFault.{EdgeFault}
+use Rattle.jm_edge.specs.declared.fault.EdgeFault.TheVariants.{Failed, NoMemory as NoRoom}
+use Rattle.keep_port.specs.declared.kept.Kept.{Kept}
+use Rattle.account_book.specs.Opening.{IsDamaged, WasLoaded}
+use Rattle.account_book.specs.declared.faults.Reason.{Reason}
+use Rattle.account_book.specs.declared.faults.StartFault.{StartFault}
+use Rattle.account_book.specs.declared.faults.StartFault.TheVariants as start
+use Rattle.account_hall.specs.Halls.{RoomView}
+use Rattle.account_hall.specs.declared.named.Named.{Named}
+use Rattle.server_users.specs.Configuration.{Configuration}
+use Rattle.server_users.specs.declared.fault.ConfigFault.{ConfigFault}
+use Rattle.server_users.specs.declared.fault.ConfigFault.TheVariants as config
+use Rattle.server_users.specs.Lookups.{IsConfigurationOf, IsLeast, places_of}
+use Rattle.jmap_server.specs.declared.fault.ServeFault.{ServeFault}
+use Rattle.jmap_server.specs.declared.fault.ServeFault.TheVariants.{BadConfig, KeeperFault, Damaged, DeskFault, NoMemory}
+use Rattle.jmap_server.specs.Deeds.{Deed, GaveKeeper, GotKeeper, IsTold, Lent, Listened, ReadText, account_of, gave, lent_for}
+use Rattle.jmap_server.specs.Lines.{AreLinesServed, HasServedLines, Plans, Sight}
+
+-- ---- faults
+
+-- the world failed, or memory ran out
+abbrev pub IsOutside : ServeFault → Type 0
+IsOutside (BadConfig place) = ⊥
+IsOutside KeeperFault = ⊥
+IsOutside (Damaged row why) = ⊥
+IsOutside DeskFault = ⊤
+IsOutside NoMemory = ⊤
+
+-- What a fault says of counts of faults: that of the world rose, or that of the keepers that came
+-- back.
+abbrev pub IsCaused : (faults faults' loads loads' : ℕ) → ServeFault → Type 0
+IsCaused faults faults' loads loads' (BadConfig place) = ⊤
+IsCaused faults faults' loads loads' KeeperFault = Rose loads loads'
+IsCaused faults faults' loads loads' (Damaged row why) = ⊤
+IsCaused faults faults' loads loads' DeskFault = Rose faults faults'
+IsCaused faults faults' loads loads' NoMemory = ⊤
+
+-- why no users are read from these bytes: the least bad place
+abbrev pub IsBadConfig : List ℕ → ServeFault → Type 0
+IsBadConfig bytes (BadConfig place) = IsLeast (places_of bytes) place
+IsBadConfig bytes KeeperFault = ⊥
+IsBadConfig bytes (Damaged row why) = ⊥
+IsBadConfig bytes DeskFault = ⊥
+IsBadConfig bytes NoMemory = ⊤
+
+-- how a server ends where the world failed
+abbrev pub fault_of : EdgeFault → ServeFault
+fault_of Failed = DeskFault
+fault_of NoRoom = NoMemory
+
+-- how a server ends of which an account is not opened
+abbrev pub start_fault_of : StartFault → ServeFault
+start_fault_of start.KeeperFault = KeeperFault
+start_fault_of (start.Damaged row why) = Damaged row why
+start_fault_of start.NoMemory = NoMemory
+
+-- how a server ends whose configuration is not read
+abbrev pub config_fault_of : ConfigFault → ServeFault
+config_fault_of (config.BadConfig place) = BadConfig place
+config_fault_of config.NoMemory = NoMemory
+
+-- how a server ends whose lines were served so
+abbrev pub end_of : {T : Type 0} → Result T EdgeFault → Result T ServeFault
+end_of (Ok x) = Ok x
+end_of (Err fault) = Err (fault_of fault)
+
+-- ---- accounts
+
+-- the names of accounts
+abbrev pub names_in : {K R : Type 0} → List (Named K R) → List (List ℕ)
+names_in accounts = map (λ a. a.name) accounts
+
+-- A fault by which the account of this keeper is not opened, if the keeper is this one afterwards.
+abbrev pub IsStartRefused : {K : Type 0} → (K → Option Kept) → (History → Type 0) → (keeper
+    keeper' : K) → ServeFault → Type 0
+IsStartRefused kept whole keeper keeper' (BadConfig place) = ⊥
+IsStartRefused kept whole keeper keeper' KeeperFault = ⊤
+IsStartRefused kept whole keeper keeper' (Damaged row why) =
+    (content : Kept) × WasLoaded content (kept keeper) (kept keeper')
+    × IsDamaged whole content row why
+IsStartRefused kept whole keeper keeper' DeskFault = ⊥
+IsStartRefused kept whole keeper keeper' NoMemory = ⊤
+
+-- the keeper of an account that was refused came back
+abbrev pub IsGivenBack : {K L C : Type 0} → (K → Option Kept) → (History → Type 0)
+    → Option (List (Deed K L C)) → Option (List (Deed K L C)) → List ℕ → K → ServeFault → Type 0
+IsGivenBack {K} kept whole told told' name keeper fault =
+    (keeper' : K) × IsTold told told' (GotKeeper (lent_for name keeper') ∷ [])
+    × IsStartRefused kept whole keeper keeper' fault
+
+-- The account of this identifier was opened; or it was refused, before its keeper was given or
+-- after that.
+abbrev pub OpensOne : {K L C T : Type 0} → (K → Option Kept) → (History → Type 0) → List ℕ
+    → List ℕ → List (Deed K L C) → Result T ServeFault → Type 0
+OpensOne {K} kept whole folder id did (Ok x) =
+    (keeper : K) × (did ≡ GaveKeeper folder (lent_for id keeper) ∷ [])
+OpensOne {K} kept whole folder id did (Err fault) =
+    ((did ≡ []) × IsOutside fault)
+    ⊎ ((keeper : K) × (keeper' : K)
+    × (did ≡ GaveKeeper folder (lent_for id keeper) ∷ GotKeeper (lent_for id keeper') ∷ [])
+    × IsStartRefused kept whole keeper keeper' fault)
+
+-- What the keeper keeps that was given last is damaged at this row. It is the first keeper that
+-- came back.
+pub record IsLastDamaged {K : Type 0} (kept : K → Option Kept) (whole : History → Type 0)
+    (given back : List (Lent K)) (row : ℕ) (why : Reason) : Type 0 where
+  pub before : List (Lent K)
+  pub rest : List (Lent K)
+  pub account : List ℕ
+  pub keeper : K
+  pub keeper' : K
+  pub content : Kept
+  pub last : given ≡ before ++ lent_for account keeper ∷ []
+  pub first : back ≡ lent_for account keeper' ∷ rest
+  pub loaded : WasLoaded content (kept keeper) (kept keeper')
+  pub damaged : IsDamaged whole content row why
+
+-- why an account is not opened, which is the one whose keeper was given last, if one was
+abbrev pub IsRefusedBy : {K : Type 0} → (K → Option Kept) → (History → Type 0)
+    → (given back : List (Lent K)) → ServeFault → Type 0
+IsRefusedBy kept whole given back (BadConfig place) = ⊥
+IsRefusedBy kept whole given back KeeperFault = ⊤
+IsRefusedBy kept whole given back (Damaged row why) = IsLastDamaged kept whole given back row why
+IsRefusedBy kept whole given back DeskFault = ⊤
+IsRefusedBy kept whole given back NoMemory = ⊤
+
+-- The accounts of these identifiers were opened in order, and a keeper was given for each; or one
+-- was refused, after keepers had been given for the first of them.
+abbrev pub OpensSo : {K T : Type 0} → (K → Option Kept) → (History → Type 0) → List (List ℕ)
+    → (given back : List (Lent K)) → Result T ServeFault → Type 0
+OpensSo kept whole ids given back (Ok x) = (map account_of given ≡ ids) × (back ≡ [])
+OpensSo kept whole ids given back (Err fault) =
+    (map account_of given ≡ take (length given) ids) × IsRefusedBy kept whole given back fault
+
+-- Keepers were given for the accounts of these identifiers, and those that are not open came back.
+-- Open are those of these names.
+pub record HasOpened {K L C T : Type 0} (kept : K → Option Kept) (whole : History → Type 0)
+    (folder : List ℕ) (ids names : List (List ℕ)) (did : List (Deed K L C))
+    (result : Result T ServeFault) : Type 0 where
+  pub given : List (Lent K)
+  pub back : List (Lent K)
+  pub did_is : did ≡ map (gave folder) given ++ map GotKeeper back
+  pub names_are : map account_of given ≡ names ++ reverse (map account_of back)
+  pub outcome : OpensSo kept whole ids given back result
+
+-- The accounts of these identifiers were opened; or one was refused, and all keepers came back, the
+-- last first.
+abbrev pub HasOpenedAll : {K L C T : Type 0} → (K → Option Kept) → (History → Type 0) → List ℕ
+    → List (List ℕ) → List (Deed K L C) → Result T ServeFault → Type 0
+HasOpenedAll {K} kept whole folder ids did (Ok x) =
+    (given : List (Lent K)) × (did ≡ map (gave folder) given) × (map account_of given ≡ ids)
+HasOpenedAll {K} kept whole folder ids did (Err fault) =
+    (given : List (Lent K)) × (back : List (Lent K))
+    × (did ≡ map (gave folder) given ++ map GotKeeper back)
+    × (map account_of back ≡ reverse (map account_of given))
+    × (map account_of given ≡ take (length given) ids) × IsRefusedBy kept whole given back fault
+
+-- the keepers of these accounts came back, the last first
+pub record AreClosed {K L C : Type 0} (names : List (List ℕ)) (did : List (Deed K L C)) : Type 0
+  where
+    pub back : List (Lent K)
+    pub did_is : did ≡ map GotKeeper back
+    pub names_are : map account_of back ≡ reverse names
+
+-- ---- lines
+
+abbrev pub name_of : RoomView → List ℕ
+name_of room = room.name
+
+-- All lines were served; or the world failed or memory ran out before.
+abbrev pub EndsSo : {T : Type 0} → (served count : ℕ) → Result T ServeFault → Type 0
+EndsSo served count (Ok x) = served ≡ count
+EndsSo served count (Err fault) = (served < count) × IsOutside fault
+
+-- The server listened on the port, and so many lines were served over a hall of these accounts.
+pub record HasListened {K R L C T : Type 0} (sight : Sight K L C) (plan_of : Plans R)
+    (users : Configuration) (names : List (List ℕ)) (port count : ℕ) (did : List (Deed K L C))
+    (result : Result T ServeFault) : Type 0 where
+  pub rooms : List RoomView
+  pub lines : List (Deed K L C)
+  pub served : ℕ
+  pub rooms_are : map name_of rooms ≡ names
+  pub did_is : did ≡ Listened port ∷ lines
+  pub served_are : AreLinesServed sight plan_of rooms users served lines
+  pub ends : EndsSo served count result
+
+-- the server did not listen: the world failed, or memory ran out
+abbrev pub HasNotListened : {K L C T : Type 0} → List (Deed K L C) → Result T ServeFault → Type 0
+HasNotListened did (Ok x) = ⊥
+HasNotListened did (Err fault) = (did ≡ []) × IsOutside fault
+
+-- what was done between the opening of the accounts of these names and their closing
+abbrev pub HasServed : {K R L C T : Type 0} → Sight K L C → Plans R → Configuration
+    → List (List ℕ) → (port count : ℕ) → List (Deed K L C) → Result T ServeFault → Type 0
+HasServed sight plan_of users names port count did result =
+    HasNotListened did result ⊎ HasListened sight plan_of users names port count did result
+
+-- The accounts of these names were served, and closed.
+pub record HasServedOpen {K R L C T : Type 0} (sight : Sight K L C) (plan_of : Plans R)
+    (users : Configuration) (names : List (List ℕ)) (port count : ℕ) (did : List (Deed K L C))
+    (result : Result T ServeFault) : Type 0 where
+  pub middle : List (Deed K L C)
+  pub closing : List (Deed K L C)
+  pub did_is : did ≡ middle ++ closing
+  pub served : HasServed sight plan_of users names port count middle result
+  pub closed : AreClosed names closing
+
+-- The server listened, and lines were served; or it did not listen.
+pub record HasServedLinesAt {K R L C T : Type 0} (sight : Sight K L C) (plan_of : Plans R)
+    (rooms : List RoomView) (users : Configuration) (port count : ℕ) (did : List (Deed K L C))
+    (result : Result T EdgeFault) : Type 0 where
+  pub lines : List (Deed K L C)
+  pub did_is : did ≡ Listened port ∷ lines
+  pub served : HasServedLines sight plan_of rooms users count lines result
+
+abbrev pub HasServedPort : {K R L C T : Type 0} → Sight K L C → Plans R → List RoomView
+    → Configuration → (port count : ℕ) → List (Deed K L C) → Result T EdgeFault → Type 0
+HasServedPort {K} {R} {L} {C} {T} sight plan_of rooms users port count did (Ok x) =
+    HasServedLinesAt {T = T} sight plan_of rooms users port count did (Ok x)
+HasServedPort {K} {R} {L} {C} {T} sight plan_of rooms users port count did (Err fault) =
+    (did ≡ []) ⊎ HasServedLinesAt {T = T} sight plan_of rooms users port count did (Err fault)
+
+-- ---- the whole run
+
+-- An account was refused; or all were served.
+abbrev pub HasRefusedOrServed : {K R L C T : Type 0} → Sight K L C → Plans R
+    → (History → Type 0) → Configuration → (port count : ℕ) → (given back : List (Lent K))
+    → List (Deed K L C) → Result T ServeFault → Type 0
+HasRefusedOrServed {K} {R} {L} {C} {T} sight plan_of whole users port count given back middle
+    (Ok x) =
+    (map account_of given ≡ users.account_ids)
+    × HasServed {T = T} sight plan_of users users.account_ids port count middle (Ok x)
+HasRefusedOrServed {K} {R} {L} {C} {T} sight plan_of whole users port count given back middle
+    (Err fault) =
+    ((middle ≡ []) × (map account_of given ≡ take (length given) users.account_ids)
+    × IsRefusedBy sight.kept whole given back fault)
+    ⊎ ((map account_of given ≡ users.account_ids)
+    × HasServed {T = T} sight plan_of users users.account_ids port count middle (Err fault))
+
+-- Keepers were given for the accounts of the users in order, and all of them came back, the last
+-- first. In between an account was refused; or all were opened, and the lines were served.
+pub record HasServedUsers {K R L C T : Type 0} (sight : Sight K L C) (plan_of : Plans R)
+    (whole : History → Type 0) (users : Configuration) (folder : List ℕ) (port count : ℕ)
+    (did : List (Deed K L C)) (result : Result T ServeFault) : Type 0 where
+  pub given : List (Lent K)
+  pub back : List (Lent K)
+  pub middle : List (Deed K L C)
+  pub did_is : did ≡ map (gave folder) given ++ (middle ++ map GotKeeper back)
+  pub all_back : map account_of back ≡ reverse (map account_of given)
+  pub outcome : HasRefusedOrServed sight plan_of whole users port count given back middle result
+
+-- the configuration was not read: the world failed, or memory ran out
+abbrev pub HasReadNothing : {K L C T : Type 0} → List (Deed K L C) → Result T ServeFault → Type 0
+HasReadNothing did (Ok x) = ⊥
+HasReadNothing did (Err fault) = (did ≡ []) × IsOutside fault
+
+-- the bytes that were read are no configuration
+abbrev pub HasReadNoUsers : {K L C T : Type 0} → List ℕ → List ℕ → List (Deed K L C)
+    → Result T ServeFault → Type 0
+HasReadNoUsers config bytes did (Ok x) = ⊥
+HasReadNoUsers config bytes did (Err fault) =
+    (did ≡ ReadText config bytes ∷ []) × IsBadConfig bytes fault
+
+-- The bytes that were read are a configuration, and its users were served.
+pub record HasReadUsers {K R L C T : Type 0} (sight : Sight K L C) (plan_of : Plans R)
+    (whole : History → Type 0) (config folder : List ℕ) (port count : ℕ) (bytes : List ℕ)
+    (did : List (Deed K L C)) (result : Result T ServeFault) : Type 0 where
+  pub users : Configuration
+  pub more : List (Deed K L C)
+  pub users_are : IsConfigurationOf bytes users
+  pub did_is : did ≡ ReadText config bytes ∷ more
+  pub served : HasServedUsers sight plan_of whole users folder port count more result
+
+-- What a run did: the configuration of this name was not read; or it was read, and is none, or
+-- its users were served.
+abbrev pub HasRun : {K R L C T : Type 0} → Sight K L C → Plans R → (History → Type 0)
+    → (config folder : List ℕ) → (port count : ℕ) → List (Deed K L C) → Result T ServeFault
+    → Type 0
+HasRun sight plan_of whole config folder port count did result =
+    HasReadNothing did result
+    ⊎ ((bytes : List ℕ) × (HasReadNoUsers config bytes did result
+    ⊎ HasReadUsers sight plan_of whole config folder port count bytes did result))
