@@ -1,0 +1,4 @@
+pub mod Fetches
+pub mod Originals
+pub mod BlobCopies
+pub mod Views

@@ -1,0 +1,23 @@
+// What the two sides of a copy are to each other.
+ghost use Rattle.std.specs.Prelude.{◌≡◌, ℕ, List, Option, Some, map, true};
+ghost use Rattle.std.specs.List.{AllByRecursion};
+ghost use Rattle.mail_counts.specs.Forms.{is_keyword};
+ghost use Rattle.mail_records.specs.Commits.{TextsRise};
+ghost use Rattle.mail_records.specs.declared.records.Email.{Email};
+ghost use Rattle.mail_copies.specs.Carried.{carried_keywords, deliveries};
+ghost use Rattle.copy_calls.specs.Fetches.{carried_of, delivery_from, item_of};
+
+/// Of what is fetched each original is delivered: its item, and its message (RFC 8620, section
+/// 5.4).
+pub fn originals_that_are_fetched_are_delivered()
+    ensures { (blobs : List (List ℕ)) (originals : List (Option Email))
+        → deliveries (carried_of blobs originals).emails (carried_of blobs originals).blobs
+        ≡ map (delivery_from blobs) originals }
+{}
+
+/// The keywords of an original are those that its item says, if they are such as accounts keep: in
+/// lower case and in byte order (RFC 8621, section 4.1.1).
+pub fn keywords_that_are_fetched_are_the_originals()
+    ensures { (e : Email) → AllByRecursion (λ k. is_keyword k ≡ true) e.keywords
+        → TextsRise e.keywords → carried_keywords (item_of (Some e)) ≡ e.keywords }
+{}

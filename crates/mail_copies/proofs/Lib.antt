@@ -1,0 +1,6 @@
+pub mod Delivered
+pub mod Room
+pub mod Following
+pub mod Planning
+pub mod Accepted
+pub mod Promised

@@ -1,0 +1,10 @@
+use Rattle.std.proofs.Common.{ap, option_map}
+use Rattle.utc_dates.proofs.DateTexts.{dated, undated}
+use Rattle.mail_import.specs.Properties.{date_of}
+use Rattle.mail_copies.proofs.dates.read_date.Goals as goal
+
+pub returns-in-Ok-clause-date : goal.returns-in-Ok-clause-date
+returns-in-Ok-clause-date c = ap (option_map date_of) (dated c.args.text.now c.in-Ok.date c.in-Ok.ensures.ok)
+
+pub returns-in-Err-clause-date : goal.returns-in-Err-clause-date
+returns-in-Err-clause-date c = ap (option_map date_of) (undated c.args.text.now c.in-Err.ensures.err)

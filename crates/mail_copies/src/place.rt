@@ -1,0 +1,337 @@
+// The plan of the account to which an Email/copy copies emails (RFC 8620, section 5.4; RFC 8621,
+// section 4.7).
+ghost use Rattle.std.specs.Prelude.{◌≡◌, ◌≤◌, ◌+◌, ◌++◌, ◌^◌, ◌<◌, IfErr, IfOk, MatchResult, Some, length, map, option_map};
+ghost use Rattle.jm_base.specs.declared.identifiers.TheConstants.{NUMBER_LIMIT};
+ghost use Rattle.jm_json.specs.Find.{as_object};
+ghost use Rattle.jm_json.specs.Json.{tree_of};
+ghost use Rattle.account_book.specs.Accounts.{IsBounded};
+ghost use Rattle.account_book.specs.Plans.{last_moment};
+ghost use Rattle.blob_store.specs.Blobs.{AreBlobsFew};
+ghost use Rattle.mail_records.specs.Contents.{AreNumbered, AreTables};
+ghost use Rattle.mail_records.specs.Histories.{blobs_of, content_of, max_position};
+ghost use Rattle.mail_counts.specs.CountsFlag.{AreCountsFlagsRight};
+ghost use Rattle.mail_counts.specs.Plans.{ground_of_history, present_state};
+ghost use Rattle.mail_counts.specs.Tidy.{IsTidy};
+ghost use Rattle.mail_summary.specs.Summaries.{summary};
+ghost use Rattle.plan_promises.specs.Planned.{IsPlanned};
+ghost use Rattle.set_parts.specs.Outcomes.{ExplainsSet, ground_of, outcome_of_members, plan_of, planned};
+ghost use Rattle.set_parts.specs.Responses.{HasNewState};
+ghost use Rattle.set_parts.specs.Views.{create_of};
+ghost use Rattle.state_log.specs.Logs.{log_end};
+ghost use Rattle.mail_copies.specs.Arguments.{count_copies, forms};
+ghost use Rattle.mail_copies.specs.Copies.{Copying, after_copies};
+ghost use Rattle.mail_copies.specs.Plans.{blobs_by, first_copying, place_blobs, place_in, place_outcome, plan_after, plan_in};
+ghost use Rattle.mail_copies.specs.Views.{Follows, delivery_of, put_new};
+
+use crate::arguments::{check_place, read_from_account};
+use crate::carried::{Delivery, collect_deliveries};
+use crate::copy::perform_copies;
+use crate::planner::{Planner, Setting, start_planner};
+use crate::response::{Accounts, build_response};
+use account_book::{Account, Carried};
+use blob_store::BlobList;
+use jm_base::{Blobs, Kind, NoMemory, Text};
+use jm_json::{Created, Json, Made, Members};
+use mail_counts::{SetFault, SetPlan, derived};
+use mail_records::{Content, Edit, Edits, Email};
+use set_parts::{SentCreate, find_new_state, read_account_id, read_creates};
+use state_log::Log;
+use std::alloc::Global;
+use std::collections::VecDeque;
+
+/// The plan of the account to which emails are copied: that of its response and its edits, and the
+/// blobs that it brings.
+#[derive(Drop)]
+pub struct PlacePlan {
+    pub set: SetPlan,
+    pub blobs: Blobs,
+}
+
+// Returns the edits that create these emails.
+fn put_emails(alloc: Global, emails: Vec<Email>) -> Result<Vec<Edit>, NoMemory>
+    ensures { IfOk result (λ v. v.items ≡ map put_new emails.items) }
+{
+    let mut edits = Vec::with_capacity(alloc, emails.len())?;
+    let mut rest = VecDeque::from_vec(emails);
+    while let Some(item) = rest.pop_front() {
+        edits.push(Edit::PutEmail { item, was: false })?;
+    }
+    Ok(edits)
+}
+
+// What is left of a planner once its emails are edits.
+#[derive(Drop)]
+struct Finished {
+    edits: Vec<Edit>,
+    blobs: Blobs,
+    fresh: Vec<Created>,
+    created: Members,
+    not_created: Members,
+}
+
+fn finish_copies<'a>(alloc: Global, planner: Planner<'a>) -> Result<Finished, NoMemory>
+    ensures edits { IfOk result (λ f. f.edits.items ≡ map put_new planner.entry.emails.items) }
+    ensures blobs { IfOk result (λ f. f.blobs ≡ planner.entry.blobs.items) }
+    ensures fresh { IfOk result (λ f. f.fresh ≡ planner.entry.fresh) }
+    ensures created { IfOk result (λ f. f.created ≡ planner.entry.created) }
+    ensures not_created { IfOk result (λ f. f.not_created ≡ planner.entry.not_created) }
+{
+    let Planner {
+        next_email: _,
+        next_thread: _,
+        emails,
+        blobs,
+        blob_bytes: _,
+        ids,
+        fresh,
+        created,
+        not_created,
+    } = planner;
+    drop(ids);
+    Ok(Finished {
+        edits: put_emails(alloc, emails)?,
+        blobs: Blobs::from_vec(blobs),
+        fresh,
+        created,
+        not_created,
+    })
+}
+
+// Returns the plan that a planner has come to, over an account with this content and log.
+fn finish_plan<'a>(
+    alloc: Global,
+    accounts: Accounts,
+    content: &Content,
+    log: &Log,
+    planner: Planner<'a>,
+) -> Result<PlacePlan, NoMemory>
+    requires last { log_end log.now ≤ max_position }
+    ensures set { IfOk result
+        (λ p. (s : Copying) → Follows content.now.content planner.entry s → plan_of p.set
+        ≡ plan_after (ground_of content.now.content log.now) accounts.entry.to.now
+        accounts.entry.from.now s.progress) }
+    ensures blobs { IfOk result
+        (λ p. (s : Copying) → Follows content.now.content planner.entry s
+        → p.blobs ≡ s.brought) }
+{
+    let finished = finish_copies(alloc, planner)?;
+    let more = derived(alloc, content, finished.edits.as_slice())?;
+    let Finished {
+        edits,
+        blobs,
+        fresh,
+        created,
+        not_created,
+    } = finished;
+    let mut edits = Edits::from_vec(edits);
+    edits.append(more)?;
+    let before = log.state_of(Kind::Email);
+    let after = find_new_state(log, Kind::Email, edits.as_slice());
+    let reply = build_response(alloc, accounts, before, after, created, not_created)?;
+    let set = SetPlan {
+        reply,
+        edits,
+        made: Made::from_vec(fresh),
+    };
+    Ok(PlacePlan { set, blobs })
+}
+
+// Returns the planner after all copies.
+fn perform_all<'a>(
+    alloc: Global,
+    setting: &Setting<'a>,
+    made: &'a [Created],
+    creates: &[SentCreate<'a>],
+    deliveries: &[Option<Delivery<'a>>],
+) -> Result<Planner<'a>, NoMemory>
+    requires numbered { AreNumbered setting.now.content.now.content }
+    requires email { setting.now.content.now.content.next_email + length creates.now
+        < NUMBER_LIMIT }
+    requires thread { setting.now.content.now.content.next_thread + length creates.now
+        < NUMBER_LIMIT }
+    requires moment { setting.now.moment < 2 ^ 63 }
+    ensures { IfOk result
+        (λ p. Follows setting.now.content.now.content p
+        (after_copies setting.now.blobs.now.blobs setting.now.moment
+        (first_copying setting.now.content.now.content made.now)
+        (map create_of creates.now) (map (λ d. option_map delivery_of d) deliveries.now))) }
+{
+    let mut planner = start_planner(alloc, setting.content, made)?;
+    perform_copies(alloc, setting, &mut planner, creates, deliveries)?;
+    Ok(planner)
+}
+
+// Plans a call with these arguments.
+fn plan_members<'a>(
+    alloc: Global,
+    setting: &Setting<'a>,
+    log: &Log,
+    members: &'a Members,
+    carried: &'a Carried,
+    made: &'a Made,
+) -> Result<PlacePlan, SetFault>
+    requires numbered { AreNumbered setting.now.content.now.content }
+    requires email { setting.now.content.now.content.next_email ≤ max_position }
+    requires thread { setting.now.content.now.content.next_thread ≤ max_position }
+    requires last { log_end log.now ≤ max_position }
+    requires moment { setting.now.moment < 2 ^ 63 }
+    ensures outcome { MatchResult result
+        (λ p. outcome_of_members forms count_copies
+        (present_state Kind.Email (ground_of setting.now.content.now.content log.now))
+        (plan_in (ground_of setting.now.content.now.content log.now) setting.now.blobs.now.blobs
+        carried.now made.now setting.now.moment) (Some members.now) ≡ planned (plan_of p.set))
+        (λ e. ExplainsSet e
+        (outcome_of_members forms count_copies
+        (present_state Kind.Email (ground_of setting.now.content.now.content log.now))
+        (plan_in (ground_of setting.now.content.now.content log.now) setting.now.blobs.now.blobs
+        carried.now made.now setting.now.moment) (Some members.now))) }
+    ensures blobs { IfOk result (λ p. p.blobs
+        ≡ blobs_by setting.now.content.now.content setting.now.blobs.now.blobs carried.now made.now
+        setting.now.moment (Some members.now)) }
+{
+    let creates = read_creates(alloc, members, "create")?;
+    check_place(alloc, members, creates.len(), log.state_of(Kind::Email))?;
+    let deliveries = collect_deliveries(
+        alloc,
+        carried.emails.as_slice(),
+        carried.blobs.as_slice(),
+    )?;
+    let planner = perform_all(
+        alloc,
+        setting,
+        made.as_slice(),
+        creates.as_slice(),
+        deliveries.as_slice(),
+    )?;
+    let accounts = Accounts {
+        to: read_account_id(members),
+        from: read_from_account(members),
+    };
+    Ok(finish_plan(alloc, accounts, setting.content, log, planner)?)
+}
+
+/// Returns the plan of the account to which emails are copied as [`plan_place`] does, over a
+/// content and a log of one history and the blobs of the account.
+pub fn place_emails(
+    alloc: Global,
+    content: &Content,
+    log: &Log,
+    blobs: &BlobList,
+    args: &Json,
+    carried: &Carried,
+    made: &Made,
+    moment: u64,
+) -> Result<PlacePlan, SetFault>
+    requires numbered { AreNumbered content.now.content }
+    requires email { content.now.content.next_email ≤ max_position }
+    requires thread { content.now.content.next_thread ≤ max_position }
+    requires last { log_end log.now ≤ max_position }
+    requires moment { moment ≤ last_moment }
+    ensures outcome { MatchResult result
+        (λ p. place_outcome (ground_of content.now.content log.now) blobs.now.blobs
+        (tree_of args.now) carried.now made.now moment ≡ planned (plan_of p.set))
+        (λ e. ExplainsSet e
+        (place_outcome (ground_of content.now.content log.now) blobs.now.blobs
+        (tree_of args.now) carried.now made.now moment)) }
+    ensures blobs { IfOk result (λ p. p.blobs
+        ≡ place_blobs content.now.content blobs.now.blobs (tree_of args.now) carried.now made.now
+        moment) }
+{
+    let setting = Setting {
+        content,
+        blobs,
+        moment,
+    };
+    match args.as_object() {
+        Some(members) => plan_members(alloc, &setting, log, members, carried, made),
+        None => Err(SetFault::Invalid(Text::from_str(alloc, "")?)),
+    }
+}
+
+fn plan_over(
+    alloc: Global,
+    account: &Account,
+    args: &Json,
+    carried: &Carried,
+    made: &Made,
+    moment: u64,
+) -> Result<PlacePlan, SetFault>
+    requires bounded { IsBounded account.now.history }
+    requires moment { moment ≤ last_moment }
+    ensures outcome { MatchResult result
+        (λ p. place_in account.now.history (tree_of args.now) carried.now made.now moment
+        ≡ planned (plan_of p.set))
+        (λ e. ExplainsSet e
+        (place_in account.now.history (tree_of args.now) carried.now made.now moment)) }
+    ensures blobs { IfOk result (λ p. p.blobs
+        ≡ place_blobs (content_of account.now.history) (blobs_of account.now.history)
+        (tree_of args.now) carried.now made.now moment) }
+    ensures few { AreBlobsFew (blobs_of account.now.history) }
+{
+    place_emails(
+        alloc,
+        account.content(),
+        account.log(),
+        account.blobs(),
+        args,
+        carried,
+        made,
+        moment,
+    )
+}
+
+/// Returns the plan of the account to which an Email/copy with these arguments copies emails, for a
+/// user who may write the account, at a timestamp in Unix seconds. `carried` is what the account of
+/// the originals gave, or anything else, and `made` is what the request has created up to here.
+///
+/// The arguments are `accountId`, `create`, `destroyFromIfInState`, `fromAccountId`,
+/// `ifFromInState`, `ifInState` and `onSuccessDestroyOriginal`; others are ignored. Fails with
+/// `Invalid` and the name of the first argument in byte order that is missing or does not have its
+/// form (the empty name if `args` is no object), with `TooLarge` if there are more than
+/// [`MAX_OBJECTS_PER_CALL`] copies, and with `StateMismatch` if `ifInState` is not the text of the
+/// state of the account's emails. The first fault in this order is returned, and nothing is
+/// changed. That the two accounts differ is not checked.
+///
+/// Copies are performed in byte order of their creation ids. One that is rejected is reported in
+/// `notCreated` with the first of these reasons, and creates nothing: `notFound` if nothing is
+/// carried for it or its `id` is no string, `invalidProperties` with the names, `tooManyKeywords`,
+/// `tooManyMailboxes`, and `overQuota` for emails or for blobs. The message of each other becomes a
+/// blob of the account. The edits put new emails, and then the threads and the mailboxes that
+/// change with them. They fit a tidy account and leave it tidy, each new email has its blob's size
+/// and summary, and the blobs stay within the limits.
+///
+/// A call costs what it copies: each message is read once, and threads are found by the links of
+/// the content and among the emails of the call.
+pub fn plan_place(
+    alloc: Global,
+    account: &Account,
+    args: &Json,
+    carried: &Carried,
+    made: &Made,
+    moment: u64,
+) -> Result<PlacePlan, SetFault>
+    requires bounded { IsBounded account.now.history }
+    requires moment { moment ≤ last_moment }
+    ensures outcome { IfOk result
+        (λ p. place_in account.now.history (tree_of args.now) carried.now made.now moment
+        ≡ planned (plan_of p.set)) }
+    ensures blobs { IfOk result (λ p. p.blobs
+        ≡ place_blobs (content_of account.now.history) (blobs_of account.now.history)
+        (tree_of args.now) carried.now made.now moment) }
+    ensures fault { IfErr result
+        (λ e. ExplainsSet e
+        (place_in account.now.history (tree_of args.now) carried.now made.now moment)) }
+    ensures promises { IfOk result
+        (λ p. IsTidy (content_of account.now.history)
+        → IsPlanned summary (blobs_of account.now.history ++ p.blobs)
+        (content_of account.now.history) p.set.edits) }
+    ensures few { IfOk result (λ p. AreBlobsFew (blobs_of account.now.history ++ p.blobs)) }
+    ensures flags { IfOk result
+        (λ p. AreTables (content_of account.now.history)
+        → AreCountsFlagsRight (content_of account.now.history) p.set.edits) }
+    ensures new_state { IfOk result
+        (λ p. HasNewState Kind.Email (ground_of_history account.now.history) (tree_of p.set.reply)
+        p.set.edits) }
+{
+    plan_over(alloc, account, args, carried, made, moment)
+}
