@@ -1,0 +1,2 @@
+pub mod TestRules
+pub mod TestRulesLaws
