@@ -15,7 +15,8 @@ entry_with e blobs =
     then Refused e.stamp
     else Committed (record { blobs = blobs; edits = e.edits; stamp = e.stamp })
 
--- the entries that are kept so: each takes its blobs from the front of the list
+-- The entries that are kept so. The blobs are in the order of the entries: each entry has as many
+-- of them as it counts, and those after them belong to the entries after it.
 abbrev pub entries_with : List KeptEntry → List (List ℕ) → List Entry
 entries_with [] blobs = []
 entries_with (e ∷ es) blobs =

@@ -129,7 +129,7 @@ fn upload_bytes<P: UploadPort>(alloc: Global, port: &mut P, bytes: Bytes) -> Res
 fn show_no_request(alloc: Global) -> Result<Json, NoMemory>
     ensures { IfOk result (λ t. tree_of t ≡ problem_tree problem.NotRequest) }
 {
-    match Outcome::refusal(alloc, Problem::NotRequest) {
+    match Outcome::reject(alloc, Problem::NotRequest) {
         Ok(outcome) => Ok(outcome.tree),
         Err(refused) => Err(refused),
     }

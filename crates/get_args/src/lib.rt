@@ -20,4 +20,4 @@ pub use property::{
     HeaderProperty, MetadataProperty, NamedPartProperty, NamedProperty, PartProperty, Property,
 };
 pub use selection::{Selection, find_hidden_properties, read_selection};
-pub use wanted::{Wanted, read_wanted, read_wanted_members, wanted_for_read};
+pub use wanted::{Wanted, build_wanted_for_read, read_wanted, read_wanted_members};

@@ -10,7 +10,7 @@ use crate::WantedFault;
 use crate::fault::blame_argument;
 use jm_base::NoMemory;
 use jm_json::Members;
-use method_args::{find_given, read_account, strings_of};
+use method_args::{find_given, lend_strings, read_account};
 use std::alloc::Global;
 
 // Returns the id of the account.
@@ -36,7 +36,7 @@ fn read_strings_or_null<'a>(
     ensures err { IfErr result (Blames name.now (is_selection name.now args.now ≡ false)) }
 {
     match find_given(args, name) {
-        Some(value) => match strings_of(alloc, value)? {
+        Some(value) => match lend_strings(alloc, value)? {
             Some(strings) => Ok(Some(strings)),
             None => Err(blame_argument(alloc, name)),
         },

@@ -13,7 +13,7 @@ use crate::property::{NamedPartProperty, NamedProperty};
 use crate::property_names::{read_part_properties, read_properties};
 use jm_base::{NoMemory, Sequence, Text};
 use jm_json::{Items, Json, Members};
-use method_args::{find_given, read_count, read_flag, strings_of};
+use method_args::{find_given, lend_strings, read_count, read_flag};
 use std::alloc::Global;
 
 /// The properties of a message that a client asks for.
@@ -100,7 +100,7 @@ fn names_by<'a>(
         ≡ names_by (map (λ t. t.now) names.now) (option_map (λ t. tree_of t.now) given.entry)) }
 {
     match given {
-        Some(value) => strings_of(alloc, value),
+        Some(value) => lend_strings(alloc, value),
         None => Ok(Some(Vec::from_slice(alloc, names)?)),
     }
 }
@@ -259,7 +259,7 @@ fn read_arguments(alloc: Global) -> Result<Json, NoMemory>
 
 /// Returns the properties of a message that the command line prints: the default properties of an
 /// Email/parse and bodyStructure, with the values of the text body.
-pub fn wanted_for_read(alloc: Global) -> Result<Wanted, NoMemory>
+pub fn build_wanted_for_read(alloc: Global) -> Result<Wanted, NoMemory>
     ensures { IfOk result (λ w. wanted_in read_arguments true ≡ asked w) }
 {
     let args = read_arguments(alloc)?;

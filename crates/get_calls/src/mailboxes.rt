@@ -11,7 +11,7 @@ use crate::mentions::list_first_mentions;
 use crate::records::FoundRecords;
 use jm_base::{Kind, NoMemory, Text, read_id};
 use jm_json::{Items, Json};
-use mail_counts::mailbox_view;
+use mail_counts::build_mailbox_view;
 use mail_records::{Content, Mailbox};
 use std::alloc::Global;
 
@@ -54,7 +54,7 @@ fn write_mailbox(
     ensures { IfOk result (λ t.
         tree_of t ≡ mailbox_without read_only (map (λ h. h.now) hidden.now) mailbox.now) }
 {
-    let view = mailbox_view(alloc, mailbox, read_only)?;
+    let view = build_mailbox_view(alloc, mailbox, read_only)?;
     Ok(Json::Object(remove_members(view, hidden)))
 }
 

@@ -21,7 +21,7 @@ use jm_base::{NoMemory, Text};
 use jm_json::{Items, Json, Members};
 use mail_summary::part_bytes;
 use mail_view::view;
-use method_args::{MAX_OBJECTS_PER_CALL, read_account, strings_of};
+use method_args::{MAX_OBJECTS_PER_CALL, lend_strings, read_account};
 use std::alloc::Global;
 
 // What is parsed: the views by blob id, and the blob ids that name nothing.
@@ -199,7 +199,7 @@ fn read_blob_ids<'a>(alloc: Global, args: &'a Members) -> Result<Option<Vec<&'a 
         option_map (λ v. map (λ t. t.now) v.items) o ≡ blob_ids_in args.now) }
 {
     match args.get("blobIds") {
-        Some(value) => strings_of(alloc, value),
+        Some(value) => lend_strings(alloc, value),
         None => Ok(None),
     }
 }

@@ -62,7 +62,7 @@ pub fn is_open_after(in_group: bool, sign: Sign) -> bool
 }
 
 /// Reads the first piece that ends with a sign, if a group is open or not.
-pub fn next_piece(characters: &[AddressCharacter], in_group: bool) -> Option<Piece<'_>>
+pub fn read_piece(characters: &[AddressCharacter], in_group: bool) -> Option<Piece<'_>>
     ensures value { MatchOption result (slices_from characters.now in_group ≡ last characters.now)
         (λ p. slices_from characters.now in_group ≡ slice p.item.now p.sign
         (slices_from p.rest.now (is_open_after in_group p.sign))) }

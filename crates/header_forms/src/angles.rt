@@ -51,7 +51,7 @@ fn push_angle(alloc: Global, found: &mut Texts, text: &str) -> Result<(), NoMemo
 /// Reads the texts between `<` and `>` in a value on one line, without their white space:
 /// identifiers of messages, and URLs (RFC 8621, sections 4.1.2.5 and 4.1.2.7). Empty ones are left
 /// out, and a bracket that isn't closed gives none.
-pub fn angle_texts_of(alloc: Global, text: &str) -> Result<Texts, NoMemory>
+pub fn read_angle_texts(alloc: Global, text: &str) -> Result<Texts, NoMemory>
     ensures { IfOk result (λ ts. ts ≡ angle_texts text.now) }
 {
     let mut found = Sequence::new(alloc);

@@ -7,7 +7,7 @@ ghost use Rattle.header_forms.specs.AddressCharacters.{step_to, in_comment, is_s
 
 use crate::address_characters::{AddressCharacter, Context, State, Step};
 use jm_base::NoMemory;
-use mail_text::{State as CommentState, next_state};
+use mail_text::{State as CommentState, advance_state};
 use std::alloc::Global;
 
 /// Returns the step of a character that is in this context.
@@ -84,7 +84,7 @@ fn step_in_comment(comments: CommentState, c: char) -> Step
     requires { depth_of (State.InComment comments) + 1 < 2 ^ 64 }
     ensures { result ≡ AddressCharacters.step (State.InComment comments) c }
 {
-    let next = next_state(comments, c as u32);
+    let next = advance_state(comments, c as u32);
     let said = is_said_in_comment(comments, next, c);
     step_to(c, Context::Comment, said, in_comment(next))
 }

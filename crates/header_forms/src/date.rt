@@ -7,7 +7,7 @@ ghost use Rattle.header_forms.specs.Dates;
 ghost use Rattle.header_forms.specs.Dates.{IsReal, date_text, unix_seconds, utc_of};
 
 use crate::date_reader::read_date_time;
-use crate::date_text::date_time_text;
+use crate::date_text::write_date_time;
 use crate::date_time::{TimeOfDay, ZoneOffset, ZonedDateTime};
 use jiff::civil::date;
 use jm_base::{FIRST_TIMESTAMP, LAST_TIMESTAMP, NoMemory, Text, UtcDate};
@@ -15,11 +15,11 @@ use std::alloc::Global;
 
 /// Returns the date of a value on one line, with its offset, as RFC 3339 writes it:
 /// `YYYY-MM-DDTHH:MM:SS`, and `Z` or `+hh:mm`. None if the value is no valid date.
-pub fn date_of(alloc: Global, text: &[u8]) -> Result<Option<Text>, NoMemory>
+pub fn read_date_text(alloc: Global, text: &[u8]) -> Result<Option<Text>, NoMemory>
     ensures { IfOk result (λ d. d ≡ date_text text.now) }
 {
     match read_date_time(text) {
-        Some(date_time) => Ok(Some(date_time_text(alloc, &date_time)?)),
+        Some(date_time) => Ok(Some(write_date_time(alloc, &date_time)?)),
         None => Ok(None),
     }
 }
@@ -79,7 +79,7 @@ fn if_in_range(seconds: i64) -> Option<UtcDate>
 
 /// Returns the timestamp of a value on one line. None if the value is no valid date, or its
 /// timestamp isn't in the years 0001 to 9999 (RFC 8620, section 1.4).
-pub fn timestamp_of(text: &[u8]) -> Option<UtcDate>
+pub fn find_timestamp(text: &[u8]) -> Option<UtcDate>
     ensures value { result ≡ utc_of text.now }
     ensures kept { IfSome result IsUtcDate }
 {

@@ -7,7 +7,7 @@ ghost use Rattle.header_forms.specs.DateWords.{date_time_from};
 
 use crate::date_parts::{read_month, read_number, read_time, read_weekday, read_year, read_zone};
 use crate::date_time::ZonedDateTime;
-use crate::date_words::{is_done, next_word};
+use crate::date_words::{is_done, read_word};
 use jiff::civil::Date;
 
 /// Returns whether the month of the year has the day.
@@ -70,9 +70,9 @@ fn after_month(day_word: &[u8], month_word: &[u8], text: &[u8]) -> Option<ZonedD
         date_time_of_words (day_word.now ∷ month_word.now ∷ later)) text.now }
     ensures real { IfSome result IsReal }
 {
-    let year = next_word(text)?;
-    let time = next_word(year.rest)?;
-    let zone = next_word(time.rest)?;
+    let year = read_word(text)?;
+    let time = read_word(year.rest)?;
+    let zone = read_word(time.rest)?;
     if !is_done(zone.rest) {
         return None;
     }
@@ -84,8 +84,8 @@ fn after_comma(text: &[u8]) -> Option<ZonedDateTime>
     ensures value { result ≡ date_time_from date_time_of_words text.now }
     ensures real { IfSome result IsReal }
 {
-    let day = next_word(text)?;
-    let month = next_word(day.rest)?;
+    let day = read_word(text)?;
+    let month = read_word(day.rest)?;
     after_month(day.word, month.word, month.rest)
 }
 
@@ -100,8 +100,8 @@ pub fn read_date_time(text: &[u8]) -> Option<ZonedDateTime>
     ensures value { result ≡ date_time_in text.now }
     ensures real { IfSome result IsReal }
 {
-    let first = next_word(text)?;
-    let second = next_word(first.rest)?;
+    let first = read_word(text)?;
+    let second = read_word(first.rest)?;
     if !is_comma(second.word) {
         return after_month(first.word, second.word, second.rest);
     }

@@ -75,7 +75,7 @@ fn push_offset(text: &mut String, offset: ZoneOffset) -> Result<(), NoMemory>
 }
 
 /// Returns YYYY-MM-DDTHH:MM:SS and the offset.
-pub fn date_time_text(alloc: Global, date_time: &ZonedDateTime) -> Result<Text, NoMemory>
+pub fn write_date_time(alloc: Global, date_time: &ZonedDateTime) -> Result<Text, NoMemory>
     ensures { IfOk result (λ t. t ≡ Dates.date_time_text date_time.now) }
 {
     let mut text = String::with_capacity(alloc, 25)?;

@@ -78,7 +78,7 @@ fn front_word(text: &[u8]) -> Option<Word<'_>>
 }
 
 /// Reads the first word of the text; none if there is none, or a comment before it isn't closed.
-pub fn next_word(text: &[u8]) -> Option<Word<'_>>
+pub fn read_word(text: &[u8]) -> Option<Word<'_>>
     ensures value { IfSome result (λ w. words_of text.now
         ≡ option_map (λ later. w.word.now ∷ later) (words_of w.rest.now)) }
     ensures none { IfNone result (has_no_word (words_of text.now) ≡ true) }

@@ -6,11 +6,11 @@ ghost use Rattle.header_forms.specs.Forms.{form_tree};
 ghost use Rattle.jm_json.specs.Tree.{text as text'};
 
 use crate::address::{Address, Addresses, Group, Groups};
-use crate::angles::angle_texts_of;
-use crate::date::date_of;
+use crate::angles::read_angle_texts;
+use crate::date::read_date_text;
 use crate::form::Form;
-use crate::groups::{addresses_of, groups_of};
-use crate::texts::{on_one_line, raw_of, text_of_value};
+use crate::groups::{parse_addresses, parse_groups};
+use crate::texts::{read_raw, read_text_form, unfold_value};
 use jm_base::{NoMemory, Text, Texts};
 use jm_json::{Items, Json, Members};
 use std::alloc::Global;
@@ -98,8 +98,8 @@ pub fn form_of(alloc: Global, value: &[u8], form: Form) -> Result<Json, NoMemory
     ensures { IfOk result (λ j. tree_of j ≡ form_tree form value.now) }
 {
     match form {
-        Form::Raw => Ok(Json::Text(raw_of(alloc, value)?)),
-        Form::Text => Ok(Json::Text(text_of_value(alloc, value)?)),
+        Form::Raw => Ok(Json::Text(read_raw(alloc, value)?)),
+        Form::Text => Ok(Json::Text(read_text_form(alloc, value)?)),
         Form::Addresses => address_list(alloc, value),
         Form::GroupedAddresses => group_list(alloc, value),
         Form::MessageIds => angle_list(alloc, value),
@@ -111,29 +111,29 @@ pub fn form_of(alloc: Global, value: &[u8], form: Form) -> Result<Json, NoMemory
 fn address_list(alloc: Global, value: &[u8]) -> Result<Json, NoMemory>
     ensures { IfOk result (λ j. tree_of j ≡ form_tree Form.Addresses value.now) }
 {
-    let line = on_one_line(alloc, value)?;
-    let addresses = addresses_of(alloc, line.as_str())?;
+    let line = unfold_value(alloc, value)?;
+    let addresses = parse_addresses(alloc, line.as_str())?;
     Ok(Json::List(address_items(alloc, addresses)?))
 }
 
 fn group_list(alloc: Global, value: &[u8]) -> Result<Json, NoMemory>
     ensures { IfOk result (λ j. tree_of j ≡ form_tree Form.GroupedAddresses value.now) }
 {
-    let line = on_one_line(alloc, value)?;
-    let groups = groups_of(alloc, line.as_str())?;
+    let line = unfold_value(alloc, value)?;
+    let groups = parse_groups(alloc, line.as_str())?;
     Ok(Json::List(group_items(alloc, groups)?))
 }
 
 fn angle_list(alloc: Global, value: &[u8]) -> Result<Json, NoMemory>
     ensures { IfOk result (λ j. tree_of j ≡ form_tree Form.MessageIds value.now) }
 {
-    let line = on_one_line(alloc, value)?;
-    list_or_null(alloc, angle_texts_of(alloc, line.as_str())?)
+    let line = unfold_value(alloc, value)?;
+    list_or_null(alloc, read_angle_texts(alloc, line.as_str())?)
 }
 
 fn date_or_null(alloc: Global, value: &[u8]) -> Result<Json, NoMemory>
     ensures { IfOk result (λ j. tree_of j ≡ form_tree Form.Date value.now) }
 {
-    let line = on_one_line(alloc, value)?;
-    Ok(text_or_null(date_of(alloc, line.as_bytes())?))
+    let line = unfold_value(alloc, value)?;
+    Ok(text_or_null(read_date_text(alloc, line.as_bytes())?))
 }

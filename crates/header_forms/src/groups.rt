@@ -8,7 +8,7 @@ ghost use Rattle.header_forms.specs.GroupSteps.{shown, groups_from};
 use crate::address::{Address, Addresses, Group, Groups};
 use crate::address_characters::{AddressCharacter, Part, Sign};
 use crate::address_items::{push_address, read_phrase};
-use crate::address_pieces::{is_open_after, next_piece};
+use crate::address_pieces::{is_open_after, read_piece};
 use crate::character_contexts::read_characters;
 use jm_base::{NoMemory, Sequence, Text};
 use std::alloc::Global;
@@ -139,7 +139,7 @@ fn read_groups(alloc: Global, characters: &[AddressCharacter]) -> Result<Groups,
     };
     let mut in_group = false;
     let mut rest = characters;
-    while let Some(piece) = next_piece(rest, in_group) {
+    while let Some(piece) = read_piece(rest, in_group) {
         work = after_piece(alloc, work, piece.item, piece.sign)?;
         in_group = is_open_after(in_group, piece.sign);
         rest = piece.rest;
@@ -149,7 +149,7 @@ fn read_groups(alloc: Global, characters: &[AddressCharacter]) -> Result<Groups,
 
 /// Reads the groups of a value on one line (RFC 8621, section 4.1.2.4). Addresses outside groups
 /// that are next to each other are a group without a name.
-pub fn groups_of(alloc: Global, text: &str) -> Result<Groups, NoMemory>
+pub fn parse_groups(alloc: Global, text: &str) -> Result<Groups, NoMemory>
     ensures { IfOk result (λ gs. gs ≡ groups_in text.now) }
 {
     let characters = read_characters(alloc, text)?;
@@ -169,8 +169,8 @@ fn join(alloc: Global, groups: Groups) -> Result<Addresses, NoMemory>
 }
 
 /// Reads the addresses of a value on one line, those in groups too (RFC 8621, section 4.1.2.3).
-pub fn addresses_of(alloc: Global, text: &str) -> Result<Addresses, NoMemory>
+pub fn parse_addresses(alloc: Global, text: &str) -> Result<Addresses, NoMemory>
     ensures { IfOk result (λ all. all ≡ addresses_in text.now) }
 {
-    join(alloc, groups_of(alloc, text)?)
+    join(alloc, parse_groups(alloc, text)?)
 }

@@ -20,13 +20,13 @@ mod laws;
 mod texts;
 
 pub use address::{Address, Addresses, Group, Groups};
-pub use angles::angle_texts_of;
-pub use date::{date_of, timestamp_of};
+pub use angles::read_angle_texts;
+pub use date::{find_timestamp, read_date_text};
 pub use form::Form;
 pub use forms::form_of;
-pub use groups::{addresses_of, groups_of};
+pub use groups::{parse_addresses, parse_groups};
 pub use laws::{
     comments_in_dates_change_nothing, dates_of_examples, forms_of_examples,
     plain_groups_hold_their_items, plain_texts_are_one_address, quoted_names_are_read_back,
 };
-pub use texts::{on_one_line, raw_of, text_of_value};
+pub use texts::{read_raw, read_text_form, unfold_value};

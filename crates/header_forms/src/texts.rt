@@ -19,7 +19,7 @@ fn drop_zeros(text: &mut String)
 
 /// Returns the Raw form of a value (RFC 8621, section 4.1.2.1): with U+FFFD for what is no UTF-8,
 /// and without U+0000.
-pub fn raw_of(alloc: Global, value: &[u8]) -> Result<Text, NoMemory>
+pub fn read_raw(alloc: Global, value: &[u8]) -> Result<Text, NoMemory>
     ensures { IfOk result (λ t. t ≡ raw_text value.now) }
 {
     let mut text = String::from_utf8_lossy(alloc, value)?;
@@ -55,10 +55,10 @@ fn unfold_text(alloc: Global, text: &str) -> Result<String, NoMemory>
 
 /// Returns the Raw form of a value without the line ends within it: every other form is read from
 /// it.
-pub fn on_one_line(alloc: Global, value: &[u8]) -> Result<Text, NoMemory>
+pub fn unfold_value(alloc: Global, value: &[u8]) -> Result<Text, NoMemory>
     ensures { IfOk result (λ t. t ≡ Texts.on_one_line value.now) }
 {
-    let raw = raw_of(alloc, value)?;
+    let raw = read_raw(alloc, value)?;
     Ok(Text::from_string(unfold_text(alloc, raw.as_str())?))
 }
 
@@ -82,9 +82,9 @@ pub(crate) fn decode_text(alloc: Global, text: &str) -> Result<Text, NoMemory>
 
 /// Returns the Text form of a value (RFC 8621, section 4.1.2.2): on one line, without the spaces at
 /// its beginning, and with its encoded-words decoded.
-pub fn text_of_value(alloc: Global, value: &[u8]) -> Result<Text, NoMemory>
+pub fn read_text_form(alloc: Global, value: &[u8]) -> Result<Text, NoMemory>
     ensures { IfOk result (λ t. t ≡ text_form value.now) }
 {
-    let line = on_one_line(alloc, value)?;
+    let line = unfold_value(alloc, value)?;
     decode_text(alloc, after_spaces(line.as_str()))
 }

@@ -22,7 +22,7 @@ pub use laws::{
     show_that_a_change_brings_up_to_date, show_that_a_list_becomes_the_other,
     show_that_nothing_changes_nothing,
 };
-pub use limits::{MAX_REQUEST_BYTES, MAX_UPLOAD_BYTES, READ_BUFFER_BYTES};
+pub use limits::{MAX_REQUEST_BYTES, MAX_SESSIONS, MAX_UPLOAD_BYTES, READ_BUFFER_BYTES};
 pub use memory::NoMemory;
 pub use sequence::{Blobs, Numbers, Rows, Sequence, Texts};
 pub use splices::splice;

@@ -21,7 +21,7 @@ pub use invocation::{Created, Invocation, Invocations, Made, Replied};
 pub use member_runs::MemberRuns;
 pub use parser::Scratch;
 pub use patches::{PatchFault, patch};
-pub use paths::{child, part_end, pointer};
+pub use paths::{find_child, part_end, pointer};
 pub use reader::{ReadFault, read, read_with};
 pub use responses::write_responses;
 pub use tree::{Items, Json, Member, Members};

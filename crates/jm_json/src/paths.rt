@@ -30,11 +30,11 @@ fn follow<'a>(tree: &'a Json, path: &[u8]) -> Option<&'a Json>
     let mut end = part_end(rest);
     'parts: while end < rest.len() {
         let (part, more) = rest.split_at(end);
-        target = child(target, part)?;
+        target = find_child(target, part)?;
         rest = &more[1..];
         end = part_end(rest);
     }
-    child(target, rest)
+    find_child(target, rest)
 }
 
 /// Returns the byte offset at which the first part of a path ends: at the first slash, else at the
@@ -55,7 +55,7 @@ pub fn part_end(path: &[u8]) -> usize
 
 /// Returns what one part of a path names in a value: a member of an object, or an item of a list.
 #[tactic(auto, using(crate::proofs::Lists::lists_back))]
-pub fn child<'a>(tree: &'a Json, part: &[u8]) -> Option<&'a Json>
+pub fn find_child<'a>(tree: &'a Json, part: &[u8]) -> Option<&'a Json>
     ensures { option_map (λ j. tree_of j.now) result ≡ child_of part.now (tree_of tree.now) }
 {
     match tree {

@@ -3,14 +3,13 @@ use Rattle.std.specs.Prelude.{ℕ, pos, Bool, true, not, List, [], ◌∷◌, �
 use Rattle.jm_json.specs.Tree.{Tree, null, boolean, number, text, list, object, trees_of, fields_of}
 use Rattle.jm_json.specs.Order.{put_all}
 use Rattle.method_batch.specs.Method.{core_capability, mail_capability, websocket_capability}
-use Rattle.jm_base.specs.declared.limits.TheConstants.{MAX_REQUEST_BYTES, MAX_UPLOAD_BYTES}
+use Rattle.jm_base.specs.declared.limits.TheConstants.{MAX_REQUEST_BYTES, MAX_SESSIONS, MAX_UPLOAD_BYTES}
 use Rattle.method_batch.specs.declared.limits.TheConstants.{MAX_CALLS_PER_REQUEST}
 use Rattle.method_args.specs.declared.TheConstants.{MAX_OBJECTS_PER_CALL}
 use Rattle.server_users.specs.declared.users.User.{User}
 use Rattle.server_users.specs.declared.users.UserAccount.{UserAccount}
 use Rattle.mail_records.specs.declared.limits.TheConstants.{MAX_MAILBOXES_PER_EMAIL}
 use Rattle.mail_counts.specs.declared.limits.TheConstants.{MAX_MAILBOX_NAME_BYTES}
-use Rattle.jmap_http.specs.declared.limits.TheConstants.{MAX_SESSIONS}
 
 -- ---- capabilities
 

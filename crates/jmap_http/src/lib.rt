@@ -16,7 +16,7 @@ mod targets;
 
 pub use answer::respond;
 pub use connection::serve_requests;
-pub use limits::{MAX_REQUESTS_PER_CONNECTION, MAX_SESSIONS};
+pub use limits::MAX_REQUESTS_PER_CONNECTION;
 pub use port::{Stored, UserPort};
 pub use response::Response;
 pub use served::Served;

@@ -11,7 +11,7 @@ ghost use Rattle.mail_summary.specs.Texts;
 ghost use Rattle.mail_summary.specs.Texts.{body_text, body_value, with_line_feeds};
 ghost use Rattle.mail_summary.specs.Views.{value_of};
 
-use crate::texts_lines::{bytes_with_line_feeds, with_line_feeds_of};
+use crate::texts_lines::{replace_line_ends, with_line_feeds_of};
 use jm_base::{NoMemory, Text};
 use mime_codec::{Coding, decode};
 use mime_type::Part;
@@ -145,7 +145,7 @@ fn ascii_lines(alloc: Global, bytes: &[u8]) -> Result<Option<String>, NoMemory>
     if !is_ascii(bytes) {
         return Ok(None);
     }
-    match String::from_utf8(bytes_with_line_feeds(alloc, bytes)?) {
+    match String::from_utf8(replace_line_ends(alloc, bytes)?) {
         Ok(lines) => Ok(Some(lines)),
         Err(_) => Ok(None),
     }
@@ -215,7 +215,7 @@ fn cut(most: u64, text: &mut String)
 
 /// Returns the text of a leaf, cut to at most `most` bytes unless that is 0 (RFC 8621, section 4.2:
 /// bodyValues and maxBodyValueBytes).
-pub fn body_value_of(
+pub fn read_body_value(
     alloc: Global,
     bytes: &[u8],
     part: &Part,

@@ -12,7 +12,7 @@ use std::alloc::Global;
 const MAX_SHOWN_CHARACTERS: usize = 256;
 
 /// Returns the characters of a text.
-pub fn characters(alloc: Global, text: &str) -> Result<Vec<char>, NoMemory>
+pub fn collect_characters(alloc: Global, text: &str) -> Result<Vec<char>, NoMemory>
     ensures { IfOk result (λ cs. cs.items ≡ chars text.now) }
 {
     Ok(text.chars().collect(alloc)?)
@@ -52,18 +52,18 @@ fn encode(alloc: Global, text: &[char]) -> Result<String, NoMemory>
 }
 
 /// Returns the text of the first `MAX_SHOWN_CHARACTERS` of some characters.
-pub fn brief_of(alloc: Global, text: &[char]) -> Result<Text, NoMemory>
+pub fn shorten(alloc: Global, text: &[char]) -> Result<Text, NoMemory>
     ensures { IfOk result (λ t. t ≡ brief text.now) }
 {
     Ok(Text::from_string(encode(alloc, shown_prefix(text))?))
 }
 
 /// Returns the first `MAX_SHOWN_CHARACTERS` characters of a text.
-pub fn brief_text(alloc: Global, text: &str) -> Result<Text, NoMemory>
+pub fn shorten_text(alloc: Global, text: &str) -> Result<Text, NoMemory>
     ensures { IfOk result (λ t. t ≡ brief (chars text.now)) }
 {
-    let all = characters(alloc, text)?;
-    brief_of(alloc, all.as_slice())
+    let all = collect_characters(alloc, text)?;
+    shorten(alloc, all.as_slice())
 }
 
 /// Adds a character, after a space if there is a gap before it; returns whether there is a gap
@@ -128,16 +128,16 @@ fn spaced_prefix(alloc: Global, text: &str) -> Result<Vec<char>, NoMemory>
 
 /// Returns the first `MAX_SHOWN_CHARACTERS` characters of a text with one space for each run of
 /// white space and none at either end.
-pub fn brief_spaced(alloc: Global, text: &str) -> Result<Text, NoMemory>
+pub fn shorten_spaced(alloc: Global, text: &str) -> Result<Text, NoMemory>
     ensures { IfOk result (λ t. t ≡ brief (Texts.one_spaced (chars text.now))) }
 {
     let out = spaced_prefix(alloc, text)?;
-    brief_of(alloc, after_space(out.as_slice()))
+    shorten(alloc, after_space(out.as_slice()))
 }
 
-/// Returns what `brief_spaced` returns for every text that begins with this one; none if what
+/// Returns what `shorten_spaced` returns for every text that begins with this one; none if what
 /// follows may change it.
-pub fn settled_brief(alloc: Global, text: &str) -> Result<Option<Text>, NoMemory>
+pub fn find_settled_brief(alloc: Global, text: &str) -> Result<Option<Text>, NoMemory>
     ensures { IfOk result (λ found. IfSome found (λ t. (later : List ℕ)
         → t ≡ brief (Texts.one_spaced (chars text.now ++ later)))) }
 {
@@ -145,5 +145,5 @@ pub fn settled_brief(alloc: Global, text: &str) -> Result<Option<Text>, NoMemory
     if out.len() <= MAX_SHOWN_CHARACTERS {
         return Ok(None);
     }
-    Ok(Some(brief_of(alloc, after_space(out.as_slice()))?))
+    Ok(Some(shorten(alloc, after_space(out.as_slice()))?))
 }

@@ -26,8 +26,8 @@ fn has_number(part: &Part, number: u64) -> bool
 }
 
 /// Returns the leaf with this number (partId), of a part and those within it.
-#[cycle(leaf)]
-pub fn leaf(part: &Part, number: u64) -> Option<&Part>
+#[cycle(find_leaf)]
+pub fn find_leaf(part: &Part, number: u64) -> Option<&Part>
     ensures { option_map node_in result ≡ leaf_numbered number (tree_of part.now none) }
 {
     if has_number(part, number) {
@@ -36,12 +36,12 @@ pub fn leaf(part: &Part, number: u64) -> Option<&Part>
     leaf_within(part.parts.as_slice(), number)
 }
 
-#[cycle(leaf)]
+#[cycle(find_leaf)]
 fn leaf_within(parts: &[Part], number: u64) -> Option<&Part>
     ensures { option_map node_in result ≡ leaf_numbered number (joined parts.now none) }
 {
     for part in parts {
-        if let Some(found) = leaf(part, number) {
+        if let Some(found) = find_leaf(part, number) {
             return Some(found);
         }
     }
@@ -66,7 +66,7 @@ pub fn part_bytes(alloc: Global, bytes: &[u8], number: u64) -> Result<Option<Byt
     ensures { IfOk result (λ b. b ≡ part_bytes_of bytes.now number) }
 {
     let root = parts(alloc, bytes)?;
-    match leaf(&root, number) {
+    match find_leaf(&root, number) {
         Some(found) => Ok(Some(read_body(alloc, bytes, found)?)),
         None => Ok(None),
     }

@@ -14,9 +14,9 @@ mod summary;
 mod texts_lines;
 mod texts_tags;
 
-pub use body_value::{BodyValue, body_value_of};
+pub use body_value::{BodyValue, read_body_value};
 pub use laws::{date_of_received_follows_the_last_semicolon, examples_of_texts};
-pub use leaves::{has_attachment, leaf, part_bytes, read_body};
-pub use preview::{first_text_of, preview_of};
+pub use leaves::{find_leaf, has_attachment, part_bytes, read_body};
+pub use preview::{build_preview, find_first_text};
 pub use received::received_of;
 pub use summary::{SummaryAndReceipt, read_summary_and_receipt, summary_of};

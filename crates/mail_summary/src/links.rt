@@ -6,10 +6,10 @@ ghost use Rattle.mime_lines.specs.FieldOffsets.{IsWithin, last_value_of};
 ghost use Rattle.mail_summary.specs.Links;
 ghost use Rattle.mail_summary.specs.Links.{gathered, if_value, is_short, links, put_if_few};
 
-use header_forms::{angle_texts_of, on_one_line};
+use header_forms::{read_angle_texts, unfold_value};
 use jm_base::{NoMemory, Text, Texts};
 use mail_records::MAX_LINKS_PER_EMAIL;
-use mime_lines::{FieldSpans, last_value};
+use mime_lines::{FieldSpans, find_last_value};
 use std::alloc::Global;
 use std::cmp::Ordering;
 use std::collections::VecDeque;
@@ -63,11 +63,11 @@ fn ids_of(alloc: Global, bytes: &[u8], fields: &FieldSpans, name: &[u8]) -> Resu
     requires { All (IsWithin bytes.now) fields.now }
     ensures { IfOk result (λ ids. ids ≡ if_value (last_value_of bytes.now name.now fields.now)) }
 {
-    let Some(value) = last_value(bytes, fields, name) else {
+    let Some(value) = find_last_value(bytes, fields, name) else {
         return Ok(Texts::new(alloc));
     };
-    let line = on_one_line(alloc, value)?;
-    angle_texts_of(alloc, line.as_str())
+    let line = unfold_value(alloc, value)?;
+    read_angle_texts(alloc, line.as_str())
 }
 
 /// Reads the identifiers that link a message whose header has these fields (RFC 8621, section 3).

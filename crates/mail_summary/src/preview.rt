@@ -14,9 +14,9 @@ ghost use Rattle.mail_summary.specs.Views.{node_in};
 ghost use Rattle.mail_summary.specs.Texts.{Begins, brief, one_spaced, preview_by, shown_text};
 
 use crate::body_value::read_body_text;
-use crate::characters::{brief_spaced, settled_brief};
-use crate::leaves::leaf;
-use crate::texts_tags::without_tags_of;
+use crate::characters::{find_settled_brief, shorten_spaced};
+use crate::leaves::find_leaf;
+use crate::texts_tags::remove_tags;
 use body_lists::{is_html, is_plain};
 use jm_base::{NoMemory, Text};
 use memchr::memrchr;
@@ -37,13 +37,13 @@ fn text_numbered(root: &Part, number: u64) -> Option<&Part>
     ensures { option_map node_in result ≡ if_text (leaf_numbered number (tree_of root.now none))
         None }
 {
-    let found = leaf(root, number)?;
+    let found = find_leaf(root, number)?;
     if is_text(found) { Some(found) } else { None }
 }
 
 /// Returns the first of the leaves with these numbers that is plain text or HTML, of a part and
 /// those within it.
-pub fn first_text_of<'a>(root: &'a Part, numbers: &[u64]) -> Option<&'a Part>
+pub fn find_first_text<'a>(root: &'a Part, numbers: &[u64]) -> Option<&'a Part>
     ensures { option_map node_in result ≡ first_text (tree_of root.now none) numbers.now }
 {
     for number in numbers {
@@ -59,7 +59,7 @@ fn show(alloc: Global, part: &Part, text: Text) -> Result<Text, NoMemory>
     ensures { IfOk result (λ t. t ≡ shown_text (node_of part.now) text) }
 {
     if is_html(part) {
-        without_tags_of(alloc, text.as_str())
+        remove_tags(alloc, text.as_str())
     } else {
         Ok(text)
     }
@@ -112,7 +112,7 @@ fn early_preview(alloc: Global, coding: Coding, body: &[u8]) -> Result<Option<Te
         return Ok(None);
     }
     match std::str::from_utf8(bytes.as_slice()) {
-        Ok(text) => settled_brief(alloc, text),
+        Ok(text) => find_settled_brief(alloc, text),
         Err(_) => Ok(None),
     }
 }
@@ -124,7 +124,7 @@ fn whole_preview(alloc: Global, bytes: &[u8], part: &Part) -> Result<Text, NoMem
 {
     let Decoded { text, .. } = read_body_text(alloc, bytes, part)?;
     let shown = show(alloc, part, text)?;
-    brief_spaced(alloc, shown.as_str())
+    shorten_spaced(alloc, shown.as_str())
 }
 
 fn part_preview(alloc: Global, bytes: &[u8], part: &Part) -> Result<Text, NoMemory>
@@ -143,7 +143,7 @@ fn part_preview(alloc: Global, bytes: &[u8], part: &Part) -> Result<Text, NoMemo
 /// Returns the preview of a message with this tree of parts, whose text is the leaves of these
 /// numbers: the text of the first of them that is plain text or HTML, without the tags of HTML, cut
 /// to `MAX_SHOWN_CHARACTERS` characters (RFC 8621, section 4.1.4: preview).
-pub fn preview_of(
+pub fn build_preview(
     alloc: Global,
     bytes: &[u8],
     root: &Part,
@@ -153,7 +153,7 @@ pub fn preview_of(
     ensures { IfOk result (λ t. t ≡ preview_by bytes.now
         (first_text (tree_of root.now none) numbers.now)) }
 {
-    match first_text_of(root, numbers) {
+    match find_first_text(root, numbers) {
         Some(first) => part_preview(alloc, bytes, first),
         None => Ok(Text::from_string(String::new(alloc))),
     }

@@ -8,9 +8,9 @@ ghost use Rattle.mail_summary.specs.Received;
 ghost use Rattle.mail_summary.specs.Received.{timestamp_after, received, first_value_of};
 ghost use Rattle.mail_summary.specs.Views.{bytes_in};
 
-use header_forms::{on_one_line, timestamp_of};
+use header_forms::{find_timestamp, unfold_value};
 use jm_base::{NoMemory, UtcDate};
-use mail_text::{State, next_state};
+use mail_text::{State, advance_state};
 use mime_lines::{Field, FieldSpans, fields};
 use std::alloc::Global;
 
@@ -58,7 +58,7 @@ fn after_last(text: &[u8]) -> Option<&[u8]>
     let mut rest = text;
     while let Some((byte, after)) = rest.split_first() {
         last = latest(last, state, *byte, after);
-        state = next_state(state, *byte as u32);
+        state = advance_state(state, *byte as u32);
         rest = after;
     }
     last
@@ -69,9 +69,9 @@ fn read_timestamp(alloc: Global, value: &[u8]) -> Result<Option<UtcDate>, NoMemo
     ensures value { IfOk result (λ d. d ≡ timestamp_after value.now) }
     ensures kept { IfOk result (λ d. ForSome d IsUtcDate) }
 {
-    let line = on_one_line(alloc, value)?;
+    let line = unfold_value(alloc, value)?;
     match after_last(line.as_bytes()) {
-        Some(text) => Ok(timestamp_of(text)),
+        Some(text) => Ok(find_timestamp(text)),
         None => Ok(None),
     }
 }

@@ -6,8 +6,8 @@ ghost use Rattle.mail_summary.specs.Subjects;
 ghost use Rattle.mail_summary.specs.Subjects.{stripped, without_prefixes};
 ghost use Rattle.mail_summary.specs.Texts.{brief};
 
-use crate::characters::{brief_of, characters, lower, space_out};
-use header_forms::text_of_value;
+use crate::characters::{collect_characters, lower, shorten, space_out};
+use header_forms::read_text_form;
 use jm_base::{NoMemory, Text};
 use std::alloc::Global;
 
@@ -72,9 +72,9 @@ fn after_prefixes(text: &[char]) -> &[char]
 pub fn read_subject(alloc: Global, value: &[u8]) -> Result<Text, NoMemory>
     ensures { IfOk result (λ t. t ≡ brief (stripped (chars (text_form value.now)))) }
 {
-    let text = text_of_value(alloc, value)?;
-    let all = characters(alloc, text.as_str())?;
+    let text = read_text_form(alloc, value)?;
+    let all = collect_characters(alloc, text.as_str())?;
     let low = lower(alloc, all.as_slice())?;
     let out = space_out(alloc, after_prefixes(low.as_slice()))?;
-    brief_of(alloc, out.as_slice())
+    shorten(alloc, out.as_slice())
 }

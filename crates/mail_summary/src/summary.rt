@@ -12,15 +12,15 @@ ghost use Rattle.mail_summary.specs.Texts.{brief};
 ghost use Rattle.mail_summary.specs.Summaries.{first_name, name_by, sent_by, subject_by};
 ghost use Rattle.mail_summary.specs.Summaries;
 
-use crate::characters::brief_text;
+use crate::characters::shorten_text;
 use crate::leaves::has_attachment;
 use crate::links::links_of;
 use crate::received::received_in;
 use crate::subjects::read_subject;
-use header_forms::{Address, addresses_of, on_one_line, timestamp_of};
+use header_forms::{Address, find_timestamp, parse_addresses, unfold_value};
 use jm_base::{NoMemory, Text, UtcDate};
 use mail_records::Summary;
-use mime_lines::{FieldSpans, fields, last_value};
+use mime_lines::{FieldSpans, fields, find_last_value};
 use mime_tree::parts;
 use std::alloc::Global;
 
@@ -28,7 +28,7 @@ fn subject_in(alloc: Global, bytes: &[u8], fields: &FieldSpans) -> Result<Text, 
     requires { All (IsWithin bytes.now) fields.now }
     ensures { IfOk result (λ t. t ≡ subject_by (last_value_of bytes.now (codes "Subject") fields.now)) }
 {
-    match last_value(bytes, fields, b"Subject") {
+    match find_last_value(bytes, fields, b"Subject") {
         Some(value) => read_subject(alloc, value),
         None => Text::from_str(alloc, ""),
     }
@@ -39,8 +39,8 @@ fn name_of(alloc: Global, address: &Address) -> Result<Text, NoMemory>
     ensures { IfOk result (λ t. t ≡ brief (chars (unwrap_or address.now.name address.now.email))) }
 {
     match &address.name {
-        Some(name) => brief_text(alloc, name.as_str()),
-        None => brief_text(alloc, address.email.as_str()),
+        Some(name) => shorten_text(alloc, name.as_str()),
+        None => shorten_text(alloc, address.email.as_str()),
     }
 }
 
@@ -58,11 +58,11 @@ fn name_in(alloc: Global, bytes: &[u8], fields: &FieldSpans, name: &[u8]) -> Res
     requires { All (IsWithin bytes.now) fields.now }
     ensures { IfOk result (λ t. t ≡ name_by (last_value_of bytes.now name.now fields.now)) }
 {
-    let Some(value) = last_value(bytes, fields, name) else {
+    let Some(value) = find_last_value(bytes, fields, name) else {
         return Text::from_str(alloc, "");
     };
-    let line = on_one_line(alloc, value)?;
-    let all = addresses_of(alloc, line.as_str())?;
+    let line = unfold_value(alloc, value)?;
+    let all = parse_addresses(alloc, line.as_str())?;
     first_name_in(alloc, all.as_slice())
 }
 
@@ -71,10 +71,10 @@ fn sent_in(alloc: Global, bytes: &[u8], fields: &FieldSpans) -> Result<Option<Ut
     ensures value { IfOk result (λ d. d ≡ option_and_then sent_by (last_value_of bytes.now (codes "Date") fields.now)) }
     ensures kept { IfOk result (λ d. ForSome d IsUtcDate) }
 {
-    match last_value(bytes, fields, b"Date") {
+    match find_last_value(bytes, fields, b"Date") {
         Some(value) => {
-            let line = on_one_line(alloc, value)?;
-            Ok(timestamp_of(line.as_bytes()))
+            let line = unfold_value(alloc, value)?;
+            Ok(find_timestamp(line.as_bytes()))
         }
         None => Ok(None),
     }

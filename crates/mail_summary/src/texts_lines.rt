@@ -134,7 +134,7 @@ fn push_bytes(out: &mut Vec<u8>, text: &[u8]) -> Result<(), NoMemory>
 }
 
 /// Returns bytes with LF for each CRLF.
-pub fn bytes_with_line_feeds(alloc: Global, text: &[u8]) -> Result<Vec<u8>, NoMemory>
+pub fn replace_line_ends(alloc: Global, text: &[u8]) -> Result<Vec<u8>, NoMemory>
     ensures { IfOk result (λ out. out.items ≡ with_line_feeds text.now) }
 {
     let mut out = Vec::with_capacity(alloc, text.len())?;
@@ -150,7 +150,7 @@ pub fn bytes_with_line_feeds(alloc: Global, text: &[u8]) -> Result<Vec<u8>, NoMe
 pub fn with_line_feeds_of(alloc: Global, text: &str) -> Result<String, NoMemory>
     ensures { IfOk result (λ t. string_bytes t ≡ with_line_feeds text.now) }
 {
-    match String::from_utf8(bytes_with_line_feeds(alloc, text.as_bytes())?) {
+    match String::from_utf8(replace_line_ends(alloc, text.as_bytes())?) {
         Ok(out) => Ok(out),
         Err(_) => unreachable!(),
     }

@@ -27,7 +27,7 @@ fn push_tag<'a>(out: &mut String, after: &'a str) -> Result<&'a str, NoMemory>
 }
 
 /// Returns a text with a space for each HTML tag, in time linear in its length.
-pub fn without_tags_of(alloc: Global, text: &str) -> Result<Text, NoMemory>
+pub fn remove_tags(alloc: Global, text: &str) -> Result<Text, NoMemory>
     ensures { IfOk result (λ t. t ≡ without_tags text.now) }
 {
     let mut out = String::with_capacity(alloc, text.len())?;

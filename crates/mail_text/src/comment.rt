@@ -40,7 +40,7 @@ fn next_inside(depth: u64, code: u32) -> State
 
 /// Returns where the byte or character after this one is. `code` is the number of this one: a byte,
 /// or a character's code point.
-pub fn next_state(state: State, code: u32) -> State
+pub fn advance_state(state: State, code: u32) -> State
     requires { depth_of state + 1 < 2 ^ 64 }
     ensures value { result ≡ Comments.next state code }
     ensures bound { depth_of result ≤ depth_of state + 1 }

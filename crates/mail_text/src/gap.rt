@@ -3,7 +3,7 @@ ghost use Rattle.std.specs.Prelude.{◌≡◌, ◌≤◌, length, option_map, If
 ghost use Rattle.mail_text.specs.Comments;
 ghost use Rattle.mail_text.specs.Comments.{after_gap, is_white};
 
-use crate::comment::{State, is_outside, next_state};
+use crate::comment::{State, advance_state, is_outside};
 
 /// Which bytes are white space.
 #[derive(Clone, Copy)]
@@ -46,7 +46,7 @@ pub fn skip_gap(text: &[u8], white: WhiteSpace) -> Option<&[u8]>
         if !is_in_gap(white, state, *byte) {
             return Some(rest);
         }
-        state = next_state(state, *byte as u32);
+        state = advance_state(state, *byte as u32);
         rest = after;
     }
     if is_outside(state) { Some(rest) } else { None }

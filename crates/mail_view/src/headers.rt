@@ -10,7 +10,7 @@ use get_args::HeaderProperty;
 use header_forms::{Form, form_of};
 use jm_base::{NoMemory, Text};
 use jm_json::{Items, Json, Members};
-use mime_lines::{Field, FieldSpans, last_value};
+use mime_lines::{Field, FieldSpans, find_last_value};
 use std::alloc::Global;
 
 // Returns the values of all fields of this name, in a form.
@@ -47,7 +47,7 @@ fn write_last_value(
     ensures { IfOk result (λ t. tree_of t
         ≡ value_or_null form (last_value_of bytes.now name.now fields.now)) }
 {
-    match last_value(bytes, fields, name) {
+    match find_last_value(bytes, fields, name) {
         Some(value) => form_of(alloc, value, form),
         None => Ok(Json::Null),
     }

@@ -13,7 +13,7 @@ use crate::structure::write_structure;
 use body_lists::BodyLists;
 use jm_base::{NoMemory, Numbers};
 use jm_json::Json;
-use mail_summary::{has_attachment, preview_of};
+use mail_summary::{build_preview, has_attachment};
 use mime_lines::FieldSpans;
 use mime_type::Part;
 use std::alloc::Global;
@@ -93,6 +93,6 @@ pub(crate) fn write_preview(alloc: Global, message: &Message<'_>) -> Result<Json
         json_of t ≡ text_tree (Texts.preview message.now.showing.bytes.now)) }
 {
     let numbers = message.lists.text.as_slice();
-    let words = preview_of(alloc, message.showing.bytes, message.root, numbers)?;
+    let words = build_preview(alloc, message.showing.bytes, message.root, numbers)?;
     Ok(Json::Text(words))
 }

@@ -18,7 +18,7 @@ use crate::sizes::{BodySize, find_size};
 use get_args::{NamedPartProperty, PartProperty};
 use jm_base::{NoMemory, Text, Texts};
 use jm_json::{Items, Json, Members};
-use mime_codec::decoded_size;
+use mime_codec::count_decoded;
 use mime_lines::{FieldSpans, fields};
 use mime_type::Part;
 use mime_words::decode_words;
@@ -110,7 +110,7 @@ fn write_size(showing: &Showing<'_>, part: &Part) -> Json
         return Json::Int(size as i64);
     }
     let body = &showing.bytes[part.body as usize..part.end as usize];
-    Json::Int(decoded_size(part.coding, body) as i64)
+    Json::Int(count_decoded(part.coding, body) as i64)
 }
 
 // Returns a property of a part with these bytes, `own`, and these header fields.

@@ -8,7 +8,7 @@ ghost use Rattle.mail_view.specs.Views.{ArePlaced, nodes_of};
 
 use get_args::{NamedPartProperty, NamedProperty, PartProperty, Property, Wanted};
 use jm_base::NoMemory;
-use mime_codec::{Coding, decoded_size};
+use mime_codec::{Coding, count_decoded};
 use mime_type::Part;
 use std::alloc::Global;
 
@@ -31,7 +31,7 @@ fn size_of_part(bytes: &[u8], part: &Part) -> BodySize
         coding: part.coding,
         body: part.body,
         end: part.end,
-        size: decoded_size(part.coding, body),
+        size: count_decoded(part.coding, body),
     }
 }
 

@@ -17,7 +17,7 @@ use body_lists::BodyLists;
 use get_args::Wanted;
 use jm_base::{NoMemory, Text};
 use jm_json::{Json, Members};
-use mail_summary::body_value_of;
+use mail_summary::read_body_value;
 use mime_type::Part;
 use std::alloc::Global;
 
@@ -58,7 +58,7 @@ fn write_value(alloc: Global, bytes: &[u8], most: u64, part: &Part) -> Result<Js
     ensures { IfOk result (λ t.
         json_of t ≡ value_tree (Texts.body_value bytes.now most (node_of part.now))) }
 {
-    let body = body_value_of(alloc, bytes, part, most)?;
+    let body = read_body_value(alloc, bytes, part, most)?;
     let mut value = Members::with_room(alloc, 3)?;
     value.set(alloc, "isEncodingProblem", Json::Bool(body.problem))?;
     value.set(alloc, "isTruncated", Json::Bool(body.truncated))?;

@@ -59,7 +59,7 @@ fn measure_keeper<R: Clock + Print + Eprint, S: Alter + Drop + Send, O: Opens<S>
 /// has then goes to standard output, the time of the appends to the error output.
 pub(crate) fn measure_append(rt: &HostRuntime, file: &str) -> io::Result<()> {
     match Text::from_str(rt.alloc(), file) {
-        Ok(path) => measure_keeper(rt, rt.alloc(), SqliteKeeper::at(rt, path)),
+        Ok(path) => measure_keeper(rt, rt.alloc(), SqliteKeeper::open_later(rt, path)),
         Err(_) => Err(no_memory()),
     }
 }

@@ -1,6 +1,6 @@
 // The JSON view of each message of a folder.
 use crate::timing::{nanos_since, no_memory};
-use get_args::{Wanted, wanted_for_read};
+use get_args::{Wanted, build_wanted_for_read};
 use jm_base::{Bytes, NoMemory};
 use jm_json::write_after;
 use mail_view::view;
@@ -39,7 +39,7 @@ fn show_all(rt: &HostRuntime, folder: &str, wanted: &Wanted) -> io::Result<Shown
 /// Measures the view that `jmap read` prints, for each message of a folder. The counts go to
 /// standard output, the time to the error output.
 pub(crate) fn measure_view(rt: &HostRuntime, folder: &str) -> io::Result<()> {
-    let wanted = wanted_for_read(rt.alloc()).map_err(|_| no_memory())?;
+    let wanted = build_wanted_for_read(rt.alloc()).map_err(|_| no_memory())?;
     let start = Instant::now(rt)?;
     let Shown { messages, bytes } = show_all(rt, folder, &wanted)?;
     let nanos = nanos_since(rt, start)?;

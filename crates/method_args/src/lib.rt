@@ -11,8 +11,8 @@ mod values;
 
 pub use form::{Argument, Presence, Shape, find_invalid, has_form};
 pub use values::{
-    find_given, read_account, read_count, read_flag, read_integer, read_object, read_strings,
-    read_text, strings_of,
+    find_given, lend_strings, read_account, read_count, read_flag, read_integer, read_object,
+    read_strings, read_text,
 };
 
 /// The greatest number of objects that one call may get or set: `maxObjectsInGet` and

@@ -55,7 +55,7 @@ fn strings_from<'a>(alloc: Global, items: &'a [Json]) -> Result<Option<Vec<&'a s
 }
 
 /// Returns the strings of a value, which are lent, or `None` if the value is no list of strings.
-pub fn strings_of<'a>(alloc: Global, value: &'a Json) -> Result<Option<Vec<&'a str>>, NoMemory>
+pub fn lend_strings<'a>(alloc: Global, value: &'a Json) -> Result<Option<Vec<&'a str>>, NoMemory>
     ensures { IfOk result
         (λ o. option_map (λ v. map (λ t. t.now) v.items) o ≡ as_strings (tree_of value.now)) }
 {
@@ -76,7 +76,7 @@ pub fn read_strings<'a>(
         (λ o. option_map (λ v. map (λ t. t.now) v.items) o ≡ strings_in name.now members.now) }
 {
     match find_given(members, name) {
-        Some(value) => strings_of(alloc, value),
+        Some(value) => lend_strings(alloc, value),
         None => Ok(None),
     }
 }

@@ -30,7 +30,7 @@ impl Answered {
             (λ o. IsReply o (outcome_of self).status (tree_of (outcome_of self).tree)) }
     {
         match self {
-            Answered::Rejected(problem) => Outcome::refusal(alloc, problem),
+            Answered::Rejected(problem) => Outcome::reject(alloc, problem),
             Answered::Performed(shows, after) => Ok(Outcome {
                 status: 200,
                 tree: response(alloc, shows, after)?,
@@ -67,6 +67,6 @@ fn write_refusal(
         ++ compact_text (data_of (problem_tree problem))) }
     ensures err { OnErr result (out.new ≡ out.old) }
 {
-    let Outcome { tree, .. } = Outcome::refusal(alloc, problem)?;
+    let Outcome { tree, .. } = Outcome::reject(alloc, problem)?;
     write_with(alloc, scratch, out, &tree)
 }

@@ -80,7 +80,7 @@ impl Outcome {
     ghost use Rattle.method_batch.specs.Outcome.{IsRefusal};
 
     /// Returns the outcome of a request that is rejected as a whole.
-    pub fn refusal(alloc: Global, problem: Problem) -> Result<Outcome, NoMemory>
+    pub fn reject(alloc: Global, problem: Problem) -> Result<Outcome, NoMemory>
         ensures { IfOk result (λ o. IsRefusal problem o) }
     {
         let status = problem.status();

@@ -45,7 +45,7 @@ impl Prepared {
             ≤ room.old) }
     {
         if !is_allowed(core, mail, call.name.as_str()) {
-            return Prepared::refusal(alloc, "unknownMethod", call.id);
+            return Prepared::reject(alloc, "unknownMethod", call.id);
         }
         Prepared::of_known(alloc, room, call, responses)
     }
@@ -86,13 +86,13 @@ impl Prepared {
         let Invocation { name, args, id } = call;
         match resolve(alloc, room, args, responses) {
             Ok(args) => Ok(Prepared::Ready(Invocation { name, args, id })),
-            Err(RefFault::BadReference) => Prepared::refusal(alloc, "invalidResultReference", id),
-            Err(RefFault::Both) => Prepared::refusal(alloc, "invalidArguments", id),
+            Err(RefFault::BadReference) => Prepared::reject(alloc, "invalidResultReference", id),
+            Err(RefFault::Both) => Prepared::reject(alloc, "invalidArguments", id),
             Err(RefFault::NoMemory) => Err(NoMemory),
         }
     }
 
-    fn refusal(alloc: Global, kind: &str, id: Text) -> Result<Prepared, NoMemory>
+    fn reject(alloc: Global, kind: &str, id: Text) -> Result<Prepared, NoMemory>
         ensures { IfOk result (λ p. preparation_of p ≡ refused (error_of kind.now id)) }
     {
         Ok(Prepared::Refused(Invocation::error(alloc, kind, id)?))

@@ -16,7 +16,7 @@ enum Waiting {
     Three(u8, u8, u8),
 }
 
-/// What `six_bits` returns for a character that isn't of the alphabet.
+/// What `decode_letter` returns for a character that isn't of the alphabet.
 pub const NO_LETTER: u8 = 64;
 
 /// The six bits of each character, or `NO_LETTER`. A table is faster than comparisons, whose
@@ -43,7 +43,7 @@ fn entry(table: &[u8; 256], byte: u8) -> u8
 }
 
 /// Returns the six bits of a character of the alphabet, or `NO_LETTER`.
-pub fn six_bits(byte: u8) -> u8
+pub fn decode_letter(byte: u8) -> u8
     ensures none { result ≡ NO_LETTER → letter byte ≡ None }
     ensures some { result ≢ NO_LETTER → letter byte ≡ Some result }
     ensures small { result ≤ NO_LETTER }
@@ -80,7 +80,7 @@ fn push_character(out: &mut Vec<u8>, waiting: Waiting, byte: u8) -> Result<Waiti
         ++ packed (before now later) ≡ out.old.items
         ++ packed (before waiting (with_letter (letter byte) later))) }
 {
-    let value = six_bits(byte);
+    let value = decode_letter(byte);
     if value == NO_LETTER {
         return Ok(waiting);
     }
@@ -108,10 +108,10 @@ fn split_group(text: &[u8]) -> Option<Group<'_>>
     if text.len() < 4 {
         return None;
     }
-    let a = six_bits(text[0]);
-    let b = six_bits(text[1]);
-    let c = six_bits(text[2]);
-    let d = six_bits(text[3]);
+    let a = decode_letter(text[0]);
+    let b = decode_letter(text[1]);
+    let c = decode_letter(text[2]);
+    let d = decode_letter(text[3]);
     if a == NO_LETTER || b == NO_LETTER || c == NO_LETTER || d == NO_LETTER {
         return None;
     }

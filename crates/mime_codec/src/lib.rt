@@ -11,4 +11,4 @@ mod size;
 
 pub use coding::{Coding, decode};
 pub use quoted::unescape;
-pub use size::decoded_size;
+pub use size::count_decoded;

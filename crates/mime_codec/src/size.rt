@@ -11,8 +11,8 @@ use crate::quoted::{split_first, split_run, trim_end};
 use memchr::memchr;
 use mime_lines::{split_line, text_len};
 
-/// Returns whether a character is of the alphabet. It compares, where `six_bits` reads a table: a
-/// loop over comparisons becomes vector code.
+/// Returns whether a character is of the alphabet. It compares, where `decode_letter` reads a
+/// table: a loop over comparisons becomes vector code.
 fn is_letter(byte: u8) -> bool
     ensures { result ≡ Base64.is_letter byte }
 {
@@ -156,7 +156,7 @@ fn quoted_size(bytes: &[u8]) -> usize
 
 /// Returns how many bytes `bytes` encode in this transfer encoding: no more than they are. It
 /// allocates nothing.
-pub fn decoded_size(coding: Coding, bytes: &[u8]) -> u64
+pub fn count_decoded(coding: Coding, bytes: &[u8]) -> u64
     ensures value { result ≡ length (decoded coding bytes.now) }
     ensures within { result ≤ length bytes.now }
 {

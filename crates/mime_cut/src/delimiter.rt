@@ -86,7 +86,7 @@ fn scan<'a>(boundary: &[u8], bytes: &'a [u8]) -> Delimiter<'a>
 }
 
 /// Finds the next delimiter line or close-delimiter in one pass over the lines.
-pub fn next_delimiter<'a>(boundary: &[u8], bytes: &'a [u8]) -> Delimiter<'a>
+pub fn find_delimiter<'a>(boundary: &[u8], bytes: &'a [u8]) -> Delimiter<'a>
     // After a delimiter line the first piece ends before the next one, and the others follow that.
     ensures pieces { (start : ℕ) → pieces boundary.now start (lines bytes.now)
         ≡ piece start (take result.before bytes.now)

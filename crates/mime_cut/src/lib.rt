@@ -1,6 +1,6 @@
 //! The cut of a multipart's body at its delimiter lines (RFC 2046, section 5.1.1).
 //!
-//! [`next_delimiter`] finds one delimiter line at a time, so that a caller stops when it has enough
+//! [`find_delimiter`] finds one delimiter line at a time, so that a caller stops when it has enough
 //! parts. No call copies bytes.
 #![tactic(auto)]
 
@@ -8,6 +8,6 @@ mod delimiter;
 mod laws;
 mod line_kind;
 
-pub use delimiter::{Delimiter, next_delimiter};
+pub use delimiter::{Delimiter, find_delimiter};
 pub use laws::pieces_are_in_the_message;
 pub use line_kind::LineKind;

@@ -47,7 +47,7 @@ impl Field {
 
 /// Returns the value of the last field that has this name, in either case; none if no field has
 /// it.
-pub fn last_value<'a>(bytes: &'a [u8], fields: &FieldSpans, name: &[u8]) -> Option<&'a [u8]>
+pub fn find_last_value<'a>(bytes: &'a [u8], fields: &FieldSpans, name: &[u8]) -> Option<&'a [u8]>
     requires { All (IsWithin bytes.now) fields.now }
     ensures { MatchOption result (last_value_of bytes.now name.now fields.now ≡ None)
         (λ v. last_value_of bytes.now name.now fields.now ≡ Some v.now) }

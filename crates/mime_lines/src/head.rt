@@ -4,7 +4,7 @@ ghost use Rattle.mime_lines.specs.Fields.{fields_of, body_of, spans};
 ghost use Rattle.mime_lines.specs.FieldOffsets.{IsWithin};
 
 use crate::field::{Field, FieldSpans};
-use crate::scan::{colon_of, is_line_end, split_field, split_line, text_len};
+use crate::scan::{find_colon, is_line_end, split_field, split_line, text_len};
 use jm_base::{NoMemory, Sequence};
 use std::alloc::Global;
 
@@ -21,7 +21,7 @@ fn push_field(fields: &mut FieldSpans, at: usize, lines: &[u8]) -> Result<(), No
     requires { at + length lines.now < 2 ^ 64 }
     ensures { OnOk result (fields.new ≡ fields.old ++ spans at (lines.now ∷ [])) }
 {
-    if let Some(colon) = colon_of(lines) {
+    if let Some(colon) = find_colon(lines) {
         fields.push(Field {
             start: at as u64,
             colon: (at + colon) as u64,

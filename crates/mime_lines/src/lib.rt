@@ -1,8 +1,8 @@
 //! The lines of a message and the fields of its header (RFC 5322, sections 2.1 to 2.2).
 //!
 //! [`fields`] finds the byte offsets of a header's fields; [`Field::name`] and [`Field::value`]
-//! read what is there, and [`last_value`] finds the field that counts where a name is repeated.
-//! Only [`unfold`] copies text.
+//! read what is there, and [`find_last_value`] finds the field that counts where a name is
+//! repeated. Only [`unfold`] copies text.
 #![tactic(auto)]
 
 mod field;
@@ -10,7 +10,7 @@ mod folding;
 mod head;
 mod scan;
 
-pub use field::{Field, FieldSpans, fields_stand, last_value};
+pub use field::{Field, FieldSpans, fields_stand, find_last_value};
 pub use folding::unfold;
 pub use head::{Head, fields};
 pub use scan::{is_line_end, split_line, text_len};

@@ -107,7 +107,7 @@ fn name_length(line: &[u8]) -> usize
 }
 
 /// Returns the byte offset of a field's colon; none if these lines are no field.
-pub fn colon_of(line: &[u8]) -> Option<usize>
+pub fn find_colon(line: &[u8]) -> Option<usize>
     ensures within { IfSome result (λ colon. colon ≤ length line.now) }
     ensures value { result ≡ cond (is_field line.now) (Some (name_len line.now)) None }
 {

@@ -10,7 +10,7 @@ ghost use Rattle.mime_tree.specs.Budget.{Taken, taken};
 
 use crate::part::{is_digest, read_part};
 use jm_base::NoMemory;
-use mime_cut::{LineKind, next_delimiter};
+use mime_cut::{LineKind, find_delimiter};
 use mime_type::{Part, Parts};
 use std::alloc::Global;
 
@@ -87,13 +87,13 @@ fn parts_within(
     };
     let boundary = boundary.as_bytes();
     let digest = is_digest(part);
-    let mut found = next_delimiter(boundary, &message[part.body as usize..part.end as usize]);
+    let mut found = find_delimiter(boundary, &message[part.body as usize..part.end as usize]);
     let mut offset = part.body as usize + found.size;
     while let LineKind::DelimiterLine = found.kind {
         if budget.left == 0 {
             return Ok(Parts::from_vec(items));
         }
-        let next = next_delimiter(boundary, found.rest);
+        let next = find_delimiter(boundary, found.rest);
         let end = offset + next.before;
         let inner = read_part_tree(
             alloc,

@@ -8,7 +8,7 @@ ghost use Rattle.mime_type.specs.Texts.{IsText};
 ghost use Rattle.mime_type.specs.Views.{kind_of};
 
 use crate::kind::Kind;
-use crate::params::{first_text, into_text};
+use crate::params::{into_text, read_parameter};
 use jm_base::{NoMemory, Text};
 use std::alloc::Global;
 
@@ -36,7 +36,7 @@ pub fn read_charset(alloc: Global, kind: &Kind<'_>) -> Result<Option<Text>, NoMe
     requires { IsText (kind_of kind.now) }
     ensures { IfOk result (λ c. c ≡ Rattle.mime_type.specs.Content.charset_of (kind_of kind.now)) }
 {
-    match first_text(alloc, kind.params, b"charset")? {
+    match read_parameter(alloc, kind.params, b"charset")? {
         Some(charset) => Ok(Some(lower_text(charset))),
         None => default_charset(alloc, kind.kind.as_slice()),
     }
@@ -72,7 +72,7 @@ pub fn read_boundary(alloc: Global, kind: &Kind<'_>) -> Result<Option<Text>, NoM
     if !is_multipart(kind.kind.as_slice()) {
         return Ok(None);
     }
-    Ok(if_any(first_text(alloc, kind.params, b"boundary")?))
+    Ok(if_any(read_parameter(alloc, kind.params, b"boundary")?))
 }
 
 /// Returns the type that a part is read as. A multipart without a boundary is
@@ -95,7 +95,7 @@ fn read_filename(alloc: Global, shown: &Option<Kind<'_>>) -> Result<Option<Text>
         (option_map kind_of shown.now)) }
 {
     match shown {
-        Some(kind) => first_text(alloc, kind.params, b"filename"),
+        Some(kind) => read_parameter(alloc, kind.params, b"filename"),
         None => Ok(None),
     }
 }
@@ -113,7 +113,7 @@ pub fn read_name(
 {
     match read_filename(alloc, shown)? {
         Some(name) => Ok(Some(name)),
-        None => first_text(alloc, kind.params, b"name"),
+        None => read_parameter(alloc, kind.params, b"name"),
     }
 }
 

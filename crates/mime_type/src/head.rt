@@ -18,7 +18,7 @@ use crate::labels::{read_coding, read_id, read_language, read_location};
 use crate::part::{Part, Parts};
 use jm_base::{NoMemory, Text, Texts};
 use mime_codec::Coding;
-use mime_lines::{FieldSpans, fields, last_value, unfold};
+use mime_lines::{FieldSpans, fields, find_last_value, unfold};
 use std::alloc::Global;
 
 /// Reads the value of the last field of a name, on one line, if there is one.
@@ -33,7 +33,7 @@ fn field_text(
     requires whole { fields.now ≡ fields_of bytes.now }
     ensures { IfOk result (λ t. t ≡ Head.field_text name.now bytes.now) }
 {
-    let Some(value) = last_value(bytes, fields, name) else {
+    let Some(value) = find_last_value(bytes, fields, name) else {
         return Ok(None);
     };
     let line = unfold(alloc, value)?;

@@ -12,7 +12,7 @@ ghost use Rattle.mime_type.specs.Views.{kind_of};
 use crate::characters::{lower_copy, push_lowered};
 use crate::gap::{skip_gap, skip_mark};
 use crate::params::is_whole;
-use crate::values::token;
+use crate::values::read_token;
 use jm_base::{NoMemory, Text};
 use std::alloc::Global;
 
@@ -41,13 +41,13 @@ fn take_type(alloc: Global, text: &[u8]) -> Result<Option<Kind<'_>>, NoMemory>
     let Some(at) = skip_gap(text) else {
         return Ok(None);
     };
-    let Some(main) = token(at) else {
+    let Some(main) = read_token(at) else {
         return Ok(None);
     };
     let Some(rest) = skip_mark(b'/', main.rest) else {
         return Ok(None);
     };
-    let Some(sub) = token(rest) else {
+    let Some(sub) = read_token(rest) else {
         return Ok(None);
     };
     if !is_whole(sub.rest) {
@@ -67,7 +67,7 @@ fn take_disposition(alloc: Global, text: &[u8]) -> Result<Option<Kind<'_>>, NoMe
     let Some(at) = skip_gap(text) else {
         return Ok(None);
     };
-    let Some(name) = token(at) else {
+    let Some(name) = read_token(at) else {
         return Ok(None);
     };
     Ok(Some(Kind {

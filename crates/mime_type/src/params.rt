@@ -8,7 +8,7 @@ ghost use Rattle.mime_type.specs.Texts.{AreTexts};
 ghost use Rattle.mime_type.specs.Views.{pair, taken, turn, turn_size, leading_value};
 
 use crate::gap::{skip_gap, skip_mark};
-use crate::values::{copy_value, skip_value, token};
+use crate::values::{copy_value, read_token, skip_value};
 use jm_base::{NoMemory, Text};
 use std::alloc::Global;
 
@@ -42,7 +42,7 @@ fn take_param(text: &[u8]) -> Option<Taken<'_>>
     ensures value { option_map taken result ≡ param_at text.now }
     ensures within { IfSome result (λ r. length r.rest.now ≤ length text.now) }
 {
-    let name = token(text)?;
+    let name = read_token(text)?;
     let value = skip_mark(b'=', name.rest)?;
     let rest = skip_value(value)?;
     Some(Taken {
@@ -153,7 +153,7 @@ pub fn into_text(bytes: Vec<u8>) -> Text
 }
 
 /// Returns the value of the first parameter of a name, before the first syntax error.
-pub fn first_text(alloc: Global, params: &[u8], name: &[u8]) -> Result<Option<Text>, NoMemory>
+pub fn read_parameter(alloc: Global, params: &[u8], name: &[u8]) -> Result<Option<Text>, NoMemory>
     requires { AreTexts (params_of params.now).found }
     ensures { IfOk result (λ t. t ≡ first_named (lowered name.now) (params_of params.now).found) }
 {

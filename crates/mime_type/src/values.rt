@@ -62,7 +62,7 @@ fn cut(text: &[u8], len: usize) -> Option<Run<'_>>
 }
 
 /// Reads the token at the start.
-pub fn token(text: &[u8]) -> Option<Run<'_>>
+pub fn read_token(text: &[u8]) -> Option<Run<'_>>
     ensures value { option_map run_of result ≡ run_at Rattle.mime_type.specs.Characters.is_token
         text.now }
     ensures within { IfSome result (λ r. length r.rest.now ≤ length text.now) }

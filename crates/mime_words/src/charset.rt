@@ -29,7 +29,7 @@ pub struct Decoded {
 }
 
 /// Returns the charset of a name, in either case; none if it isn't one of the three.
-pub fn charset_named(name: &[u8]) -> Option<Charset>
+pub fn find_charset(name: &[u8]) -> Option<Charset>
     ensures { result ≡ Rattle.mime_words.specs.Charsets.charset_named name.now }
 {
     if is_same_name(name, b"utf-8") {
@@ -155,7 +155,11 @@ fn latin_text(alloc: Global, bytes: &[u8]) -> Result<String, NoMemory>
 }
 
 /// Returns the text of bytes in a charset.
-pub fn charset_text(alloc: Global, charset: Charset, bytes: &[u8]) -> Result<String, NoMemory>
+pub fn decode_known_charset(
+    alloc: Global,
+    charset: Charset,
+    bytes: &[u8],
+) -> Result<String, NoMemory>
     ensures { IfOk result (λ text. string_bytes text ≡ text_in charset bytes.now) }
 {
     match charset {
@@ -206,10 +210,10 @@ pub fn decode_charset(alloc: Global, charset: &[u8], bytes: &[u8]) -> Result<Dec
     ensures problem { IfOk result (λ d. d.problem
         ≡ has_problem (Rattle.mime_words.specs.Charsets.charset_named charset.now) bytes.now) }
 {
-    match charset_named(charset) {
+    match find_charset(charset) {
         Some(Charset::Utf8) => decode_utf8(alloc, bytes),
         Some(known) => Ok(Decoded {
-            text: Text::from_string(charset_text(alloc, known, bytes)?),
+            text: Text::from_string(decode_known_charset(alloc, known, bytes)?),
             problem: is_broken(known, bytes),
         }),
         None => Ok(Decoded {

@@ -8,7 +8,7 @@ ghost use Rattle.mime_words.specs.Words;
 ghost use Rattle.mime_words.specs.Words.{bytes_by, coded_bytes, without_controls, content, word_at, Cut, word, cut, meaning, gap, decoded_words};
 ghost use Rattle.mime_words.specs.Views.{shape_of, word_of, found_of, said_after, said_with, meaning_of};
 
-use crate::charset::{Charset, charset_named, charset_text, is_same_charset};
+use crate::charset::{Charset, decode_known_charset, find_charset, is_same_charset};
 use crate::shape::{Shape, split_shape};
 use jm_base::{Bytes, NoMemory, Text};
 use mime_codec::{Coding, decode, unescape};
@@ -84,7 +84,7 @@ fn drop_controls(text: &mut String)
 fn read_content(alloc: Global, shape: Shape<'_>) -> Result<Option<Word>, NoMemory>
     ensures { IfOk result (λ w. option_map word_of w ≡ content (shape_of shape.entry)) }
 {
-    let Some(charset) = charset_named(shape.charset.as_bytes()) else {
+    let Some(charset) = find_charset(shape.charset.as_bytes()) else {
         return Ok(None);
     };
     match decode_coded(alloc, shape.encoding.as_bytes(), shape.encoded.as_bytes())? {
@@ -143,7 +143,7 @@ fn push_meaning(alloc: Global, out: &mut String, word: &Word) -> Result<(), NoMe
     ensures { OnOk result (string_bytes out.new ≡ string_bytes out.old
         ++ meaning (word_of word.now)) }
 {
-    let mut text = charset_text(alloc, word.charset, word.bytes.as_slice())?;
+    let mut text = decode_known_charset(alloc, word.charset, word.bytes.as_slice())?;
     drop_controls(&mut text);
     out.push_str(text.as_str())?;
     Ok(())

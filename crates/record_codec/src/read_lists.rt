@@ -27,7 +27,7 @@ fn read_counted_numbers(
     Ok((numbers, rest))
 }
 
-fn after(number: u64) -> u64
+fn advance_number(number: u64) -> u64
     ensures { result ≡ number_after number }
 {
     if number == u64::MAX {
@@ -52,7 +52,7 @@ fn read_counted_rising_numbers(
         let (number, behind) = read_number_between(low, u64::MAX - (count - (taken + 1)), rest)?;
         numbers.push(number)?;
         rest = behind;
-        low = after(number);
+        low = advance_number(number);
     }
     Ok((numbers, rest))
 }

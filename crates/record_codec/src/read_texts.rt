@@ -6,7 +6,7 @@ ghost use Rattle.record_codec.specs.Readers.{blob_at, content_at, is_above, is_t
 
 use crate::faults::Misread;
 use crate::read_fields::{read_number, read_number_between};
-use crate::utf8::{CharacterRest, START, least_above, turns_of};
+use crate::utf8::{CharacterRest, START, find_least_length, find_turn};
 use jm_base::Text;
 use std::alloc::Global;
 
@@ -62,10 +62,10 @@ impl TextRest {
 
     /// Returns what is still to come after the byte, given the bound's byte at the same index, or
     /// None if no string continues so.
-    pub fn after(self, bound: Option<u8>, byte: u8) -> Option<TextRest>
+    pub fn advance(self, bound: Option<u8>, byte: u8) -> Option<TextRest>
         ensures { result ≡ text_rest_after self bound byte }
     {
-        match self.follow.after(byte) {
+        match self.follow.advance(byte) {
             None => None,
             Some(follow) => {
                 if self.room <= follow.more as u64 {
@@ -95,10 +95,10 @@ fn left_of_text(room: u64, tight: bool, bound: &[u8], bytes: &[u8]) -> usize
         follow: START,
         room,
         tight,
-        turn: turns_of(room, bound),
+        turn: find_turn(room, bound),
     };
     for at in 0..bytes.len() {
-        match rest_of_text.after(byte_at(bound, at), bytes[at]) {
+        match rest_of_text.advance(byte_at(bound, at), bytes[at]) {
             None => return bytes.len() - at,
             Some(next) => rest_of_text = next,
         }
@@ -150,7 +150,7 @@ fn least_of(tight: bool, bound: &[u8]) -> u64
     ensures { result ≡ least_room tight bound.now }
 {
     if tight {
-        return least_above(bound) as u64;
+        return find_least_length(bound) as u64;
     }
     0
 }

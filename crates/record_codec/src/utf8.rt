@@ -43,7 +43,7 @@ fn lead(byte: u8) -> Option<CharacterRest>
 
 impl CharacterRest {
     /// Returns the rest of the character after the byte, or None if the byte may not stand here.
-    pub fn after(self, byte: u8) -> Option<CharacterRest>
+    pub fn advance(self, byte: u8) -> Option<CharacterRest>
         ensures { result ≡ after_byte self byte }
     {
         if self.more == 0 {
@@ -68,7 +68,7 @@ impl CharacterRest {
 
     /// Returns how many bytes at least a string has from here on that has a greater byte in place
     /// of this one; 0 if none has.
-    pub fn rise_cost(self, byte: u8) -> usize
+    pub fn count_bytes_to_rise(self, byte: u8) -> usize
         ensures { result ≡ rise_cost self byte }
     {
         if self.more == 0 {
@@ -118,7 +118,7 @@ fn turned(turn: usize, at: usize, rises: bool) -> usize
 
 /// Returns up to which byte of the string, counted from 1, a string of so many bytes can be the
 /// same and yet be greater: 0 if no string of so many bytes is greater.
-pub fn turns_of(room: u64, text: &[u8]) -> usize
+pub fn find_turn(room: u64, text: &[u8]) -> usize
     ensures { result ≡ turns (Some start) room text.now }
 {
     let mut follow = START;
@@ -130,7 +130,7 @@ pub fn turns_of(room: u64, text: &[u8]) -> usize
         }
         let byte = text[at];
         turn = turned(turn, at, follow.can_rise(left, byte));
-        match follow.after(byte) {
+        match follow.advance(byte) {
             None => return turn,
             Some(next) => follow = next,
         }
@@ -152,7 +152,7 @@ fn lesser(least: usize, at: usize, cost: usize) -> usize
 }
 
 /// Returns the least length of a string that is greater than this one.
-pub fn least_above(text: &[u8]) -> usize
+pub fn find_least_length(text: &[u8]) -> usize
     ensures { result ≡ least_length (Some start) text.now }
 {
     let mut follow = START;
@@ -162,8 +162,8 @@ pub fn least_above(text: &[u8]) -> usize
             return least;
         }
         let byte = text[at];
-        least = lesser(least, at, follow.rise_cost(byte));
-        match follow.after(byte) {
+        least = lesser(least, at, follow.count_bytes_to_rise(byte));
+        match follow.advance(byte) {
             None => return least,
             Some(next) => follow = next,
         }

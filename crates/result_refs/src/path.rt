@@ -12,7 +12,7 @@ ghost use Rattle.result_refs.specs.Made.{gathered_bytes, step_bytes, parts_bytes
 use crate::RefFault;
 use crate::room::{copy_within, take_room, take_scan};
 use jm_base::NoMemory;
-use jm_json::{Items, Json, child, part_end};
+use jm_json::{Items, Json, find_child, part_end};
 use std::alloc::Global;
 
 // Returns a copy of what a path names in a tree.
@@ -118,7 +118,7 @@ fn take_child(
         + room.new ≤ room.old) (λ _. room.new ≤ room.old) }
 {
     take_scan(room, tree, part)?;
-    match child(tree, part) {
+    match find_child(tree, part) {
         Some(next) => walk_on(alloc, room, next, more),
         None => Err(RefFault::BadReference),
     }

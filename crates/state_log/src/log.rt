@@ -6,8 +6,8 @@ ghost use Rattle.state_log.specs.Logs.{ids_in, log_end, note_of};
 ghost use Rattle.state_log.specs.declared.notes.Note.{Note as TheNote};
 
 use crate::Note;
-use crate::notes::{last_place, note_of};
-use crate::touched::touched_in;
+use crate::notes::{find_last_place, note_of};
+use crate::touched::collect_touched;
 use jm_base::{Kind, NoMemory, Numbers};
 use mail_records::Edit;
 use std::alloc::Global;
@@ -139,7 +139,7 @@ impl Log {
             (take (position - self.now.floor) (ids_in self.now.notes)) }
         ensures reached { (floor_of self.now.floors kind ≤ result) × (result ≤ log_end self.now) }
     {
-        match last_place(self.notes_upto(position), kind) {
+        match find_last_place(self.notes_upto(position), kind) {
             Some(place) => self.floor + place as u64,
             None => position_of(&self.floors, kind),
         }
@@ -179,7 +179,7 @@ impl Log {
         ensures { IfOk result (AreNamed kind (ids_between self.now.floor from upto
             (ids_in self.now.notes))) }
     {
-        touched_in(alloc, self.notes_between(from, upto), kind)
+        collect_touched(alloc, self.notes_between(from, upto), kind)
     }
 
     /// Lends the notes of the edits after one position, up to another, in order.

@@ -91,7 +91,7 @@ pub fn is_of(note: &Note, kind: Kind) -> bool
 }
 
 /// Returns the index of the last note of a kind, counted from 1.
-pub fn last_place(notes: &[Note], kind: Kind) -> Option<usize>
+pub fn find_last_place(notes: &[Note], kind: Kind) -> Option<usize>
     ensures value { result ≡ last_place (is_kind_of kind) (ids_in notes.now) }
     ensures within { IfSome result (λ n. n ≤ length notes.now) }
 {

@@ -33,7 +33,7 @@ fn put_in_order(numbers: &mut Vec<u64>)
 }
 
 /// Returns the numbers of a kind that the notes name, in number order.
-pub fn touched_in(alloc: Global, notes: &[Note], kind: Kind) -> Result<Numbers, NoMemory>
+pub fn collect_touched(alloc: Global, notes: &[Note], kind: Kind) -> Result<Numbers, NoMemory>
     ensures { IfOk result (AreNamed kind (ids_in notes.now)) }
 {
     let mut numbers = numbers_named(alloc, notes, kind)?;

@@ -1,14 +1,14 @@
 // Tables of dates. What they say is by docs/rules/messages-forms.md and by RFC 5322, sections 3.3
 // and 4.3 and appendix A. The seconds of a timestamp are those that Python's `datetime` counts to
 // its date.
-use header_forms::{date_of, timestamp_of};
+use header_forms::{find_timestamp, read_date_text};
 use jm_base::NoMemory;
 use std::alloc::Global;
 use std::test::Fail;
 
 /// Whether a text says this date.
 fn is_said(alloc: Global, text: &[u8], date: &str) -> Result<bool, NoMemory> {
-    match date_of(alloc, text)? {
+    match read_date_text(alloc, text)? {
         Some(said) => Ok(said.as_str() == date),
         None => Ok(false),
     }
@@ -27,7 +27,7 @@ fn all_say(alloc: Global, table: &[(&[u8], &str)]) -> Result<bool, NoMemory> {
 /// Returns whether no text has a date or a timestamp.
 fn none_says(alloc: Global, texts: &[&[u8]]) -> Result<bool, NoMemory> {
     for text in texts {
-        if date_of(alloc, text)?.is_some() || timestamp_of(text).is_some() {
+        if read_date_text(alloc, text)?.is_some() || find_timestamp(text).is_some() {
             return Ok(false);
         }
     }
@@ -36,7 +36,7 @@ fn none_says(alloc: Global, texts: &[&[u8]]) -> Result<bool, NoMemory> {
 
 /// Returns whether a text has the timestamp of these Unix seconds.
 fn is_timestamp(text: &[u8], seconds: i64) -> bool {
-    match timestamp_of(text) {
+    match find_timestamp(text) {
         Some(timestamp) => timestamp.seconds == seconds,
         None => false,
     }
@@ -225,8 +225,8 @@ fn timestamps_of_other_years(rt: HostRuntime) -> Result<(), Fail> {
         b"1 Jan 0000 00:00 GMT",
     ];
     for text in &texts {
-        assert!(rt; timestamp_of(text).is_none());
-        assert!(rt; date_of(rt.alloc(), text)?.is_some());
+        assert!(rt; find_timestamp(text).is_none());
+        assert!(rt; read_date_text(rt.alloc(), text)?.is_some());
     }
     Ok(())
 }

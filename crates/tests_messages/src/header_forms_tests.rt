@@ -1,8 +1,8 @@
 // Values in each form. What they say is by docs/rules/messages-forms.md, and by the examples of RFC
 // 8621, section 4.1.2, RFC 5322, appendix A, RFC 2047, section 8, and RFC 2369.
 use header_forms::{
-    Addresses, Form, addresses_of, angle_texts_of, form_of, groups_of, on_one_line, raw_of,
-    text_of_value,
+    Addresses, Form, form_of, parse_addresses, parse_groups, read_angle_texts, read_raw,
+    read_text_form, unfold_value,
 };
 use jm_base::NoMemory;
 use jm_json::write;
@@ -66,7 +66,7 @@ fn raw_values(rt: HostRuntime) -> Result<(), Fail> {
         (b"", ""),
     ];
     for (value, raw) in &table {
-        assert!(rt; raw_of(rt.alloc(), value)?.as_str() == *raw);
+        assert!(rt; read_raw(rt.alloc(), value)?.as_str() == *raw);
     }
     Ok(())
 }
@@ -85,7 +85,7 @@ fn texts_of_values(rt: HostRuntime) -> Result<(), Fail> {
         (b" a\0\xFFb", "a\u{FFFD}b"),
     ];
     for (value, text) in &table {
-        assert!(rt; text_of_value(rt.alloc(), value)?.as_str() == *text);
+        assert!(rt; read_text_form(rt.alloc(), value)?.as_str() == *text);
     }
     Ok(())
 }
@@ -277,11 +277,11 @@ fn dates(rt: HostRuntime) -> Result<(), Fail> {
 /// What the layers above read.
 #[test]
 fn parts_of_a_value(rt: HostRuntime) -> Result<(), Fail> {
-    let line = on_one_line(rt.alloc(), b" <a>,\r\n g:<b>;")?;
+    let line = unfold_value(rt.alloc(), b" <a>,\r\n g:<b>;")?;
     assert!(rt; line.as_str() == " <a>, g:<b>;");
-    assert!(rt; addresses_of(rt.alloc(), line.as_str())?.len() == 2);
-    assert!(rt; groups_of(rt.alloc(), line.as_str())?.len() == 2);
-    assert!(rt; angle_texts_of(rt.alloc(), line.as_str())?.len() == 2);
+    assert!(rt; parse_addresses(rt.alloc(), line.as_str())?.len() == 2);
+    assert!(rt; parse_groups(rt.alloc(), line.as_str())?.len() == 2);
+    assert!(rt; read_angle_texts(rt.alloc(), line.as_str())?.len() == 2);
     Ok(())
 }
 
@@ -300,7 +300,7 @@ fn many_addresses(rt: HostRuntime) -> Result<(), Fail> {
         line.push_str("a@x,")?;
     }
     line.push_str(" G: B <b@y>;")?;
-    let addresses = addresses_of(rt.alloc(), line.as_str())?;
+    let addresses = parse_addresses(rt.alloc(), line.as_str())?;
     assert!(rt; is_list(&addresses, 100_001, "b@y"));
     let tree = form_of(rt.alloc(), line.as_bytes(), Form::Addresses)?;
     let shown = write(rt.alloc(), &tree)?;

@@ -1,6 +1,6 @@
 // Tables of both transfer encodings. The values of escapes and of base64 are those of Python's
 // `quopri` and `base64`.
-use mime_codec::{Coding, decode, decoded_size, unescape};
+use mime_codec::{Coding, count_decoded, decode, unescape};
 use std::alloc::Global;
 
 fn decodes(alloc: Global, coding: Coding, text: &[u8], meant: &[u8]) -> bool {
@@ -92,7 +92,7 @@ fn zero_and_8_bit_bytes(rt: HostRuntime) {
 
 #[test]
 fn sizes(rt: HostRuntime) {
-    assert!(rt; decoded_size(Coding::Plain, b"=41 \n") == 5);
-    assert!(rt; decoded_size(Coding::Quoted, b"a=20b \r\nc= \r\nd=4") == 9);
-    assert!(rt; decoded_size(Coding::Base64, b"Zm9v Yg==Zm9v") == 4);
+    assert!(rt; count_decoded(Coding::Plain, b"=41 \n") == 5);
+    assert!(rt; count_decoded(Coding::Quoted, b"a=20b \r\nc= \r\nd=4") == 9);
+    assert!(rt; count_decoded(Coding::Base64, b"Zm9v Yg==Zm9v") == 4);
 }

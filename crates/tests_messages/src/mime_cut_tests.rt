@@ -1,17 +1,17 @@
 // Bodies of multiparts, with the pieces that they have.
-use mime_cut::{LineKind, next_delimiter};
+use mime_cut::{LineKind, find_delimiter};
 use std::alloc::{AllocError, Global};
 use std::test::Fail;
 
 /// The pieces in turn, each with `|` after it.
 fn pieces(alloc: Global, boundary: &[u8], body: &[u8]) -> Result<Vec<u8>, AllocError> {
     let mut pieces = Vec::new(alloc);
-    let mut found = next_delimiter(boundary, body);
+    let mut found = find_delimiter(boundary, body);
     for _ in 0..100 {
         if found.kind != LineKind::DelimiterLine {
             return Ok(pieces);
         }
-        let next = next_delimiter(boundary, found.rest);
+        let next = find_delimiter(boundary, found.rest);
         pieces.extend_from_slice(found.rest.split_at(next.before).0)?;
         pieces.push(b'|')?;
         found = next;

@@ -1,6 +1,6 @@
 // Shapes of headers and folded values, with byte offsets counted by hand.
 use jm_base::NoMemory;
-use mime_lines::{fields, last_value, unfold};
+use mime_lines::{fields, find_last_value, unfold};
 use std::alloc::Global;
 use std::test::Fail;
 
@@ -49,9 +49,9 @@ fn shapes_of_headers(rt: HostRuntime) -> Result<(), Fail> {
 fn last_of_repeated_fields(rt: HostRuntime) -> Result<(), Fail> {
     let bytes: &[u8] = b"X-a: 1\nx-A:2\n 3\nX-ab: 4\n";
     let head = fields(rt.alloc(), bytes)?;
-    let value = last_value(bytes, &head.fields, b"X-A").ok_or("no field")?;
+    let value = find_last_value(bytes, &head.fields, b"X-A").ok_or("no field")?;
     assert_eq!(rt; value, b"2\n 3".as_slice());
-    assert!(rt; last_value(bytes, &head.fields, b"X").is_none());
+    assert!(rt; find_last_value(bytes, &head.fields, b"X").is_none());
     Ok(())
 }
 

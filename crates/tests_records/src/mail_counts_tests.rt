@@ -1,7 +1,7 @@
 // The forms of a mailbox's members, and a mailbox as it is shown.
 use jm_base::{NoMemory, Text};
 use jm_json::{Json, write};
-use mail_counts::{derived, is_name, is_role, is_sort_order, mailbox_view};
+use mail_counts::{build_mailbox_view, derived, is_name, is_role, is_sort_order};
 use mail_records::{Content, Mailbox};
 use std::alloc::Global;
 use std::process::Abort;
@@ -53,7 +53,7 @@ fn work(alloc: Global) -> Result<Mailbox, NoMemory> {
 #[test]
 fn a_mailbox_is_shown_with_its_rights(rt: HostRuntime) -> Result<(), Fail> {
     let mailbox = work(rt.alloc())?;
-    let view = Json::Object(mailbox_view(rt.alloc(), &mailbox, true)?);
+    let view = Json::Object(build_mailbox_view(rt.alloc(), &mailbox, true)?);
     let text = write(rt.alloc(), &view)?;
     let wanted =
         "{\"id\":\"M2\",\"isSubscribed\":false,\"myRights\":{\"mayAddItems\":false,\"mayCreateChild\":false,\"mayDelete\":false,\"mayReadItems\":true,\"mayRemoveItems\":false,\"mayRename\":false,\"maySetKeywords\":false,\"maySetSeen\":false,\"maySubmit\":false},\"name\":\"Work\",\"parentId\":\"M1\",\"role\":\"inbox\",\"sortOrder\":7,\"totalEmails\":4,\"totalThreads\":2,\"unreadEmails\":3,\"unreadThreads\":1}";

@@ -4,7 +4,7 @@ use mail_records::{Content, Edit, Email, Summary, apply, fits};
 use std::alloc::Global;
 use std::process::Abort;
 use std::test::Fail;
-use thread_assign::{thread_in, thread_of};
+use thread_assign::{find_joined_thread, thread_of};
 
 fn summary(alloc: Global, subject: &str, links: &[&str]) -> Result<Summary, NoMemory> {
     let mut texts = Vec::new(alloc);
@@ -168,7 +168,7 @@ fn find_answers(alloc: Global, content: &Content) -> Result<Answers, NoMemory> {
     let mut wanted = Vec::new(alloc);
     for row in &ROWS {
         let new = summary(alloc, row.subject, row.links)?;
-        by_links.push(thread_in(content, &new).unwrap_or(0))?;
+        by_links.push(find_joined_thread(content, &new).unwrap_or(0))?;
         by_scan.push(thread_of(content.emails(), &new).unwrap_or(0))?;
         wanted.push(row.wanted)?;
     }

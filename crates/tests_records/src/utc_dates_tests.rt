@@ -1,6 +1,6 @@
 // Strings that are dates, and strings that are none.
 use std::test::Fail;
-use utc_dates::{first_second, utc_seconds};
+use utc_dates::{read_first_second, read_utc_seconds};
 
 #[test]
 fn strings_have_the_seconds_of_their_dates(rt: HostRuntime) -> Result<(), Fail> {
@@ -15,7 +15,7 @@ fn strings_have_the_seconds_of_their_dates(rt: HostRuntime) -> Result<(), Fail> 
         ("1970-02-29T00:00:00Z", None),
         ("1970-01-01T00:00:00.Z", None),
     ] {
-        assert!(rt; utc_seconds(row.0.as_bytes()) == row.1, "{}", row.0);
+        assert!(rt; read_utc_seconds(row.0.as_bytes()) == row.1, "{}", row.0);
     }
     Ok(())
 }
@@ -31,7 +31,7 @@ fn a_fraction_counts_as_the_next_second(rt: HostRuntime) -> Result<(), Fail> {
         ("1970-01-01T00:00:09.5", None),
         ("1970", None),
     ] {
-        assert!(rt; first_second(row.0.as_bytes()) == row.1, "{}", row.0);
+        assert!(rt; read_first_second(row.0.as_bytes()) == row.1, "{}", row.0);
     }
     Ok(())
 }

@@ -1,7 +1,7 @@
 // Bodies as values and as previews.
 use body_lists::lists;
 use jm_base::{NoMemory, Text};
-use mail_summary::{body_value_of, preview_of};
+use mail_summary::{build_preview, read_body_value};
 use mime_tree::parts;
 use std::alloc::Global;
 use std::test::Fail;
@@ -9,7 +9,7 @@ use std::test::Fail;
 /// The value of a message that is one leaf: `!` for a problem, `+` where it is cut, and its text.
 fn value(alloc: Global, message: &[u8], most: u64) -> Result<String, NoMemory> {
     let root = parts(alloc, message)?;
-    let value = body_value_of(alloc, message, &root, most)?;
+    let value = read_body_value(alloc, message, &root, most)?;
     let mut out = String::new(alloc);
     if value.problem {
         out.push('!')?;
@@ -62,7 +62,7 @@ fn values_of_bodies(rt: HostRuntime) -> Result<(), Fail> {
 fn preview(alloc: Global, message: &[u8]) -> Result<Text, NoMemory> {
     let root = parts(alloc, message)?;
     let found = lists(alloc, &root)?;
-    preview_of(alloc, message, &root, found.text.as_slice())
+    build_preview(alloc, message, &root, found.text.as_slice())
 }
 
 #[test]

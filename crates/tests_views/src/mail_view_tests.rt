@@ -1,5 +1,5 @@
 // Views of messages.
-use get_args::{Wanted, WantedFault, read_wanted, wanted_for_read};
+use get_args::{Wanted, WantedFault, build_wanted_for_read, read_wanted};
 use jm_base::{NoMemory, Numbers, Sequence, Text, UtcDate};
 use jm_json::{read, write};
 use mail_records::{Email, Summary};
@@ -56,7 +56,7 @@ fn check(rt: &impl Abort, alloc: Global, message: &str, rows: &[(&str, &str)]) -
 
 #[test]
 fn a_message_is_shown_from_the_command_line(rt: HostRuntime) -> Result<(), Fail> {
-    let wanted = wanted_for_read(rt.alloc())?;
+    let wanted = build_wanted_for_read(rt.alloc())?;
     let object = shown(rt.alloc(), "Subject: hi\r\n\r\nok", None, &wanted)?;
     assert!(rt; object.as_str() == READ, "{object}");
     Ok(())
@@ -212,7 +212,7 @@ fn long_lists_are_shown(rt: HostRuntime) -> Result<(), Fail> {
     // Of the parts that a message has, 1,000 count, and it is one itself.
     let piece = "--a\nContent-Type: image/png\n\nx\n".repeat(alloc, 1500)?;
     let message = format!(in alloc; "Content-Type: multipart/mixed; boundary=a\n\n{piece}")?;
-    let wanted = wanted_for_read(alloc)?;
+    let wanted = build_wanted_for_read(alloc)?;
     let object = shown(alloc, message.as_str(), None, &wanted)?;
     assert!(rt; object.as_str().contains("\"b1-999\""));
     assert!(rt; !object.as_str().contains("\"b1-1000\""));

@@ -69,7 +69,7 @@ fn first_with(content: &Content, link: &Text, subject: &Text) -> Option<Candidat
 /// takes no memory.
 ///
 /// [`thread_of`]: crate::thread_of
-pub fn thread_in(content: &Content, summary: &Summary) -> Option<u64>
+pub fn find_joined_thread(content: &Content, summary: &Summary) -> Option<u64>
     ensures { result ≡ joined_thread content.now.content.emails summary.now }
 {
     let _emails = content.emails();

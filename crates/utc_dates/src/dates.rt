@@ -7,7 +7,7 @@ use jm_base::{UtcDate, read_utc};
 
 /// Returns the Unix seconds of the date that a string is, or `None` if it is no date in UTC of the
 /// years 0001 to 9999. A fraction of a second is dropped.
-pub fn utc_seconds(text: &[u8]) -> Option<i64>
+pub fn read_utc_seconds(text: &[u8]) -> Option<i64>
     ensures { result ≡ utc_seconds text.now }
 {
     match read_utc(text) {
@@ -48,7 +48,7 @@ fn rounded_up(date: &UtcDate, fraction: bool) -> i64
 
 /// Returns the Unix seconds of the first whole second that is not before the date that a string is,
 /// or `None` if it is no date in UTC of the years 0001 to 9999.
-pub fn first_second(text: &[u8]) -> Option<i64>
+pub fn read_first_second(text: &[u8]) -> Option<i64>
     ensures { result ≡ first_second text.now }
 {
     match read_utc(text) {

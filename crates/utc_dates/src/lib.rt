@@ -7,5 +7,5 @@
 mod dates;
 mod laws;
 
-pub use dates::{first_second, utc_seconds};
+pub use dates::{read_first_second, read_utc_seconds};
 pub use laws::texts_are_dates;

@@ -5,7 +5,7 @@ use Rattle.mail_summary.proofs.body_value.ascii_lines.Goals as goal
 
 pub returns-in-Ok-clause-text : goal.returns-in-Ok-clause-text
 returns-in-Ok-clause-text c charset =
-    ap (λ v. v.items) c.in-Ok.ensures.ok ∙ c.in_ok-bytes_with_line_feeds.ensures
+    ap (λ v. v.items) c.in-Ok.ensures.ok ∙ c.in_ok-replace_line_ends.ensures
     ∙ ap with_line_feeds (sym (whole_ascii charset c.args.bytes.now (c.if-not-is_ascii.ensures refl)))
 
 pub returns-in-Ok-clause-problem : goal.returns-in-Ok-clause-problem

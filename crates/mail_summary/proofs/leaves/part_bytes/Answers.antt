@@ -9,4 +9,4 @@ use Rattle.mail_summary.proofs.leaves.part_bytes.Goals as goal
 pub read_body-requires : goal.read_body-requires
 read_body-requires c =
     leaf_placed (length c.args.bytes.now) c.args.number (tree_of c.in_ok-root.root none) (node_in c.in-Some.found) c.in_ok-root.ensures.places
-    (sym c.leaf.ensures ∙ ap (option_map node_in) c.in-Some.is)
+    (sym c.find_leaf.ensures ∙ ap (option_map node_in) c.in-Some.is)

@@ -15,4 +15,4 @@ returns-in-Ok c =
     let begins : Begins front whole = subst (λ t. Begins t whole) (sym is) c.front.ensures in
     carried _ _ (λ t held charset.
     let found = chars_begin charset front whole ascii begins in
-    held found.0 ∙ ap (λ cs. brief (one_spaced cs)) (sym found.1)) c.settled_brief.result c.settled_brief.ensures
+    held found.0 ∙ ap (λ cs. brief (one_spaced cs)) (sym found.1)) c.find_settled_brief.result c.find_settled_brief.ensures

@@ -48,15 +48,15 @@ parts_within-loop-found-init t c =
     let part = c.args.part.now in
     let b = c.as_bytes-boundary.result.now in
     let bytes = slice_range message part.body part.end in
-    let found = c.next_delimiter-found.result in
+    let found = c.find_delimiter-found.result in
     let each = part_tree (c.args.levels - 1) c.is_digest-digest.result in
     let later = after_line b found.kind (part.body + found.size) (lines found.rest.now) in
     let count : length bytes ≡ part.end - part.body = length-slice message part.body part.end c.requires.ordered c.requires.inside in
-    let inside : found.size ≤ length bytes = c.next_delimiter-found.ensures.within in
+    let inside : found.size ≤ length bytes = c.find_delimiter-found.ensures.within in
     record {
       taken = ap (λ items. onto items (taken (trees_of each later) c.args.budget.now.left c.args.budget.now.number)) c.new-items.ensures.items
-          ∙ ap (λ ps. taken (trees_of each ps) c.args.budget.now.left c.args.budget.now.number) (sym (c.next_delimiter-found.ensures.cut part.body));
-      rest = c.next_delimiter-found.ensures.rest ∙ drop-slice message part.body part.end found.size (omega arith);
+          ∙ ap (λ ps. taken (trees_of each ps) c.args.budget.now.left c.args.budget.now.number) (sym (c.find_delimiter-found.ensures.cut part.body));
+      rest = c.find_delimiter-found.ensures.rest ∙ drop-slice message part.body part.end found.size (omega arith);
       placed = subst (λ items. AllPlaced (length message) (joined items none)) (sym c.new-items.ensures.items) tt;
       ordered = omega arith;
       room = c.requires.room;
@@ -85,7 +85,7 @@ parts_within-loop-found-preserved t c =
     let part = c.args.part.now in
     let b = c.as_bytes-boundary.result.now in
     let rest = c.loop-found.found.rest.now in
-    let next = c.next_delimiter-next.result in
+    let next = c.find_delimiter-next.result in
     let offset = c.loop-found.offset in
     let each = part_tree (c.args.levels - 1) c.is_digest-digest.result in
     let now = piece offset (slice_range message offset (offset + next.before)) in
@@ -93,12 +93,12 @@ parts_within-loop-found-preserved t c =
     let some : 0 < c.loop-found.budget.left = omega arith in
     let count : length (slice_range message offset part.end) ≡ part.end - offset = length-slice message offset part.end c.loop-found.invariant.ordered c.requires.inside in
     let same : length rest ≡ length (slice_range message offset part.end) = ap length c.loop-found.invariant.rest in
-    let inside : next.size ≤ length rest = c.next_delimiter-next.ensures.within in
-    let before : next.before ≤ next.size = c.next_delimiter-next.ensures.ordered in
+    let inside : next.size ≤ length rest = c.find_delimiter-next.ensures.within in
+    let before : next.before ≤ next.size = c.find_delimiter-next.ensures.ordered in
     let front : take next.before rest ≡ slice_range message offset (offset + next.before) =
     ap (take next.before) c.loop-found.invariant.rest ∙ take-slice message offset part.end next.before (omega arith) in
     let opens : after_line b c.loop-found.found.kind offset (lines rest) ≡ now ∷ later =
-    ap (λ m. after_line b m offset (lines rest)) c.in-DelimiterLine.is ∙ c.next_delimiter-next.ensures.pieces offset ∙ ap (λ t. piece offset t ∷ later) front in
+    ap (λ m. after_line b m offset (lines rest)) c.in-DelimiterLine.is ∙ c.find_delimiter-next.ensures.pieces offset ∙ ap (λ t. piece offset t ∷ later) front in
     let k = c.read_part_tree.new.budget.left in
     let j = c.read_part_tree.new.budget.number in
     let step : taken (trees_of each (after_line b c.loop-found.found.kind offset (lines rest))) c.loop-found.budget.left c.loop-found.budget.number
@@ -110,7 +110,7 @@ parts_within-loop-found-preserved t c =
       taken = ap (λ items. onto items (taken (trees_of each later) k j)) c.in_ok-push.ensures.items
           ∙ onto_push c.loop-found.items.items c.in_ok-inner.inner (taken (trees_of each later) k j) _ step
           ∙ c.loop-found.invariant.taken;
-      rest = c.next_delimiter-next.ensures.rest ∙ ap (drop next.size) c.loop-found.invariant.rest ∙ drop-slice message offset part.end next.size (omega arith);
+      rest = c.find_delimiter-next.ensures.rest ∙ ap (drop next.size) c.loop-found.invariant.rest ∙ drop-slice message offset part.end next.size (omega arith);
       placed = subst (λ items. AllPlaced (length message) (joined items none)) (sym c.in_ok-push.ensures.items)
           (placed_push (length message) c.loop-found.items.items c.in_ok-inner.inner c.loop-found.invariant.placed c.in_ok-inner.ensures.placed);
       ordered = omega arith;

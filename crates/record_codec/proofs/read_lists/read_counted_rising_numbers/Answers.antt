@@ -11,4 +11,4 @@ returns-in_err-number c =
 
 pub loop-taken-preserved : goal.loop-taken-preserved
 loop-taken-preserved c =
-    rw (c.in_ok-push.ensures.items, c.after-low.ensures) (goes_on rising_number next_number c.loop-taken.numbers.items c.args.count c.loop-taken.taken c.loop-taken.low c.loop-taken.rest.now c.in_ok-number.number c.in_ok-number.behind.now (items_at rising_number next_number 0 c.args.count c.args.bytes.now) c.loop-taken-test.true c.in_ok-number.ensures c.loop-taken.invariant)
+    rw (c.in_ok-push.ensures.items, c.advance_number-low.ensures) (goes_on rising_number next_number c.loop-taken.numbers.items c.args.count c.loop-taken.taken c.loop-taken.low c.loop-taken.rest.now c.in_ok-number.number c.in_ok-number.behind.now (items_at rising_number next_number 0 c.args.count c.args.bytes.now) c.loop-taken-test.true c.in_ok-number.ensures c.loop-taken.invariant)

@@ -1,0 +1,13 @@
+use Rattle.std.proofs.Common.{take, ap, ◌∙◌, arith}
+use Rattle.std.specs.Str.{encode_utf8_all}
+use Rattle.mail_summary.specs.Texts.{without_space}
+use Rattle.mail_summary.specs.declared.characters.TheConstants.{MAX_SHOWN_CHARACTERS}
+use Rattle.mail_summary.proofs.Prefixes.{front_without_space}
+use Rattle.mail_summary.proofs.characters.find_settled_brief.Goals as goal
+
+pub returns : goal.returns
+returns c = λ later.
+    c.in_ok-shorten.ensures
+    ∙ ap (λ cs. encode_utf8_all (take MAX_SHOWN_CHARACTERS cs)) (c.after_space.ensures ∙ ap without_space c.as_slice.ensures.value)
+    ∙ ap encode_utf8_all (front_without_space MAX_SHOWN_CHARACTERS _ _
+    (c.in_ok-out.ensures.settled (omega (arith, c.if-len-le-MAX_SHOWN_CHARACTERS.false)) later))
