@@ -7,25 +7,25 @@ use Rattle.std.proofs.lemmas.List.{drop_more, drop_all, set_split}
 use Rattle.mail_records.specs.Tables.{IsPlace, IsTable, lookup, put, without}
 
 -- what holds of each item at an index below i holds of the first i items
-all_front : {R : Type 0} (P : R → Type 0) (i : ℕ) (xs : List R) → i ≤ length xs → ((k : ℕ) (d : R) → 0 ≤ k → k < i → P (get_or xs k d)) → AllByRecursion P (take i xs)
+pub all_front : {R : Type 0} (P : R → Type 0) (i : ℕ) (xs : List R) → i ≤ length xs → ((k : ℕ) (d : R) → 0 ≤ k → k < i → P (get_or xs k d)) → AllByRecursion P (take i xs)
 all_front P zero xs le h = tt
 all_front P (suc i) [] le h = tt
 all_front P (suc i) (x ∷ xs) le h =
     (h 0 x (omega arith) (omega arith), all_front P i xs (omega arith) (λ k d a lt. h (suc k) d (omega arith) (omega arith)))
 
 -- what holds of each item at an index from i on holds of those after the first i
-all_back : {R : Type 0} (P : R → Type 0) (i : ℕ) (xs : List R) → ((k : ℕ) (d : R) → i ≤ k → k < length xs → P (get_or xs k d)) → AllByRecursion P (drop i xs)
+pub all_back : {R : Type 0} (P : R → Type 0) (i : ℕ) (xs : List R) → ((k : ℕ) (d : R) → i ≤ k → k < length xs → P (get_or xs k d)) → AllByRecursion P (drop i xs)
 all_back P zero [] h = tt
 all_back P zero (x ∷ xs) h =
     (h 0 x (omega arith) (omega arith), all_back P zero xs (λ k d a lt. h (suc k) d (omega arith) (omega arith)))
 all_back P (suc i) [] h = tt
 all_back P (suc i) (x ∷ xs) h = all_back P i xs (λ k d a lt. h (suc k) d (omega arith) (omega arith))
 
-all_map : {R : Type 0} (P Q : R → Type 0) → ((r : R) → P r → Q r) → (xs : List R) → AllByRecursion P xs → AllByRecursion Q xs
+pub all_map : {R : Type 0} (P Q : R → Type 0) → ((r : R) → P r → Q r) → (xs : List R) → AllByRecursion P xs → AllByRecursion Q xs
 all_map P Q f [] all = tt
 all_map P Q f (x ∷ xs) all = (f x all.0, all_map P Q f xs all.1)
 
-all_at : {R : Type 0} (P : R → Type 0) (xs : List R) → AllByRecursion P xs → (k : ℕ) (d : R) → k < length xs → P (get_or xs k d)
+pub all_at : {R : Type 0} (P : R → Type 0) (xs : List R) → AllByRecursion P xs → (k : ℕ) (d : R) → k < length xs → P (get_or xs k d)
 all_at P [] all k d lt = absurd (omega arith)
 all_at P (x ∷ xs) all zero d lt = all.0
 all_at P (x ∷ xs) all (suc k) d lt = all_at P xs all.1 k d (omega arith)

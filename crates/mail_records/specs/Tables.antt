@@ -31,6 +31,11 @@ pub record IsPlace {R : Type 0} (number : R → ℕ) (n : ℕ) (rows : List R) (
   pub before : AllByRecursion (λ r. number r < n) (take i rows)
   pub from : AllByRecursion (λ r. n ≤ number r) (drop i rows)
 
+-- the records from this index on have numbers that are not below n
+pub record IsFrom {R : Type 0} (number : R → ℕ) (n : ℕ) (rows : List R) (i : ℕ) : Type 0 where
+  pub within : i ≤ length rows
+  pub from : AllByRecursion (λ r. n ≤ number r) (drop i rows)
+
 -- the numbers in use are those from 1 and below the next one
 pub record IsNumbered {R : Type 0} (number : R → ℕ) (rows : List R) (next : ℕ) : Type 0 where
   pub next_from_one : 1 ≤ next

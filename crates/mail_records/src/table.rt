@@ -1,7 +1,8 @@
 // A finite map from numbers to records: the records in number order in a vector, with room that may
 // be ready for more.
-ghost use Rattle.std.specs.Prelude.{◌≡◌, ◌+◌, ◌<◌, ◌≤◌, ℕ, [], Some, None, OnOk, IfOk, MatchOption, length, take, insert, remove, slice_set, vec_len, vec_capacity};
-ghost use Rattle.mail_records.specs.Tables.{IsPlace, IsTable, lookup, put, without};
+ghost use Rattle.std.specs.Prelude.{◌≡◌, ◌+◌, ◌<◌, ◌≤◌, ℕ, [], Some, None, OnOk, IfOk, IfSome, MatchOption, length, take, insert, remove, slice_set, vec_len, vec_capacity};
+ghost use Rattle.std.specs.List.{AllByRecursion};
+ghost use Rattle.mail_records.specs.Tables.{IsFrom, IsPlace, IsTable, lookup, put, without};
 
 use jm_base::NoMemory;
 use std::alloc::Global;
@@ -20,12 +21,66 @@ pub trait Record: Drop {
         ensures { IfOk result (λ r. r ≡ self.now) };
 }
 
-// Returns the index of the first record whose number is not below this one.
+// Returns the index of the first record whose number is not below this one, of records of which
+// those before `low` have lower numbers, and those from `high` on don't.
+fn find_place_between<R: Record>(rows: &[R], low: usize, high: usize, number: u64) -> usize
+    requires table { IsTable R.number rows.now }
+    requires order { low ≤ high }
+    requires high { IsFrom R.number number rows.now high }
+    requires low { AllByRecursion (λ r. R.number r < number) (take low rows.now) }
+    ensures { IsPlace R.number number rows.now result }
+{
+    low + rows[low..high].partition_point(|row| row.number() < number)
+}
+
+// Returns an index that is not after that of any record from this number on: numbers rise, so the
+// record at an index has at least this number.
+fn bound_place<R: Record>(rows: &[R], number: u64) -> usize
+    requires { IsTable R.number rows.now }
+    ensures { IsFrom R.number number rows.now result }
+{
+    if number < rows.len() as u64 {
+        number as usize
+    } else {
+        rows.len()
+    }
+}
+
+// Returns the index of the first record whose number is not below this one. It looks back from the
+// greatest such index that there may be, by steps of which each is twice as wide as the one before,
+// and halves the last step.
 fn place_of<R: Record>(rows: &[R], number: u64) -> usize
     requires { IsTable R.number rows.now }
     ensures { IsPlace R.number number rows.now result }
 {
-    rows.partition_point(|row| row.number() < number)
+    let mut high = bound_place(rows, number);
+    let mut step: usize = 1;
+    while step <= high {
+        let low = high - step;
+        if rows[low].number() < number {
+            return find_place_between(rows, low, high, number);
+        }
+        high = low;
+        step = step.saturating_add(step);
+    }
+    find_place_between(rows, 0, high, number)
+}
+
+// Lends the record of a number if it has the index that it has while no record was dropped.
+fn find_dense<R: Record>(rows: &[R], number: u64) -> Option<&R>
+    requires { IsTable R.number rows.now }
+    ensures { IfSome result (λ r. lookup R.number number rows.now ≡ Some r.now) }
+{
+    let place = number.wrapping_sub(1) as usize;
+    if place >= rows.len() {
+        return None;
+    }
+    let row = &rows[place];
+    if row.number() == number {
+        Some(row)
+    } else {
+        None
+    }
 }
 
 // Lends the record of a number.
@@ -34,6 +89,9 @@ fn find<R: Record>(rows: &[R], number: u64) -> Option<&R>
     ensures { MatchOption result (lookup R.number number rows.now ≡ None)
         (λ r. lookup R.number number rows.now ≡ Some r.now) }
 {
+    if let Some(row) = find_dense(rows, number) {
+        return Some(row);
+    }
     let place = place_of(rows, number);
     if place == rows.len() {
         return None;

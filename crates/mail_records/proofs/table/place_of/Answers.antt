@@ -1,14 +1,19 @@
-use Rattle.std.proofs.Common.{rules, ltb}
-use Rattle.std.proofs.lemmas.List.Sorted.{IsPartitionPoint-from_clause, IsPartitionedBy-ltb}
-use Rattle.mail_records.proofs.Places.{IsPlace-from_partition, IsNonDecreasingBy-from_table}
+use Rattle.std.proofs.Common.{◌<◌, ◌≤◌, ◌-◌, length, arith}
+use Rattle.mail_records.proofs.Searches.{before_record, from_record}
 use Rattle.mail_records.proofs.table.place_of.Goals as goal
 
-pub returns : goal.returns
-returns g c =
+pub find_place_between-requires-clause-low : goal.find_place_between-requires-clause-low
+find_place_between-requires-clause-low g c =
     let number = g.R.Record.number in
-    let rows = c.args.rows.now in
-    let n = c.args.number in
-    IsPlace-from_partition number n rows c.partition_point.result c.partition_point.ensures.bound
-    (IsPartitionPoint-from_clause (λ y. ltb (number y) n) rows c.partition_point.result c.partition_point.ensures.partitioned
-    (IsPartitionedBy-ltb number rows n (IsNonDecreasingBy-from_table number rows c.requires))
-    (λ a r f k. search rules))
+    let lt : c.loop-step.high - c.loop-step.step < length c.args.rows.now = omega (arith, c.loop-step.invariant.0.within, c.loop-step-test.true, c.loop-step.invariant.1) in
+    let less : number c.index-rows-low.result < c.args.number = omega (arith, c.number.ensures, c.if-number.true) in
+    before_record number c.args.number c.args.rows.now (c.loop-step.high - c.loop-step.step) c.index-rows-low.result c.requires lt c.index-rows-low.is less
+
+pub loop-step-preserved : goal.loop-step-preserved
+loop-step-preserved g c =
+    let number = g.R.Record.number in
+    let lt : c.loop-step.high - c.loop-step.step < length c.args.rows.now = omega (arith, c.loop-step.invariant.0.within, c.loop-step-test.true, c.loop-step.invariant.1) in
+    let most : c.args.number ≤ number c.index-rows-low.result = omega (arith, c.number.ensures, c.if-number.false) in (
+      from_record number c.args.number c.args.rows.now (c.loop-step.high - c.loop-step.step) c.index-rows-low.result c.requires lt c.index-rows-low.is most,
+      omega (arith, c.saturating_add-step.ensures, c.loop-step.invariant.1),
+    )
