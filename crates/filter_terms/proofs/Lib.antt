@@ -7,3 +7,4 @@ pub mod Lowered
 pub mod Operators
 pub mod FieldTests
 pub mod Certain
+pub mod FirstByte

@@ -1,6 +1,6 @@
 -- Whether a text contains another one. ASCII letters count in either case (RFC 8621, 4.4.1 leaves
 -- the comparison to the server).
-use Rattle.std.specs.Prelude.{ℕ, List, [], ◌∷◌, Bool, true, false, ◌&&◌, ◌||◌, ◌==◌}
+use Rattle.std.specs.Prelude.{◌≡◌, ◌<◌, ℕ, List, [], ◌∷◌, length, Bool, true, false, ◌&&◌, ◌||◌, ◌==◌}
 use Rattle.std.specs.Char.{to_ascii_lowercase}
 use Rattle.std.specs.List.{list_any}
 
@@ -14,6 +14,13 @@ begins_with (n ∷ ns) (x ∷ xs) = to_ascii_lowercase x == to_ascii_lowercase n
 abbrev pub contains : List ℕ → List ℕ → Bool
 contains needle [] = begins_with needle []
 contains needle (x ∷ xs) = begins_with needle (x ∷ xs) || contains needle xs
+
+-- What follows the first byte of a text that is this byte in either case: a needle that begins with
+-- the byte begins there or is contained in what follows.
+pub record IsAfterFirst (byte : ℕ) (text after : List ℕ) : Type 0 where
+  pub shorter : length after < length text
+  pub same : (ns : List ℕ) → contains (byte ∷ ns) text
+      ≡ (begins_with ns after || contains (byte ∷ ns) after)
 
 -- one of the texts contains the needle
 abbrev pub some_contains : List ℕ → List (List ℕ) → Bool

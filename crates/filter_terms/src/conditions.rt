@@ -18,7 +18,7 @@ use crate::texts::Place;
 use crate::values::{as_count, as_date, as_flag, mailbox_number};
 use jm_base::{NoMemory, Numbers, Text};
 use jm_json::Json;
-use method_args::strings_of;
+use method_args::lend_strings;
 use std::alloc::Global;
 
 /// A condition on emails that looks at no text, with its value: numbers of mailboxes, Unix seconds,
@@ -107,7 +107,7 @@ pub(crate) fn in_mailbox_other_than(alloc: Global, value: &Json) -> Result<Email
     ensures { IfOk result (λ c. (texts : ℕ → MessageTexts) (s : EmailInThread) → email_matches s c
         ≡ email_term_holds texts s EmailTerm.InMailboxOtherThan (tree_of value.now)) }
 {
-    match strings_of(alloc, value)? {
+    match lend_strings(alloc, value)? {
         Some(ids) => Ok(EmailCondition::InMailboxOtherThan(mailbox_numbers(alloc, &ids)?)),
         None => Ok(EmailCondition::Never),
     }

@@ -94,7 +94,7 @@ fn all_entries_have(keyword: &str, content: &Content, entries: &[Threaded]) -> b
 
 /// Returns whether some email of a thread has the keyword, which is in lower case.
 #[tactic(auto, using(crate::proofs::ThreadEntries::some_entry))]
-pub fn some_in_thread_has(keyword: &str, content: &Content, thread: u64) -> bool
+pub fn has_some_in_thread(keyword: &str, content: &Content, thread: u64) -> bool
     ensures { result ≡ list_any (λ e. has_keyword keyword.now e)
         (of_thread thread content.now.content.emails) }
 {
@@ -104,7 +104,7 @@ pub fn some_in_thread_has(keyword: &str, content: &Content, thread: u64) -> bool
 
 /// Returns whether all emails of a thread have the keyword, which is in lower case.
 #[tactic(auto, using(crate::proofs::ThreadEntries::all_entries))]
-pub fn all_in_thread_have(keyword: &str, content: &Content, thread: u64) -> bool
+pub fn has_all_in_thread(keyword: &str, content: &Content, thread: u64) -> bool
     ensures { result ≡ list_all (λ e. has_keyword keyword.now e)
         (of_thread thread content.now.content.emails) }
 {
@@ -117,9 +117,9 @@ fn keyword_holds(test: KeywordTest, keyword: &str, content: &Content, email: &Em
         keyword.now }
 {
     match test {
-        KeywordTest::AllInThread => all_in_thread_have(keyword, content, email.thread),
-        KeywordTest::SomeInThread => some_in_thread_has(keyword, content, email.thread),
-        KeywordTest::NoneInThread => !some_in_thread_has(keyword, content, email.thread),
+        KeywordTest::AllInThread => has_all_in_thread(keyword, content, email.thread),
+        KeywordTest::SomeInThread => has_some_in_thread(keyword, content, email.thread),
+        KeywordTest::NoneInThread => !has_some_in_thread(keyword, content, email.thread),
         KeywordTest::Has => has_keyword(keyword, email),
         KeywordTest::HasNot => !has_keyword(keyword, email),
     }

@@ -25,7 +25,7 @@ mod unsupported;
 mod values;
 
 pub use containment::contains;
-pub use emails::{all_in_thread_have, has_keyword, some_in_thread_has};
+pub use emails::{has_all_in_thread, has_keyword, has_some_in_thread};
 pub use faults::TermFault;
 pub use filter::{Filter, is_wide, matches, matches_email, matches_mailbox, read_filter};
 pub use laws::{filters_see_only_their_record, operators_join_their_conditions};

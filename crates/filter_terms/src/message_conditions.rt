@@ -14,7 +14,7 @@ use crate::terms::EmailTerm;
 use crate::texts::{OpenedMessage, Place};
 use jm_base::{NoMemory, Text};
 use jm_json::Json;
-use method_args::strings_of;
+use method_args::lend_strings;
 use std::alloc::Global;
 
 /// A condition on the texts of a message with its value: texts in lower case.
@@ -77,7 +77,7 @@ pub(crate) fn header(alloc: Global, value: &Json) -> Result<MessageCondition, No
         → message_matches (texts s.email.blob) c
         ≡ email_term_holds texts s EmailTerm.Header (tree_of value.now)) }
 {
-    match strings_of(alloc, value)? {
+    match lend_strings(alloc, value)? {
         Some(strings) => field_condition(alloc, &strings),
         None => Ok(MessageCondition::Never),
     }

@@ -8,7 +8,7 @@ ghost use Rattle.filter_terms.specs.Values.{as_date};
 
 use jm_base::{Kind, read_id};
 use jm_json::Json;
-use utc_dates::first_second;
+use utc_dates::read_first_second;
 
 /// Returns the first whole second that is not before the date of a value, in Unix seconds, or
 /// `None` if the value is no UTCDate.
@@ -16,7 +16,7 @@ pub(crate) fn as_date(value: &Json) -> Option<i64>
     ensures { result ≡ as_date (tree_of value.now) }
 {
     match value.as_text() {
-        Some(text) => first_second(text.as_bytes()),
+        Some(text) => read_first_second(text.as_bytes()),
         None => None,
     }
 }

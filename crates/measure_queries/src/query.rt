@@ -13,7 +13,7 @@ use std::io;
 use std::time::{Clock, Instant};
 
 // The name of a query, and its arguments.
-const QUERIES: [(&str, &str); 5] = [
+const QUERIES: [(&str, &str); 6] = [
     (
         "inbox",
         "{\"accountId\":\"A1\",\"filter\":{\"inMailbox\":\"M1\"},\"sort\":[{\"property\":\"receivedAt\",\"isAscending\":false}],\"collapseThreads\":true,\"limit\":30}",
@@ -25,6 +25,10 @@ const QUERIES: [(&str, &str); 5] = [
     (
         "total",
         "{\"accountId\":\"A1\",\"filter\":{\"hasKeyword\":\"$flagged\"},\"sort\":[{\"property\":\"receivedAt\",\"isAscending\":false}],\"calculateTotal\":true,\"limit\":30}",
+    ),
+    (
+        "from_page",
+        "{\"accountId\":\"A1\",\"filter\":{\"from\":\"person 97\"},\"sort\":[{\"property\":\"receivedAt\",\"isAscending\":false}],\"limit\":30}",
     ),
     (
         "from",

@@ -94,6 +94,17 @@ header_found bytes self needle kept shown names r same all is h =
     if_ok_by r _ _
     (some_named_has bytes needle shown (is ∙ all) names ∙ ap (λ (bs : List ℕ). list_any (λ (name : Bor (List ℕ)). some_contains needle (field_texts bs name.now)) names) same) h
 
+-- the fields that are kept are those of the header
+pub kept_fields : (fields : Option (List FieldText)) (kept all : List FieldText) → IfSome fields (λ fs. fs ≡ all) → fields ≡ Some kept → kept ≡ all
+kept_fields None kept all h is = absurd (cc)
+kept_fields (Some fs) kept all h is = let same : fs ≡ kept = cc in sym same ∙ h
+
+-- there is a field of the name among those that were listed
+pub listed_field_named : (bytes self name : List ℕ) (kept shown : List FieldText) (r : Bool) → bytes ≡ self → kept ≡ map (read_at bytes) (fields_of bytes) → shown ≡ kept → r ≡ list_any (λ f. is_field_named name f) shown
+    → r ≡ not (length (field_texts self name) == 0)
+listed_field_named bytes self name kept shown r same all is h =
+    h ∙ (sym (some_field_named bytes name shown (is ∙ all)) ∙ ap (λ (bs : List ℕ). not (length (field_texts bs name) == 0)) same)
+
 -- what is found in the texts of the parts that were decoded
 pub body_found : (bytes self needle : List ℕ) (texts shown : List (List ℕ)) (found : Bool) → bytes ≡ self → texts ≡ part_texts bytes (walked (parts_of bytes)) → shown ≡ texts → found ≡ some_contains needle shown
     → found ≡ some_contains needle (part_texts self (walked (parts_of self)))

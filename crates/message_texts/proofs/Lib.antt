@@ -1,3 +1,5 @@
 pub mod Found
 pub mod Parts
 mod Stay
+pub mod PlainText
+pub mod HeaderLines

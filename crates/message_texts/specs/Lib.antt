@@ -1,2 +1,4 @@
 pub mod Texts
 pub mod Opened
+pub mod Plain
+pub mod Scan

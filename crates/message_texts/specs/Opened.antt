@@ -5,9 +5,9 @@ use Rattle.mime_lines.specs.FieldTexts.{FieldText, read_at}
 use Rattle.mime_tree.specs.PartLimit.{parts_of, walked}
 use Rattle.message_texts.specs.Texts.{part_texts}
 
--- the fields of the header of the message with these bytes, and the texts of its text parts, if
--- they were decoded
-pub record IsOpened (bytes : List ℕ) (fields : List FieldText) (bodies : Option (List (List ℕ)))
-    : Type 0 where
-  pub header : fields ≡ map (read_at bytes) (fields_of bytes)
+-- the fields of the header of the message with these bytes, if they were listed, and the texts of
+-- its text parts, if they were decoded
+pub record IsOpened (bytes : List ℕ) (fields : Option (List FieldText))
+    (bodies : Option (List (List ℕ))) : Type 0 where
+  pub header : IfSome fields (λ fs. fs ≡ map (read_at bytes) (fields_of bytes))
   pub decoded : IfSome bodies (λ texts. texts ≡ part_texts bytes (walked (parts_of bytes)))

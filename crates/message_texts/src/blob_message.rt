@@ -9,19 +9,21 @@ ghost use Rattle.message_texts.specs.Texts.{field_texts, main_texts, message_tex
 
 use crate::bodies::{read_bodies, some_contains};
 use crate::header_field::HeaderField;
+use crate::header_scan::scan_header;
 use crate::headers::{header_fields, is_any_named, named_fields_contain};
 use filter_terms::{OpenedMessage, Place};
 use jm_base::{NoMemory, Texts};
 use std::alloc::Global;
 use std::marker::Model;
 
-/// A message that was opened: the fields of its header, and the texts of its text parts once a
-/// condition looked at them. Contracts see the bytes of the message.
+/// A message that was opened: the fields of its header, once a condition looked at more than one of
+/// them or at one that needs decoding, and the texts of its text parts, once a condition looked at
+/// them. Contracts see the bytes of the message.
 #[derive(Drop)]
 pub struct BlobMessage<'a> {
     alloc: Global,
     bytes: &'a [u8],
-    fields: Vec<HeaderField<'a>>,
+    fields: Option<Vec<HeaderField<'a>>>,
     bodies: Option<Texts>,
 }
 
@@ -34,20 +36,22 @@ impl<'a> Model for BlobMessage<'a> {
 
     ghost view = { λ m. m.bytes.now };
 
-    ghost invariant = { λ m. IsOpened m.bytes.now m.fields.items m.bodies };
+    ghost use Rattle.std.specs.Prelude.{option_map};
+
+    ghost invariant = { λ m. IsOpened m.bytes.now
+        (option_map (λ fields. fields.items) m.fields) m.bodies };
 }
 
-/// Opens the message with these bytes: finds the fields of its header, and decodes nothing.
-pub(crate) fn open_message<'a>(alloc: Global, bytes: &'a [u8]) -> Result<BlobMessage<'a>, NoMemory>
-    ensures { IfOk result (λ m. m ≡ bytes.now) }
+/// Opens the message with these bytes. Looks at none of them, and allocates nothing.
+pub(crate) fn open_message<'a>(alloc: Global, bytes: &'a [u8]) -> BlobMessage<'a>
+    ensures { result ≡ bytes.now }
 {
-    let fields = header_fields(alloc, bytes)?;
-    Ok(BlobMessage {
+    BlobMessage {
         alloc,
         bytes,
-        fields,
+        fields: None,
         bodies: None,
-    })
+    }
 }
 
 impl<'a> BlobMessage<'a> {
@@ -57,15 +61,41 @@ impl<'a> BlobMessage<'a> {
             (λ name. some_contains needle.now (field_texts self.old name.now)) names.now) }
         ensures same { self.new ≡ self.old }
     {
-        named_fields_contain(self.alloc, self.fields.as_mut_slice(), names, needle)
+        if let Some(fields) = &mut self.fields {
+            return named_fields_contain(self.alloc, fields.as_mut_slice(), names, needle);
+        }
+        let mut fields = header_fields(self.alloc, self.bytes)?;
+        let found = named_fields_contain(self.alloc, fields.as_mut_slice(), names, needle)?;
+        self.fields = Some(fields);
+        Ok(found)
+    }
+
+    // Returns whether a header field of this name contains the needle. Unless the fields were found
+    // before, the lines of the header are looked through first.
+    #[tactic(auto, using(crate::proofs::Found::or_false))]
+    fn field_contains(&mut self, name: &[u8], needle: &[u8]) -> Result<bool, NoMemory>
+        ensures value { IfOk result (λ b. b
+            ≡ some_contains needle.now (field_texts self.old name.now)) }
+        ensures same { self.new ≡ self.old }
+    {
+        if self.fields.is_none() {
+            if let Some(found) = scan_header(self.bytes, name, needle) {
+                return Ok(found);
+            }
+        }
+        self.header_contains(&[name], needle)
     }
 
     // Returns whether there is a header field of this name. No value is decoded.
-    #[tactic(auto, using(crate::proofs::Found::some_field_named))]
-    fn has_field(&self, name: &[u8]) -> bool
-        ensures { result ≡ not (length (field_texts self.now name.now) == 0) }
+    fn has_field(&self, name: &[u8]) -> Result<bool, NoMemory>
+        ensures { IfOk result (λ b. b
+            ≡ not (length (field_texts self.now name.now) == 0)) }
     {
-        is_any_named(self.fields.as_slice(), name)
+        if let Some(fields) = &self.fields {
+            return Ok(is_any_named(fields.as_slice(), name));
+        }
+        let fields = header_fields(self.alloc, self.bytes)?;
+        Ok(is_any_named(fields.as_slice(), name))
     }
 
     // Returns whether a text part contains the needle. The bodies are decoded the first time.
@@ -118,24 +148,22 @@ impl OpenedMessage for BlobMessage<'_> {
 
     ghost contents = { λ m. message_texts m };
 
-    #[tactic(auto, using(crate::proofs::Found::or_false))]
     fn has(&mut self, place: Place, needle: &[u8]) -> Result<bool, NoMemory> {
         match place {
-            Place::From => self.header_contains(&[b"From".as_slice()], needle),
-            Place::To => self.header_contains(&[b"To".as_slice()], needle),
-            Place::Cc => self.header_contains(&[b"Cc".as_slice()], needle),
-            Place::Bcc => self.header_contains(&[b"Bcc".as_slice()], needle),
-            Place::Subject => self.header_contains(&[b"Subject".as_slice()], needle),
+            Place::From => self.field_contains(b"From", needle),
+            Place::To => self.field_contains(b"To", needle),
+            Place::Cc => self.field_contains(b"Cc", needle),
+            Place::Bcc => self.field_contains(b"Bcc", needle),
+            Place::Subject => self.field_contains(b"Subject", needle),
             Place::Body => self.body_contains(needle),
             Place::Text => self.text_contains(needle),
         }
     }
 
-    #[tactic(auto, using(crate::proofs::Found::or_false))]
     fn field(&mut self, name: &[u8], needle: Option<&[u8]>) -> Result<bool, NoMemory> {
         match needle {
-            Some(needle) => self.header_contains(&[name], needle),
-            None => Ok(self.has_field(name)),
+            Some(needle) => self.field_contains(name, needle),
+            None => self.has_field(name),
         }
     }
 }

@@ -36,6 +36,6 @@ impl<'a> Texts2 for BlobTexts<'a> {
     ghost texts = { λ t blob. texts_of_blobs t.blobs.now.blobs blob };
 
     fn open(&self, blob: u64) -> Result<BlobMessage<'a>, NoMemory> {
-        open_message(self.alloc, read_bytes(self.blobs, blob))
+        Ok(open_message(self.alloc, read_bytes(self.blobs, blob)))
     }
 }

@@ -4,8 +4,9 @@ ghost use Rattle.header_forms.specs.Texts.{text_form};
 ghost use Rattle.filter_terms.specs.Contains.{contains};
 ghost use Rattle.message_texts.specs.Texts.{field_has, is_field_named};
 
+use crate::plain_value::read_plain_text;
 use filter_terms::contains;
-use header_forms::text_of_value;
+use header_forms::read_text_form;
 use jm_base::{NoMemory, Text};
 use std::alloc::Global;
 use std::marker::Model;
@@ -52,7 +53,7 @@ impl<'a> HeaderField<'a> {
     }
 
     /// Returns whether the Text form of the field contains the needle. The value is decoded the
-    /// first time.
+    /// first time, if it needs decoding.
     pub(crate) fn contains(&mut self, alloc: Global, needle: &[u8]) -> Result<bool, NoMemory>
         ensures value { IfOk result (λ b. b ≡ contains needle.now (text_form self.old.value)) }
         ensures same { self.new ≡ self.old }
@@ -60,7 +61,10 @@ impl<'a> HeaderField<'a> {
         if let Some(text) = &self.text {
             return Ok(contains(text.as_bytes(), needle));
         }
-        let text = text_of_value(alloc, self.value)?;
+        if let Some(text) = read_plain_text(self.value) {
+            return Ok(contains(text, needle));
+        }
+        let text = read_text_form(alloc, self.value)?;
         let found = contains(text.as_bytes(), needle);
         self.text = Some(text);
         Ok(found)

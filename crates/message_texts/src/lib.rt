@@ -9,8 +9,10 @@ mod blob_message;
 mod blob_texts;
 mod bodies;
 mod header_field;
+mod header_scan;
 mod headers;
 mod laws;
+mod plain_value;
 
 pub use blob_message::BlobMessage;
 pub use blob_texts::BlobTexts;

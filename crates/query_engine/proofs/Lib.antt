@@ -10,3 +10,4 @@ pub mod Local
 pub mod Sorting
 pub mod Ran
 pub mod Walking
+pub mod ByTime

@@ -1,9 +1,9 @@
 -- Rows in the order of time, from the first or from the last time on.
-use Rattle.std.proofs.Common.{◌≡◌, ◌≤◌, length, ℕ, ℤ, Bool, true, false, cond, ◌&&◌, ◌||◌, eqb, eqb-true, eq-eqb, List, [], ◌∷◌, ◌++◌, map, filter, take, drop, refl, sym, ap, ap₂, ◌∙◌, subst, append_assoc, take-append-drop, ⊎_elim, nat_cmp}
+use Rattle.std.proofs.Common.{◌≡◌, ◌≤◌, length, ℕ, ℤ, Bool, true, false, cond, ◌&&◌, ◌||◌, eqb, eqb-true, eq-eqb, List, [], ◌∷◌, ◌++◌, map, filter, take, drop, refl, sym, ap, ap₂, ◌∙◌, subst, append_assoc, take-append-drop, ⊎_elim, nat_cmp, arith}
 use Rattle.std.specs.Prelude.{int_lt}
 use Rattle.std.specs.List.{AllByRecursion, list_any}
 use Rattle.std.specs.List.Sorted.{IsPartitionPoint, IsStrictlySortedBy}
-use Rattle.std.proofs.lemmas.List.{drop-map, length-map, take-map}
+use Rattle.std.proofs.lemmas.List.{drop-map, drop_all, length-map, map-append, take-map}
 use Rattle.std.specs.Ordering.{flip_args, int_cmp, is_eq, is_lt, match_ordering, ordering_then}
 use Rattle.std.specs.Cmp.{IsTotalOrder, signed_Decides}
 use Rattle.std.specs.declared.cmp.Ordering.{Ordering}
@@ -238,6 +238,29 @@ below_time time x y less e = by (int_cmp x.received y.received) refl less
     by Less is h = less_of x.received time (int_cmp_total.trans x.received y.received time is (lt_Less y.received time e))
     by Equal is h = less_of x.received time (int_cmp_total.congr x.received y.received time is ∙ lt_Less y.received time e)
     by Greater is h = absurd (cc)
+
+-- entries of which the last is before a time
+pub all_before : {E : Type 0} (f : E → Row) (time : ℤ) (es others : List E) (last : E) → es ≡ others ++ last ∷ [] → RowsAscend (map f es) → int_lt (f last).received time ≡ true → IsRunStart (map f es) (length es) time
+all_before f time es others last is rise less =
+    let P : Row → Type 0 = λ r. int_lt r.received time ≡ true in
+    let rows : map f es ≡ map f others ++ f last ∷ [] = ap (map f) is ∙ map-append f others (last ∷ []) in
+    let below = below_end (map f others) (f last) (subst RowsAscend rows rise) in
+    let each : AllByRecursion P (map f es) = subst (AllByRecursion P) (sym rows)
+    (all_joined P (map f others) (f last ∷ []) (all_map (λ y. ascending_cmp y (f last) ≡ Less) P (λ y l. below_time time y (f last) l less) (map f others) below) (less, tt)) in
+    let long : length es ≡ length (map f es) = sym (length-map es f) in
+    record {
+      within = subst (λ n. n ≤ length (map f es)) (sym long) (omega arith);
+      before = subst (λ n. AllByRecursion P (take n (map f es))) (sym long) (subst (AllByRecursion P) (sym (take_all (map f es))) each);
+      from = subst (λ n. AllByRecursion (λ (r : Row). int_lt r.received time ≡ false) (drop n (map f es))) (sym long) (subst (AllByRecursion (λ (r : Row). int_lt r.received time ≡ false)) (sym (drop_all (length (map f es)) (map f es) (omega arith))) tt);
+    }
+  where
+    all_joined : (P : Row → Type 0) (xs ys : List Row) → AllByRecursion P xs → AllByRecursion P ys → AllByRecursion P (xs ++ ys)
+    all_joined P [] ys a b = b
+    all_joined P (x ∷ xs) ys a b = (a.0, all_joined P xs ys a.1 b)
+
+    take_all : (xs : List Row) → take (length xs) xs ≡ xs
+    take_all [] = refl
+    take_all (x ∷ xs) = ap (λ zs. x ∷ zs) (take_all xs)
 
 all_mapped : {X Y : Type 0} (P : Y → Type 0) (f : X → Y) (xs : List X) → AllByRecursion (λ x. P (f x)) xs → AllByRecursion P (map f xs)
 all_mapped P f [] all = tt

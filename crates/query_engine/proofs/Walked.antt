@@ -33,7 +33,7 @@ use Rattle.sort_terms.specs.declared.comparators.Comparator.{Comparator}
 use Rattle.sort_terms.specs.declared.properties.Property.TheVariants.{ReceivedAt}
 use Rattle.query_engine.specs.Queries.{order_of}
 use Rattle.query_engine.specs.Views.{QueryTree}
-use Rattle.query_engine.specs.Walks.{IsInMailbox, IsSortedByReceived, Row, RowsAscend, directed_rows, descending, descending_cmp, is_match, matches_list, matching, numbers_in, ascending_cmp, row_number}
+use Rattle.query_engine.specs.Walks.{IsInMailbox, IsSortedByReceived, Row, RowsAscend, directed_rows, dated_row, descending, descending_cmp, directed_cmp, is_match, matches_list, matching, numbers_in, ascending_cmp, row_number}
 use Rattle.query_engine.proofs.Results.{is_matches_list}
 use Rattle.query_engine.proofs.RowLists.{all_map, all_sorted, any_sorted, falling_one, falling_total}
 use Rattle.mail_records.proofs.Rising.{rise-put_all}
@@ -47,10 +47,6 @@ then_equal : (r : Ordering) → ordering_then r Equal ≡ r
 then_equal Less = refl
 then_equal Equal = refl
 then_equal Greater = refl
-
-abbrev directed_cmp : Bool → Row → Row → Ordering
-directed_cmp true = ascending_cmp
-directed_cmp false = descending_cmp
 
 abbrev if_up : Bool → Ordering → Ordering → Ordering
 if_up true x y = x
@@ -90,7 +86,7 @@ directed_have false rows n =
     ∙ (any_sorted descending_cmp falling_one (λ (r : Row). eqb r.number n) rows ∙ sym (any_map (λ m. eqb m n) row_number rows))
 
 module _ (q : QueryTree) (c : Content) (k : q.kind ≡ OfEmails) (ascending : Bool) (by : IsSortedByReceived q.order ascending) where
-  order_at : (a b : Row) → Stands c a → Stands c b → order_of q c a.number b.number ≡ directed_cmp ascending a b
+  pub order_at : (a b : Row) → Stands c a → Stands c b → order_of q c a.number b.number ≡ directed_cmp ascending a b
   order_at a b x y =
       let sa : EmailInThread = email_in_thread c.emails x.0 in
       let sb : EmailInThread = email_in_thread c.emails y.0 in
@@ -199,9 +195,6 @@ only_key : (a k : Key) → has_key k (a ∷ []) ≡ true → a ≡ k
 only_key a k h = ⊎_elim (λ (e : is_eq (key_cmp a k) ≡ true). key_equal a k e) (λ (e : false ≡ true). absurd (true≢false (sym e))) (or_cases (is_eq (key_cmp a k)) false h)
 
 -- ---- all emails by the time received
-
-abbrev pub dated_row : Dated → Row
-dated_row d = record { received = d.received; number = d.email }
 
 abbrev received_key : Email → Key
 received_key e = key_at None (record { received = e.received.seconds; number = e.number })

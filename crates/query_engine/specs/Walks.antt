@@ -11,6 +11,7 @@ use Rattle.mail_counts.specs.Counts.{is_in}
 use Rattle.mail_records.specs.Contents.{Content, email_number, mailbox_number}
 use Rattle.mail_records.specs.declared.records.Email.{Email}
 use Rattle.mail_records.specs.declared.records.Mailbox.{Mailbox}
+use Rattle.mail_records.specs.declared.entries.Dated.{Dated}
 use Rattle.mail_records.specs.OrderSteps.{put_all_in}
 use Rattle.mail_records.specs.States.{is_kind}
 use Rattle.method_args.specs.Arguments.{passes, text_in}
@@ -73,6 +74,15 @@ abbrev pub kept_mailboxes : QueryTree → List Mailbox → List ℕ
 kept_mailboxes q ms =
     map mailbox_number (filter (λ m. holds q.kind (AMailbox m) q.filter) ms)
 
+-- those emails that match, with the times received
+abbrev pub dated_of : Email → Dated
+dated_of e = record { received = e.received.seconds; email = e.number }
+
+abbrev pub kept_dated : QueryTree → Content → (ℕ → MessageTexts) → List Email → List Dated
+kept_dated q c texts es =
+    map dated_of
+    (filter (λ e. holds q.kind (AnEmail texts (email_in_thread c.emails e)) q.filter) es)
+
 -- threads are collapsed, which is of emails alone
 abbrev pub collapses : QueryTree → Bool
 collapses q = q.collapse && is_kind q.kind OfEmails
@@ -90,6 +100,17 @@ ascending_cmp a b = ordering_then (int_cmp a.received b.received) (nat_cmp a.num
 -- latest first; of the same time the lower number first
 abbrev pub descending_cmp : Row → Row → Ordering
 descending_cmp a b = ordering_then (int_cmp b.received a.received) (nat_cmp a.number b.number)
+
+-- by the time received, ascending or descending
+abbrev pub directed_cmp : Bool → Row → Row → Ordering
+directed_cmp true = ascending_cmp
+directed_cmp false = descending_cmp
+
+abbrev pub dated_row : Dated → Row
+dated_row d = record { received = d.received; number = d.email }
+
+abbrev pub dated_cmp : Bool → Dated → Dated → Ordering
+dated_cmp ascending a b = directed_cmp ascending (dated_row a) (dated_row b)
 
 abbrev pub RowsAscend : List Row → Type 0
 RowsAscend rows = IsStrictlySortedBy ascending_cmp rows

@@ -7,6 +7,7 @@
 #![tactic(auto)]
 
 mod arguments;
+mod by_time;
 mod faults;
 mod frame;
 mod laws;

@@ -226,8 +226,9 @@ fn answer_members<T: Texts2>(
 /// allocation fails.
 ///
 /// If the sort is by the time received alone, the emails of the one mailbox that the filter asks
-/// for, or all emails, are looked at in that order, and no more of them than the response needs.
-/// Otherwise all records are filtered, and those that match are sorted.
+/// for, or all emails, are looked at in that order, and no more of them than the response needs. If
+/// it needs all emails, as for a total, or if the sort is another one, all records are filtered,
+/// and those that match are sorted.
 pub fn answer_query<T: Texts2>(
     alloc: Global,
     kind: Kind,

@@ -1,5 +1,5 @@
 // Emails in an order by the time received, from the first on or from the last time on.
-ghost use Rattle.std.specs.Prelude.{◌≡◌, List, OnOk, map};
+ghost use Rattle.std.specs.Prelude.{◌≡◌, List, OnOk, length, map, true};
 ghost use Rattle.jm_base.specs.declared.identifiers.Kind.TheVariants.{Email as OfEmails};
 ghost use Rattle.mail_records.specs.Contents.{email_at};
 ghost use Rattle.filter_terms.specs.Filters.{holds};
@@ -117,11 +117,26 @@ fn walk_ascending<E: Candidate, T: Texts2>(
     Ok(())
 }
 
-// Returns the index at which the entries begin that are not before a time.
+// Returns true only if all entries are before a time: looks at the last one alone.
+fn is_before<E: Candidate>(entries: &[E], time: i64) -> bool
+    requires { RowsAscend (map E.timed entries.now) }
+    ensures { result ≡ true → IsRunStart (map E.timed entries.now) (length entries.now) time }
+{
+    match entries.split_last() {
+        Some((last, _)) => last.received() < time,
+        None => false,
+    }
+}
+
+// Returns the index at which the entries begin that are not before a time. Nearly each time has one
+// email alone, so the last entry is looked at first.
 fn run_start<E: Candidate>(entries: &[E], time: i64) -> usize
     requires { RowsAscend (map E.timed entries.now) }
     ensures { IsRunStart (map E.timed entries.now) result time }
 {
+    if is_before(entries, time) {
+        return entries.len();
+    }
     entries.partition_point(|entry| entry.received() < time)
 }
 

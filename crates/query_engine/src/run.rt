@@ -6,9 +6,10 @@ ghost use Rattle.std.specs.List.Sorted.{IsPermutation, IsSorted};
 ghost use Rattle.jm_base.specs.declared.identifiers.Kind.TheVariants.{Email as OfEmails, Mailbox as OfMailboxes};
 ghost use Rattle.sort_terms.specs.Orders.{numbers_cmp};
 ghost use Rattle.query_engine.specs.Queries.{numbers_of, result_list};
-ghost use Rattle.query_engine.specs.Walks.{Follows, at_most, collapses, is_match, kept_emails, kept_mailboxes, matches_list};
+ghost use Rattle.query_engine.specs.Walks.{Follows, at_most, collapses, is_match, kept_emails, kept_mailboxes, matches_list, IsSortedByReceived};
 ghost use Rattle.query_engine.specs.Threads.{thread_of};
 
+use crate::by_time::put_emails_by_time;
 use crate::page::{Page, finish, is_full, new_page, put_number};
 use crate::query::Query;
 use crate::rows::walk;
@@ -84,7 +85,7 @@ fn sort_numbers(order: &Order, content: &Content, numbers: &mut Vec<u64>)
     numbers.sort_unstable_by(|a, b| compare_numbers(order, content, *a, *b));
 }
 
-fn thread_of(content: &Content, number: u64) -> u64
+pub(crate) fn thread_of(content: &Content, number: u64) -> u64
     ensures { result ≡ thread_of content.now.content number }
 {
     match content.email(number) {
@@ -93,7 +94,11 @@ fn thread_of(content: &Content, number: u64) -> u64
     }
 }
 
-fn put_numbers(page: &mut Page, content: &Content, numbers: &[u64]) -> Result<(), NoMemory>
+pub(crate) fn put_numbers(
+    page: &mut Page,
+    content: &Content,
+    numbers: &[u64],
+) -> Result<(), NoMemory>
     ensures { OnOk result (Follows content.now.content page.old page.new numbers.now) }
 {
     for number in numbers {
@@ -123,6 +128,35 @@ fn walk_sorted<T: Texts2>(
     put_numbers(page, content, &numbers)
 }
 
+// Puts the emails that the filter matches on the page, by the time received. If only some are
+// wanted, they are looked at in that order. If all are, they are looked at in number order, in
+// which they are in memory, and those that match are sorted.
+fn walk_emails<T: Texts2>(
+    alloc: Global,
+    page: &mut Page,
+    query: &Query,
+    content: &Content,
+    texts: &T,
+    ascending: bool,
+) -> Result<(), NoMemory>
+    requires emails { query.now.kind ≡ OfEmails }
+    requires order { IsSortedByReceived query.now.order ascending }
+    ensures { OnOk result (Follows content.now.content page.old page.new
+        (matches_list query.now content.now.content (T.texts texts.now))) }
+{
+    if page.max.is_none() {
+        return put_emails_by_time(alloc, page, query, content, texts, ascending);
+    }
+    walk(
+        page,
+        query,
+        content,
+        texts,
+        content.by_received(),
+        ascending,
+    )
+}
+
 // Puts what the filter matches on the page, in the order of the query.
 fn walk_query<T: Texts2>(
     alloc: Global,
@@ -137,14 +171,7 @@ fn walk_query<T: Texts2>(
     match query.walk() {
         Walk::Sorted => walk_sorted(alloc, page, query, content, texts),
         Walk::ByReceived(ascending) => {
-            walk(
-                page,
-                query,
-                content,
-                texts,
-                content.by_received(),
-                ascending,
-            )
+            walk_emails(alloc, page, query, content, texts, ascending)
         }
         Walk::InMailbox(mailbox, ascending) => walk(
             page,

@@ -7,7 +7,7 @@ ghost use Rattle.sort_terms.specs.Comparators.{directed, email_property_cmp, ema
 
 use crate::comparators::Comparator;
 use crate::properties::Property;
-use filter_terms::{all_in_thread_have, has_keyword, some_in_thread_has};
+use filter_terms::{has_all_in_thread, has_keyword, has_some_in_thread};
 use jm_base::UtcDate;
 use mail_records::{Content, Email, Mailbox};
 use std::cmp::Ordering;
@@ -90,11 +90,11 @@ fn compare_by(
         ),
         Property::SentAt => compare_sent(left, right, content),
         Property::HasKeyword => has_keyword(keyword, left).cmp(&has_keyword(keyword, right)),
-        Property::AllInThread => all_in_thread_have(keyword, content, left.thread).cmp(
-            &all_in_thread_have(keyword, content, right.thread),
+        Property::AllInThread => has_all_in_thread(keyword, content, left.thread).cmp(
+            &has_all_in_thread(keyword, content, right.thread),
         ),
-        Property::SomeInThread => some_in_thread_has(keyword, content, left.thread).cmp(
-            &some_in_thread_has(keyword, content, right.thread),
+        Property::SomeInThread => has_some_in_thread(keyword, content, left.thread).cmp(
+            &has_some_in_thread(keyword, content, right.thread),
         ),
         Property::SortOrder | Property::Name => Ordering::Equal,
     }

@@ -348,7 +348,7 @@ fn fault_of(alloc: Global, kind: Kind, filter: &str) -> Result<String, NoMemory>
     }
 }
 
-const EMAIL_FAULTS: [[&str; 2]; 38] = [
+const EMAIL_FAULTS: [[&str; 2]; 40] = [
     ["true", "i "],
     ["7", "i "],
     [r#""text""#, "i "],
@@ -381,6 +381,8 @@ const EMAIL_FAULTS: [[&str; 2]; 38] = [
     [r#"{"hasAttachment":"true"}"#, "i hasAttachment"],
     [r#"{"text":1}"#, "i text"],
     [r#"{"from":1}"#, "i from"],
+    [r#"{"from":null}"#, "i from"],
+    [r#"{"to":["a"]}"#, "i to"],
     [r#"{"cc":null}"#, "i cc"],
     [r#"{"bcc":[]}"#, "i bcc"],
     [r#"{"subject":{}}"#, "i subject"],

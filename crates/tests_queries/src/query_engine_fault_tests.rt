@@ -3,7 +3,7 @@ use crate::query_engine_test_records::{answer, content_of, emails, mailboxes};
 use jm_base::Kind;
 use std::test::Fail;
 
-const EMAIL_FAULTS: [[&str; 2]; 24] = [
+const EMAIL_FAULTS: [[&str; 2]; 26] = [
     ["7", "i "],
     ["{}", "i accountId"],
     [r#"{"accountId":"A","anchor":1}"#, "i anchor"],
@@ -22,6 +22,8 @@ const EMAIL_FAULTS: [[&str; 2]; 24] = [
     [r#"{"accountId":"A","position":"1","limit":-1}"#, "i limit"],
     [r#"{"accountId":"A","filter":[]}"#, "i "],
     [r#"{"accountId":"A","filter":{"minSize":"x"}}"#, "i minSize"],
+    [r#"{"accountId":"A","filter":{"from":["x"]}}"#, "i from"],
+    [r#"{"accountId":"A","filter":{"to":null}}"#, "i to"],
     [r#"{"accountId":"A","filter":{"x":1},"sort":{}}"#, "i "],
     [
         r#"{"accountId":"A","filter":{"x":1},"sort":[{}]}"#,

@@ -3,7 +3,7 @@ use Rattle.mail_counts.specs.Counts.{has_keyword}
 use Rattle.mail_records.specs.Contents.{email_number}
 use Rattle.mail_records.specs.Tables.{IsTable}
 use Rattle.filter_terms.proofs.ThreadEntries.{all_entries}
-use Rattle.filter_terms.proofs.emails.all_in_thread_have.Goals as goal
+use Rattle.filter_terms.proofs.emails.has_all_in_thread.Goals as goal
 
 pub returns : goal.returns
 returns c =
