@@ -29,7 +29,8 @@ use Rattle.mail_counts.proofs.Sorted.{all_sorted}
 use Rattle.mail_counts.proofs.TidyAgain.{made_tidy}
 use Rattle.plan_promises.specs.Planned.{AllKeepMessages, HaveOneMessage, IsDelivered, IsFiled, IsPlanned, KeepsMessage, PutsEmail, PutsNewEmail}
 use Rattle.plan_promises.proofs.Planned.{planned_mailboxes, threads_kept}
-use Rattle.set_parts.specs.Arguments.{Update, count_objects, destroys_in, set_forms, updates_in}
+use Rattle.set_parts.specs.Arguments.{Update, count_objects, creates_in, destroys_in, set_forms, updates_in}
+use Rattle.set_parts.specs.Creates.{Creating, before_creates}
 use Rattle.set_parts.specs.CreationIds.{reported_id}
 use Rattle.set_parts.specs.Outcomes.{Plan, planned}
 use Rattle.set_parts.specs.Responses.{HasNewState}
@@ -41,14 +42,19 @@ use Rattle.set_parts.proofs.Parts.{all_append, there}
 use Rattle.set_parts.proofs.Rejecting.{plan_of_planned}
 use Rattle.email_set.specs.Emails.{after_steps, destroy_email, destroy_of, email_meant, filing_of, is_same_filing, step_to, update_email, update_of, with_filing}
 use Rattle.email_set.specs.Patches.{refiled}
-use Rattle.email_set.specs.Plans.{KeepTidyBut, all_edits, email_set_outcome, plan_in, steps_of}
+use Rattle.email_set.specs.Plans.{KeepTidyBut, creates_of, email_set_outcome, plan_from, plan_in, steps_of}
 use Rattle.email_set.specs.declared.filing.Filing.{Filing}
 use Rattle.email_set.specs.declared.filing.Refiled.{Refiled}
 use Rattle.email_set.specs.declared.filing.Refiled.TheVariants.{Rejected, Filed}
 use Rattle.email_set.specs.Views.{IsEmailStep, IsOfEmail}
+use Rattle.email_set.proofs.Planning.{forbidden_all}
 use Rattle.email_set.proofs.EmailSteps.{destroy_step, update_step}
 use Rattle.email_set.proofs.Found.{IsFound, meant_found, tidy_after_drop, tidy_after_put}
 use Rattle.email_set.proofs.Refiling.{IsRefiled, refiled_good}
+
+-- the edits of updates and destroys, and those that follow from them
+abbrev all_edits : Content → Progress → List Edit
+all_edits c s = s.edits ++ derived_edits c s.edits
 
 -- ---- what each edit is
 
@@ -343,6 +349,7 @@ pub record Promised (g : Ground) (p : Plan) : Type 0 where
   pub planned : (summary : List ℕ → Summary) (blobs : List (List ℕ)) → IsTidy g.content → IsPlanned summary blobs g.content p.edits
   pub new_state : HasNewState OfEmail g p.reply p.edits
   pub flags : AreTables g.content → AreCountsFlagsRight g.content p.edits
+  pub none_brought : p.blobs ≡ []
 
 -- ---- flags, also of a content that is not tidy
 
@@ -374,14 +381,20 @@ flags_steps c s all tables =
 
 -- ---- the outcome
 
-promised_plan : (g : Ground) (made : List Created) (ms : List (List ℕ × Tree)) → Promised g (plan_in g made ms)
-promised_plan g made ms =
+promised_steps : (g : Ground) (made : List Created) (ms rejected : List (List ℕ × Tree)) → Promised g (plan_from g ms (record (before_creates g.content made) { not_created = rejected }))
+promised_steps g made ms rejected =
     let c = g.content in
     record {
       planned = λ summary blobs tidy. promised_edits summary blobs c (steps_of c made ms) tidy (led_steps c made (updates_in ms) (destroys_in ms) (tidy_but c tidy));
       new_state = refl;
       flags = flags_steps c (steps_of c made ms) (of_steps c made (updates_in ms) (destroys_in ms));
+      none_brought = refl;
     }
+
+promised_plan : (g : Ground) (made : List Created) (ms : List (List ℕ × Tree)) → Promised g (plan_in g made ms)
+promised_plan g made ms =
+    subst (λ (p : Creating). Promised g (plan_from g ms p)) (sym (forbidden_all (creates_in ms) (before_creates g.content made)))
+    (promised_steps g made ms (creates_of g.content made ms).not_created)
 
 pub promised : (g : Ground) (args : Tree) (made : List Created) (q : Plan) → email_set_outcome g args made ≡ planned q → Promised g q
 promised g args made q e = plan_of_planned (Promised g) set_forms count_objects (present_state OfEmail g) (plan_in g made) (promised_plan g made) args q e

@@ -1,52 +1,42 @@
--- The response to an Email/set and its edits (RFC 8620, 5.3; RFC 8621, 4.6).
-use Rattle.std.specs.Prelude.{ℕ, List, [], ◌∷◌, ◌++◌, map, Option, ⊤}
+-- What an Email/set does (RFC 8620, 5.3; RFC 8621, 4.6).
+use Rattle.std.specs.Prelude.{ℕ, List, [], ◌∷◌, Option, ⊤}
 use Rattle.jm_base.specs.declared.identifiers.Kind.TheVariants.{Email as OfEmail}
 use Rattle.jm_json.specs.Find.{as_object}
-use Rattle.jm_json.specs.Order.{put_all}
 use Rattle.jm_json.specs.Tree.{Tree}
 use Rattle.jm_json.specs.declared.invocation.Created.{Created}
-use Rattle.mail_counts.specs.DerivedEdits.{derived_edits}
 use Rattle.mail_counts.specs.Plans.{Ground, present_state}
 use Rattle.mail_counts.specs.TidyBut.{IsTidyButThreadsAndCounts}
 use Rattle.mail_records.specs.Contents.{Content}
 use Rattle.mail_records.specs.Edits.{after_edit}
 use Rattle.mail_records.specs.declared.edits.Edit.{Edit}
 use Rattle.set_parts.specs.Arguments.{Create, account_in, count_objects, creates_in, destroys_in, set_forms, updates_in}
+use Rattle.set_parts.specs.Creates.{Creating, after_creates, before_creates}
 use Rattle.set_parts.specs.Outcomes.{Outcome, Plan, outcome_of_members}
-use Rattle.set_parts.specs.Responses.{set_reply}
-use Rattle.set_parts.specs.SetErrors.{error_tree}
+use Rattle.set_parts.specs.Plans.{plan_after}
 use Rattle.set_parts.specs.Steps.{Progress, before_steps}
-use Rattle.set_parts.specs.declared.reported.Reported.{Reported}
+use Rattle.set_parts.specs.declared.creates.CreateStep.{CreateStep}
+use Rattle.set_parts.specs.declared.creates.CreateStep.TheVariants.{Rejected}
 use Rattle.set_parts.specs.declared.set_errors.SetError.TheVariants.{Forbidden}
 use Rattle.email_set.specs.Emails.{after_steps}
+
+-- An email is created by an import or a copy, and not by a set: each create is forbidden.
+abbrev pub create_email : Creating → Create → CreateStep
+create_email s x = Rejected Forbidden
+
+-- the creates of a set with these arguments
+abbrev pub creates_of : Content → List Created → List (List ℕ × Tree) → Creating
+creates_of c made ms = after_creates create_email (before_creates c made) (creates_in ms)
 
 -- the updates and destroys of a set with these arguments
 abbrev pub steps_of : Content → List Created → List (List ℕ × Tree) → Progress
 steps_of c made ms = after_steps (before_steps c) made (updates_in ms) (destroys_in ms)
 
--- An email is created by an import or a copy, and not by a set: each create is forbidden.
-abbrev pub forbidden_create : Create → List ℕ × Tree
-forbidden_create x = (x.creation, error_tree Forbidden)
-
-abbrev pub with_creates_forbidden : List Create → Reported → Reported
-with_creates_forbidden creates r =
-    record r { not_created = put_all (map forbidden_create creates) [] }
-
--- the edits of a set: of its emails, and those of threads and counts that follow from them
-abbrev pub all_edits : Content → Progress → List Edit
-all_edits c s = s.edits ++ derived_edits c s.edits
-
--- the plan of steps, with creates that are forbidden
-abbrev pub plan_after : Ground → List ℕ → List Create → Progress → Plan
-plan_after g account creates s = record {
-  reply = set_reply OfEmail g account (with_creates_forbidden creates s.reported)
-      (all_edits g.content s);
-  edits = all_edits g.content s;
-  made = [];
-}
+-- the plan of creates, and of the updates and destroys after them
+abbrev pub plan_from : Ground → List (List ℕ × Tree) → Creating → Plan
+plan_from g ms p = plan_after OfEmail g (account_in ms) p (steps_of p.content p.made ms)
 
 abbrev pub plan_in : Ground → List Created → List (List ℕ × Tree) → Plan
-plan_in g made ms = plan_after g (account_in ms) (creates_in ms) (steps_of g.content made ms)
+plan_in g made ms = plan_from g ms (creates_of g.content made ms)
 
 -- the outcome with these arguments, or with arguments that are no object
 abbrev pub outcome_in : Ground → List Created → Option (List (List ℕ × Tree)) → Outcome

@@ -1,80 +1,53 @@
 // The plan of an Email/set (RFC 8620, section 5.3; RFC 8621, section 4.6).
-ghost use Rattle.std.specs.Prelude.{◌≡◌, ◌≤◌, [], ℕ, IfErr, IfOk, List, MatchResult, None, Some, map};
+ghost use Rattle.std.specs.Prelude.{◌≡◌, ◌≤◌, ℕ, IfErr, IfOk, List, MatchResult, None, Some, map};
 ghost use Rattle.jm_json.specs.Json.{tree_of};
-ghost use Rattle.jm_json.specs.Order.{put_all};
 ghost use Rattle.mail_counts.specs.CountsFlag.{AreCountsFlagsRight};
 ghost use Rattle.mail_counts.specs.Tidy.{IsTidy};
 ghost use Rattle.mail_counts.specs.TidyBut.{IsTidyButThreadsAndCounts};
-ghost use Rattle.mail_records.specs.Contents.{AreTables};
+ghost use Rattle.mail_records.specs.Contents.{AreTables, Content as TheContent};
 ghost use Rattle.mail_records.specs.Edits.{AllFit};
 ghost use Rattle.mail_records.specs.Histories.{max_position};
 ghost use Rattle.mail_records.specs.declared.records.Summary.{Summary};
 ghost use Rattle.plan_promises.specs.Planned.{AllKeepMessages, IsPlanned};
-ghost use Rattle.set_parts.specs.Arguments.{creates_in, destroys_in, set_forms};
-ghost use Rattle.set_parts.specs.Outcomes.{ExplainsRejection, ExplainsSet, ground_of, plan_of, planned, rejected};
+ghost use Rattle.set_parts.specs.Arguments.{creates_in, destroys_in};
+ghost use Rattle.set_parts.specs.Creates.{after_creates, before_creates};
+ghost use Rattle.set_parts.specs.CreatesViews.{KeepUp};
+ghost use Rattle.set_parts.specs.Outcomes.{ExplainsSet, ground_of, plan_of, planned};
 ghost use Rattle.set_parts.specs.Responses.{HasNewState};
-ghost use Rattle.set_parts.specs.Steps.{Progress};
 ghost use Rattle.set_parts.specs.Views.{create_of};
 ghost use Rattle.state_log.specs.Logs.{log_end};
-ghost use Rattle.email_set.specs.Plans.{KeepTidyBut, email_set_outcome, forbidden_create, outcome_in, plan_after, plan_in, steps_of};
+ghost use Rattle.email_set.specs.Plans.{KeepTidyBut, create_email, email_set_outcome, outcome_in, plan_in, steps_of};
 ghost use Rattle.email_set.specs.Views.{IsStepsOf};
 
 use crate::planner::start_planner;
 use crate::steps::{Setting, Steps, collect_destroyed, perform_steps};
 use jm_base::{Kind, NoMemory, Text};
-use jm_json::{Json, Made, Members};
-use mail_counts::{SetFault, SetPlan, derived};
+use jm_json::{Created, Json, Made, Members};
+use mail_counts::{SetFault, SetPlan};
 use mail_records::Content;
-use method_args::{Argument, Presence, Shape};
 use set_parts::{
-    SentCreate, SetError, build_error, build_set_response, check_call, collect_created,
-    count_objects, find_new_state, read_account_id, read_creates, read_destroys, read_updates,
+    CreateStep, Creates, SentCreate, SetError, check_set, collect_created, count_objects,
+    enter_create, finish_plan, read_account_id, read_creates, read_destroys, read_updates,
+    start_creates,
 };
 use state_log::Log;
 use std::alloc::Global;
 
-// Reports creates, none of which a set may make.
-fn forbid_creates<'a>(alloc: Global, creates: &[SentCreate<'a>]) -> Result<Members, NoMemory>
-    ensures { IfOk result
-        (λ ms. ms ≡ put_all (map forbidden_create (map create_of creates.now)) []) }
-{
-    let mut rejected = Members::with_room(alloc, creates.len())?;
-    for create in creates {
-        let error = build_error(alloc, SetError::Forbidden)?;
-        rejected.put(create.creation.copy()?, error)?;
-    }
-    Ok(rejected)
-}
-
-// Returns the plan of steps, over an account with this content and log.
-fn finish_plan<'a>(
+// Performs the creates of a set, none of which it may make.
+fn perform_creates<'a>(
     alloc: Global,
-    account: &str,
-    content: &Content,
-    log: &Log,
+    made: &'a [Created],
     creates: &[SentCreate<'a>],
-    steps: Steps,
-) -> Result<SetPlan, NoMemory>
-    requires last { log_end log.now ≤ max_position }
-    ensures { IfOk result (λ p. (s : Progress) → IsStepsOf steps s → plan_of p
-        ≡ plan_after (ground_of content.now.content log.now) account.now
-        (map create_of creates.now) s) }
+) -> Result<Creates<'a>, NoMemory>
+    ensures { IfOk result (λ p. (c : TheContent) → KeepUp p
+        (after_creates create_email (before_creates c made.now) (map create_of creates.now))) }
 {
-    let Steps {
-        mut reported,
-        mut edits,
-    } = steps;
-    reported.not_created = forbid_creates(alloc, creates)?;
-    let more = derived(alloc, content, edits.as_slice())?;
-    edits.append(more)?;
-    let before = log.state_of(Kind::Email);
-    let after = find_new_state(log, Kind::Email, edits.as_slice());
-    let reply = build_set_response(alloc, account, before, after, reported)?;
-    Ok(SetPlan {
-        reply,
-        edits,
-        made: Made::new(alloc),
-    })
+    let mut performed = start_creates(alloc, made)?;
+    for create in creates {
+        let step = CreateStep::Rejected(SetError::Forbidden);
+        enter_create(alloc, &mut performed, create.creation, step)?;
+    }
+    Ok(performed)
 }
 
 fn perform_all<'a>(
@@ -137,9 +110,20 @@ fn plan_accepted<'a>(
     ensures { IfOk result (λ p. plan_of p
         ≡ plan_in (ground_of content.now.content log.now) made.now members.now) }
 {
+    let creates = perform_creates(alloc, made.as_slice(), creates)?;
     let steps = plan_steps(alloc, content, members, made, destroys)?;
+    let Steps { reported, edits } = steps;
     let account = read_account_id(members);
-    finish_plan(alloc, account, content, log, creates, steps)
+    finish_plan(
+        alloc,
+        Kind::Email,
+        account,
+        content,
+        log,
+        creates,
+        reported,
+        edits,
+    )
 }
 
 fn plan_members<'a>(
@@ -159,7 +143,7 @@ fn plan_members<'a>(
     let creates = read_creates(alloc, members, "create")?;
     let destroys = read_destroys(alloc, members)?;
     let objects = count_objects(members, creates.as_slice(), destroys.as_slice());
-    check_arguments(alloc, members, objects, log.state_of(Kind::Email))?;
+    check_set(alloc, &[], members, objects, log.state_of(Kind::Email))?;
     let plan = plan_accepted(
         alloc,
         content,
@@ -170,51 +154,6 @@ fn plan_members<'a>(
         destroys.as_slice(),
     )?;
     Ok(plan)
-}
-
-// Returns Ok if a set of so many objects with these arguments is not rejected as a whole.
-fn check_arguments(
-    alloc: Global,
-    members: &Members,
-    objects: usize,
-    state: u64,
-) -> Result<(), SetFault>
-    ensures { MatchResult result (λ _. rejected set_forms objects state members.now ≡ None)
-        (λ e. ExplainsRejection e (rejected set_forms objects state members.now)) }
-{
-    check_call(
-        alloc,
-        &[
-            Argument {
-                name: "accountId",
-                presence: Presence::Required,
-                shape: Shape::String,
-            },
-            Argument {
-                name: "create",
-                presence: Presence::Nullable,
-                shape: Shape::Objects,
-            },
-            Argument {
-                name: "destroy",
-                presence: Presence::Nullable,
-                shape: Shape::Strings,
-            },
-            Argument {
-                name: "ifInState",
-                presence: Presence::Nullable,
-                shape: Shape::String,
-            },
-            Argument {
-                name: "update",
-                presence: Presence::Nullable,
-                shape: Shape::Object,
-            },
-        ],
-        members,
-        objects,
-        state,
-    )
 }
 
 fn plan(

@@ -25,13 +25,13 @@ use Rattle.set_parts.specs.declared.set_errors.SetError.{SetError}
 use Rattle.set_parts.proofs.Parts.{bound, mapped, there, unwrapped}
 use Rattle.set_parts.proofs.Sets.{AreKeywords, all_in_set, keywords_good, mailboxes_good}
 use Rattle.utc_dates.specs.Dates.{utc_seconds}
-use Rattle.mail_import.specs.Imports.{email_of, error_of, received_at}
+use Rattle.mail_import.specs.Imports.{Progress, email_of, error_of, received_at}
 use Rattle.mail_import.specs.Properties.{NamedBlob, Sent, date_named, date_of}
 use Rattle.mail_import.proofs.Accepting.{IsNewEmail, accepted}
 use Rattle.mail_import.proofs.Dates.{dated_value, moment_dated, received_dated, sent_date}
 use Rattle.mail_import.proofs.SentMembers.{received_good}
 use Rattle.mail_copies.specs.Carried.{carried_date, carried_keywords, kept_date, kept_keyword}
-use Rattle.mail_copies.specs.Copies.{Copying, error_of_copy, has_room, keywords_or, next_blob, properties_in, received_or}
+use Rattle.mail_copies.specs.Copies.{error_of_copy, has_room, keywords_or, next_blob, properties_in, received_or}
 
 -- ---- an option that is one of two
 
@@ -124,13 +124,13 @@ at_last (x ∷ bs) b = at_last bs b
 
 -- ---- the email
 
-pub new_copy : (blobs : List (List ℕ)) (moment : ℕ) (s : Copying) (ms : List (List ℕ × Tree)) (item : Tree) (bytes : List ℕ) → moment ≤ last_moment
-    → (let x : NamedBlob = next_blob blobs bytes in let a : Sent = properties_in s.progress.content s.progress.made moment ms item x in
-    error_of_copy (length s.progress.content.emails) blobs a (length bytes) ≡ None → IsNewEmail (blobs ++ bytes ∷ []) s.progress.content (email_of s.progress moment a x))
+pub new_copy : (blobs : List (List ℕ)) (moment : ℕ) (s : Progress) (ms : List (List ℕ × Tree)) (item : Tree) (bytes : List ℕ) → moment ≤ last_moment
+    → (let x : NamedBlob = next_blob blobs bytes in let a : Sent = properties_in s.creating.content s.creating.made moment ms item x in
+    error_of_copy (length s.creating.content.emails) blobs a (length bytes) ≡ None → IsNewEmail (blobs ++ bytes ∷ []) s.creating.content (email_of s moment a x))
 new_copy blobs moment s ms item bytes le none =
-    let c : Content = s.progress.content in
+    let c : Content = s.creating.content in
     let x : NamedBlob = next_blob blobs bytes in
-    let a : Sent = properties_in c s.progress.made moment ms item x in
+    let a : Sent = properties_in c s.creating.made moment ms item x in
     let no = both_none (error_of (length c.emails) a) (cond (has_room (length bytes) blobs) None _) none in
     let ok = accepted (length c.emails) a no.first in
     let boxes = there a.mailboxes ok.mailboxes in
@@ -139,7 +139,7 @@ new_copy blobs moment s ms item bytes le none =
     let boxes_are : unwrap_or a.mailboxes [] ≡ boxes.0 = unwrapped a.mailboxes boxes.0 [] boxes.1 in
     let words_are : unwrap_or a.keywords [] ≡ words.0 = unwrapped a.keywords words.0 [] words.1 in
     let date_is : unwrap_or a.received None ≡ date.0 = unwrapped a.received date.0 None date.1 in
-    let boxes_good = mailboxes_good c s.progress.made (find (codes "mailboxIds") ms) boxes.0 boxes.1 in
+    let boxes_good = mailboxes_good c s.creating.made (find (codes "mailboxIds") ms) boxes.0 boxes.1 in
     let words_good = keywords_or_good item (find (codes "keywords") ms) words.0 words.1 in
     let dated : IsUtcDate (received_at moment (received bytes) (unwrap_or a.received None)) =
     receipt_dated moment bytes (unwrap_or a.received None) le (subst (λ (o : Option UtcDate). ForSome o IsUtcDate) (sym date_is) (received_or_good moment item (find (codes "receivedAt") ms) date.0 le date.1)) in

@@ -15,20 +15,21 @@ use Rattle.state_log.specs.Logs.{Notes, IsLogOf, ids_in}
 use Rattle.state_log.proofs.Agreement.{ids_in-log}
 use Rattle.mail_import.specs.Imports.{Progress}
 use Rattle.mail_import.specs.Plans.{all_edits}
-use Rattle.mail_copies.specs.Plans.{place_blobs, place_in, place_outcome, plan_after, reply_members}
+use Rattle.mail_copies.specs.Plans.{place_in, place_outcome, plan_after, reply_members}
 
-pub plan_from_parts : (g : Ground) (account from : List ℕ) (s : Progress) (before after : ℕ) (created not_created : List (List ℕ × Tree)) (reply : Tree) (own more edits : List Edit) (made : List Created)
+pub plan_from_parts : (g : Ground) (account from : List ℕ) (s : Progress) (before after : ℕ) (created not_created : List (List ℕ × Tree)) (reply : Tree) (own more edits : List Edit) (made : List Created) (blobs : List (List ℕ))
     → reply ≡ object (fields_of (reply_members account from before after created not_created)) → before ≡ present_state OfEmail g → after ≡ state_after OfEmail g edits
-    → created ≡ s.created → not_created ≡ s.not_created → own ≡ s.edits → more ≡ derived_edits g.content own → edits ≡ own ++ more → made ≡ s.fresh
-    → (let p : Plan = record { reply = reply; edits = edits; made = made } in p) ≡ plan_after g account from s
-plan_from_parts g account from s before after created not_created reply own more edits made is was new c r o d e m =
+    → created ≡ s.creating.created → not_created ≡ s.creating.not_created → own ≡ s.creating.edits → more ≡ derived_edits g.content own → edits ≡ own ++ more → made ≡ s.creating.fresh → blobs ≡ s.creating.blobs
+    → (let p : Plan = record { reply = reply; edits = edits; made = made; blobs = blobs } in p) ≡ plan_after g account from s
+plan_from_parts g account from s before after created not_created reply own more edits made blobs is was new c r o d e m b =
     let all : edits ≡ all_edits g.content s = e ∙ (ap (λ es. own ++ es) d ∙ ap (λ es. es ++ derived_edits g.content es) o) in
     let newer : after ≡ state_after OfEmail g (all_edits g.content s) = new ∙ ap (state_after OfEmail g) all in
-    let members : reply_members account from before after created not_created ≡ reply_members account from (present_state OfEmail g) (state_after OfEmail g (all_edits g.content s)) s.created s.not_created =
+    let members : reply_members account from before after created not_created ≡ reply_members account from (present_state OfEmail g) (state_after OfEmail g (all_edits g.content s)) s.creating.created s.creating.not_created =
     ap₂ (λ b a. reply_members account from b a created not_created) was newer ∙ ap₂ (λ x y. reply_members account from (present_state OfEmail g) (state_after OfEmail g (all_edits g.content s)) x y) c r in
     let tree = is ∙ ap (λ ms. object (fields_of ms)) members in
-    ap (λ (t : Tree). let p : Plan = record { reply = t; edits = edits; made = made } in p) tree
-    ∙ ap₂ (λ (x : List Edit) (y : List Created). let p : Plan = record { reply = object (fields_of (reply_members account from (present_state OfEmail g) (state_after OfEmail g (all_edits g.content s)) s.created s.not_created)); edits = x; made = y } in p) all m
+    ap (λ (t : Tree). let p : Plan = record { reply = t; edits = edits; made = made; blobs = blobs } in p) tree
+    ∙ ap₂ (λ (x : List Edit) (y : List Created). let p : Plan = record { reply = object (fields_of (reply_members account from (present_state OfEmail g) (state_after OfEmail g (all_edits g.content s)) s.creating.created s.creating.not_created)); edits = x; made = y; blobs = blobs } in p) all m
+    ∙ ap (λ (bs : List (List ℕ)). let p : Plan = record (plan_after g account from s) { blobs = bs } in p) b
 
 same_ground : (c d : Content) (m n : ℕ) (e f : Floors) (x y : List Id) → c ≡ d → m ≡ n → e ≡ f → x ≡ y
     → (let g : Ground = record { content = c; floor = m; floors = e; ids = x } in g) ≡ record { content = d; floor = n; floors = f; ids = y }
@@ -42,9 +43,3 @@ pub same_outcome : (h : History) (c : Content) (l : Notes) (blobs : List (List �
 same_outcome h c l blobs args carried made moment content log same =
     ap₂ (λ (g : Ground) (bs : List (List ℕ)). place_outcome g bs args carried made moment)
     (same_ground c (content_of h) l.floor h.floor l.floors h.floors (ids_in l.notes) (ids_of h) content log.floor log.floors (ids_in-log h l log)) same
-
--- and its blobs
-pub same_blobs : (h : History) (c : Content) (blobs : List (List ℕ)) (args : Tree) (carried : Carried) (made : List Created) (moment : ℕ) → c ≡ content_of h → blobs ≡ blobs_of h
-    → place_blobs c blobs args carried made moment ≡ place_blobs (content_of h) (blobs_of h) args carried made moment
-same_blobs h c blobs args carried made moment content same =
-    ap₂ (λ (d : Content) (bs : List (List ℕ)). place_blobs d bs args carried made moment) content same

@@ -5,7 +5,6 @@ use Rattle.std.specs.Option.{option_or}
 use Rattle.std.proofs.lemmas.Option.{none-some}
 use Rattle.jm_base.specs.declared.identifiers.Kind.TheVariants.{Email as OfEmail}
 use Rattle.jm_json.specs.Tree.{Tree}
-use Rattle.jm_json.specs.Find.{as_object}
 use Rattle.jm_json.specs.declared.invocation.Created.{Created}
 use Rattle.mail_records.specs.Contents.{Content, AreNumbered, AreTables, thread_at, thread_number}
 use Rattle.mail_records.specs.Edits.{AllFit, after_edit, after_edits}
@@ -29,7 +28,8 @@ use Rattle.mail_counts.proofs.Growth.{lookup-above}
 use Rattle.mail_counts.proofs.Followed.{derived_flags, derived_leaves}
 use Rattle.mail_counts.proofs.TidyAgain.{made_tidy}
 use Rattle.set_parts.specs.Arguments.{Create, account_in, creates_in}
-use Rattle.set_parts.specs.Outcomes.{Plan, outcome_of_members, planned}
+use Rattle.set_parts.specs.Creates.{Creating}
+use Rattle.set_parts.specs.Outcomes.{Plan, planned}
 use Rattle.set_parts.specs.Responses.{HasNewState}
 use Rattle.set_parts.specs.declared.set_errors.SetError.{SetError}
 use Rattle.set_parts.specs.declared.set_errors.SetError.TheVariants.{NotFound, OverQuota}
@@ -39,8 +39,8 @@ use Rattle.mail_summary.specs.Summaries.{summary}
 use Rattle.thread_assign.specs.Threads.{joined_thread}
 use Rattle.plan_promises.specs.Planned.{AllKeepMessages, IsDelivered, IsFiled, IsPlanned, KeepsMessage, PutsEmail, PutsNewEmail}
 use Rattle.plan_promises.proofs.Planned.{HasMessage-more, planned_mailboxes, threads_kept}
-use Rattle.mail_import.specs.Imports.{Progress, email_of, error_of, next_after, thread_for}
-use Rattle.mail_import.specs.Plans.{all_edits}
+use Rattle.mail_import.specs.Imports.{Progress, after_check, after_made, after_rejected, email_of, error_of, next_after, thread_for}
+use Rattle.mail_import.specs.Plans.{all_edits, beginning}
 use Rattle.mail_import.specs.Properties.{NamedBlob, Sent}
 use Rattle.mail_import.proofs.Accepting.{IsNewEmail}
 use Rattle.mail_import.proofs.Following.{Fits-new_email, emails-new, not_there, numbered-new}
@@ -49,8 +49,8 @@ use Rattle.mail_import.proofs.NewThreads.{AreNamed, named_push, one_push, thread
 use Rattle.mail_import.proofs.Promising.{flags_append}
 use Rattle.mail_copies.specs.Arguments.{count_copies, forms, from_account_in}
 use Rattle.mail_copies.specs.Carried.{Delivery, deliveries}
-use Rattle.mail_copies.specs.Copies.{Copying, after_checked, after_copies, after_copy, delivery_for, error_of_copy, first_delivery, has_room, next_blob, properties_in, with_created, with_rejected}
-use Rattle.mail_copies.specs.Plans.{blobs_by, first_copying, place_blobs, place_outcome, plan_after, plan_in}
+use Rattle.mail_copies.specs.Copies.{after_copies, after_copy, delivery_for, error_of_copy, first_delivery, has_room, next_blob, properties_in}
+use Rattle.mail_copies.specs.Plans.{place_outcome, plan_after, plan_in}
 use Rattle.mail_copies.proofs.Accepted.{new_copy}
 use Rattle.mail_copies.proofs.Room.{few_with}
 
@@ -160,15 +160,15 @@ known_more c a b t le known =
     (λ (r : (c.next_thread ≤ t) × (t < a)). inr (r.0, omega (arith, le, r.1))) known
 
 -- the blobs are those of the account with those that were brought
-pub record Led (blobs : List (List ℕ)) (c : Content) (s : Copying) : Type 0 where
-  pub content : s.progress.content ≡ after_edits c s.progress.edits
-  pub copies : AllByRecursion (IsCopied (blobs ++ s.brought)) s.progress.edits
-  pub fits : AllFit c s.progress.edits
-  pub kept : AllKeepMessages c s.progress.edits
-  pub tidy : IsTidyButThreadsAndCounts s.progress.content
-  pub low : c.next_thread ≤ s.progress.next_thread
-  pub known : AllByRecursion (λ (e : Email). IsKnown c s.progress.next_thread e.thread) s.progress.content.emails
-  pub named : AreNamed c s.progress.edits s.progress.next_thread
+pub record Led (blobs : List (List ℕ)) (c : Content) (s : Progress) : Type 0 where
+  pub content : s.creating.content ≡ after_edits c s.creating.edits
+  pub copies : AllByRecursion (IsCopied (blobs ++ s.creating.blobs)) s.creating.edits
+  pub fits : AllFit c s.creating.edits
+  pub kept : AllKeepMessages c s.creating.edits
+  pub tidy : IsTidyButThreadsAndCounts s.creating.content
+  pub low : c.next_thread ≤ s.next_thread
+  pub known : AllByRecursion (λ (e : Email). IsKnown c s.next_thread e.thread) s.creating.content.emails
+  pub named : AreNamed c s.creating.edits s.next_thread
 
 -- the thread that is taken and the next one after it
 thread_taken : (c : Content) (o : Option ℕ) (next : ℕ) → c.next_thread ≤ next → ((t : ℕ) → o ≡ Some t → IsKnown c next t)
@@ -223,14 +223,14 @@ copied_more blobs more (DropEmail number thread) is = absurd is
 copied_more blobs more (PutThread item was) is = absurd is
 copied_more blobs more (DropThread number) is = absurd is
 
-led_created : (blobs : List (List ℕ)) (c : Content) (s : Copying) (creation : List ℕ) (e : Email) (bytes : List ℕ) → Led blobs c s → IsNewEmail ((blobs ++ s.brought) ++ bytes ∷ []) s.progress.content e → e.thread ≡ thread_for s.progress e.summary
-    → Led blobs c (with_created s creation e bytes)
+led_created : (blobs : List (List ℕ)) (c : Content) (s : Progress) (creation : List ℕ) (e : Email) (bytes : List ℕ) → Led blobs c s → IsNewEmail ((blobs ++ s.creating.blobs) ++ bytes ∷ []) s.creating.content e → e.thread ≡ thread_for s e.summary
+    → Led blobs c (after_made s creation e (Some bytes))
 led_created blobs c s creation e bytes led new is =
-    let p : Progress = s.progress in
-    let all : List (List ℕ) = (blobs ++ s.brought) ++ bytes ∷ [] in
+    let p : Creating = s.creating in
+    let all : List (List ℕ) = (blobs ++ s.creating.blobs) ++ bytes ∷ [] in
     let o : Option ℕ = joined_thread p.content.emails e.summary in
     let numbered = led.tidy.numbered in
-    let taken = thread_taken c o p.next_thread led.low (λ t joined. joined_known (IsKnown c p.next_thread) e.summary t p.content.emails led.known joined) in
+    let taken = thread_taken c o s.next_thread led.low (λ t joined. joined_known (IsKnown c s.next_thread) e.summary t p.content.emails led.known joined) in
     let fit = Fits-new_email p.content e numbered new.number in
     let none = not_there p.content e numbered new.number in
     let keeps : KeepsMessage p.content (PutEmail e false) = λ (old : Email) there. absurd (none-some old (sym none ∙ there)) in
@@ -239,24 +239,24 @@ led_created blobs c s creation e bytes led new is =
     record {
       content = ap (λ d. after_edit d (PutEmail e false)) led.content ∙ sym (after_edits-append p.edits (PutEmail e false ∷ []) c);
       copies =
-          subst (λ (bs : List (List ℕ)). AllByRecursion (IsCopied bs) (p.edits ++ PutEmail e false ∷ [])) (append_assoc blobs s.brought (bytes ∷ []))
+          subst (λ (bs : List (List ℕ)). AllByRecursion (IsCopied bs) (p.edits ++ PutEmail e false ∷ [])) (append_assoc blobs s.creating.blobs (bytes ∷ []))
           (all_push (IsCopied all) p.edits (PutEmail e false)
-          (all_map (IsCopied (blobs ++ s.brought)) (IsCopied all) p.edits (copied_more (blobs ++ s.brought) (bytes ∷ [])) led.copies)
+          (all_map (IsCopied (blobs ++ s.creating.blobs)) (IsCopied all) p.edits (copied_more (blobs ++ s.creating.blobs) (bytes ∷ [])) led.copies)
           (new.delivered, new.filed));
       fits = AllFit-append p.edits (PutEmail e false ∷ []) c led.fits (subst (λ d. AllFit d (PutEmail e false ∷ [])) led.content (fit, tt));
       kept = kept_append p.edits (PutEmail e false ∷ []) c led.kept (subst (λ d. AllKeepMessages d (PutEmail e false ∷ [])) led.content (keeps, tt));
       tidy = tidy_with_email all p.content e led.tidy new;
       low = omega (arith, up, low);
       known =
-          subst (AllByRecursion (λ (x : Email). IsKnown c (next_after o p.next_thread) x.thread)) (sym (emails-new p.content e numbered new.number))
-          (all_push (λ (x : Email). IsKnown c (next_after o p.next_thread) x.thread) p.content.emails e
-          (all_map (λ (x : Email). IsKnown c p.next_thread x.thread) (λ (x : Email). IsKnown c (next_after o p.next_thread) x.thread) p.content.emails
-          (λ (x : Email) k. known_more c p.next_thread (next_after o p.next_thread) x.thread up k) led.known)
-          (subst (IsKnown c (next_after o p.next_thread)) (sym is) taken.1));
-      named = named_more c p.edits e o p.next_thread is up taken.1 led.named;
+          subst (AllByRecursion (λ (x : Email). IsKnown c (next_after o s.next_thread) x.thread)) (sym (emails-new p.content e numbered new.number))
+          (all_push (λ (x : Email). IsKnown c (next_after o s.next_thread) x.thread) p.content.emails e
+          (all_map (λ (x : Email). IsKnown c s.next_thread x.thread) (λ (x : Email). IsKnown c (next_after o s.next_thread) x.thread) p.content.emails
+          (λ (x : Email) k. known_more c s.next_thread (next_after o s.next_thread) x.thread up k) led.known)
+          (subst (IsKnown c (next_after o s.next_thread)) (sym is) taken.1));
+      named = named_more c p.edits e o s.next_thread is up taken.1 led.named;
     }
 
-led_rejected : (blobs : List (List ℕ)) (c : Content) (s : Copying) (creation : List ℕ) (r : SetError) → Led blobs c s → Led blobs c (with_rejected s creation r)
+led_rejected : (blobs : List (List ℕ)) (c : Content) (s : Progress) (creation : List ℕ) (r : SetError) → Led blobs c s → Led blobs c (after_rejected s creation r)
 led_rejected blobs c s creation r led = record {
   content = led.content;
   copies = led.copies;
@@ -268,21 +268,21 @@ led_rejected blobs c s creation r led = record {
   named = led.named;
 }
 
-led_checked : (blobs : List (List ℕ)) (c : Content) (s : Copying) (creation : List ℕ) (e : Email) (bytes : List ℕ) (o : Option SetError) → Led blobs c s → (o ≡ None → IsNewEmail ((blobs ++ s.brought) ++ bytes ∷ []) s.progress.content e)
-    → e.thread ≡ thread_for s.progress e.summary → Led blobs c (after_checked s creation e bytes o)
+led_checked : (blobs : List (List ℕ)) (c : Content) (s : Progress) (creation : List ℕ) (e : Email) (bytes : List ℕ) (o : Option SetError) → Led blobs c s → (o ≡ None → IsNewEmail ((blobs ++ s.creating.blobs) ++ bytes ∷ []) s.creating.content e)
+    → e.thread ≡ thread_for s e.summary → Led blobs c (after_check s creation e (Some bytes) o)
 led_checked blobs c s creation e bytes None led new is = led_created blobs c s creation e bytes led (new refl) is
 led_checked blobs c s creation e bytes (Some r) led new is = led_rejected blobs c s creation r led
 
-led_copy : (blobs : List (List ℕ)) (moment : ℕ) (c : Content) (s : Copying) (x : Create) (d : Option Delivery) → moment ≤ last_moment → Led blobs c s → Led blobs c (after_copy blobs moment s x d)
+led_copy : (blobs : List (List ℕ)) (moment : ℕ) (c : Content) (s : Progress) (x : Create) (d : Option Delivery) → moment ≤ last_moment → Led blobs c s → Led blobs c (after_copy blobs moment s x d)
 led_copy blobs moment c s x None le led = led_rejected blobs c s x.creation NotFound led
 led_copy blobs moment c s x (Some d) le led =
-    let bs : List (List ℕ) = blobs ++ s.brought in
+    let bs : List (List ℕ) = blobs ++ s.creating.blobs in
     let message : NamedBlob = next_blob bs d.bytes in
-    let a : Sent = properties_in s.progress.content s.progress.made moment x.members d.item message in
-    led_checked blobs c s x.creation (email_of s.progress moment a message) d.bytes (error_of_copy (length s.progress.content.emails) bs a (length d.bytes)) led
+    let a : Sent = properties_in s.creating.content s.creating.made moment x.members d.item message in
+    led_checked blobs c s x.creation (email_of s moment a message) d.bytes (error_of_copy (length s.creating.content.emails) bs a (length d.bytes)) led
     (λ none. new_copy bs moment s x.members d.item d.bytes le none) refl
 
-led_copies : (blobs : List (List ℕ)) (moment : ℕ) (c : Content) (xs : List Create) (ds : List (Option Delivery)) (s : Copying) → moment ≤ last_moment → Led blobs c s → Led blobs c (after_copies blobs moment s xs ds)
+led_copies : (blobs : List (List ℕ)) (moment : ℕ) (c : Content) (xs : List Create) (ds : List (Option Delivery)) (s : Progress) → moment ≤ last_moment → Led blobs c s → Led blobs c (after_copies blobs moment s xs ds)
 led_copies blobs moment c [] ds s le led = led
 led_copies blobs moment c (x ∷ xs) ds s le led =
     let d = delivery_for x (first_delivery ds) in
@@ -303,7 +303,7 @@ tidy_but c t = record {
   emails = t.emails;
 }
 
-led_first : (blobs : List (List ℕ)) (c : Content) (made : List Created) → IsTidy c → Led blobs c (first_copying c made)
+led_first : (blobs : List (List ℕ)) (c : Content) (made : List Created) → IsTidy c → Led blobs c (beginning c made)
 led_first blobs c made t = record {
   content = refl;
   copies = tt;
@@ -341,49 +341,49 @@ flags_of (DropThread number ∷ es) c all = absurd all.0
 
 -- ---- the plan
 
-promised_edits : (blobs : List (List ℕ)) (c : Content) (s : Copying) → IsTidy c → AllByRecursion puts_email s.progress.edits → Led blobs c s → IsPlanned summary (blobs ++ s.brought) c (all_edits c s.progress)
+promised_edits : (blobs : List (List ℕ)) (c : Content) (s : Progress) → IsTidy c → AllByRecursion puts_email s.creating.edits → Led blobs c s → IsPlanned summary (blobs ++ s.creating.blobs) c (all_edits c s)
 promised_edits blobs c s tidy puts led =
-    let more = derived_edits c s.progress.edits in
-    let leave : LeaveTidyButThreadsAndCounts c s.progress.edits = record {
+    let more = derived_edits c s.creating.edits in
+    let leave : LeaveTidyButThreadsAndCounts c s.creating.edits = record {
       fit = led.fits;
-      keep_threads = threads_kept s.progress.edits c led.kept;
-      keep_counts = counts_kept (blobs ++ s.brought) s.progress.edits c led.copies;
-      leave_threads = all_map (IsCopied (blobs ++ s.brought)) LeavesThreads s.progress.edits (leaves_threads (blobs ++ s.brought)) led.copies;
-      new_threads = threads_next c s.progress.edits s.progress.next_thread (λ n le. no_thread c n tidy.numbered le) led.named;
+      keep_threads = threads_kept s.creating.edits c led.kept;
+      keep_counts = counts_kept (blobs ++ s.creating.blobs) s.creating.edits c led.copies;
+      leave_threads = all_map (IsCopied (blobs ++ s.creating.blobs)) LeavesThreads s.creating.edits (leaves_threads (blobs ++ s.creating.blobs)) led.copies;
+      new_threads = threads_next c s.creating.edits s.next_thread (λ n le. no_thread c n tidy.numbered le) led.named;
       after = subst IsTidyButThreadsAndCounts led.content led.tidy;
     } in
-    let made = made_tidy c s.progress.edits tidy leave in
-    let leaves : AllByRecursion LeavesEmails more = derived_leaves c (after_edits c s.progress.edits) (touched_threads s.progress.edits) in
-    let flags : AreCountsFlagsRight (after_edits c s.progress.edits) more =
-    derived_flags c (after_edits c s.progress.edits) (touched_threads s.progress.edits) (AreTables-after_edits s.progress.edits c tidy.tables).mailboxes in
-    let rest : IsPlanned summary (blobs ++ s.brought) (after_edits c s.progress.edits) more =
-    planned_mailboxes summary (blobs ++ s.brought) (after_edits c s.progress.edits) more (fit_rest s.progress.edits more c made.0) leaves (subst IsTidy (after_edits-append s.progress.edits more c) made.1) flags in
+    let made = made_tidy c s.creating.edits tidy leave in
+    let leaves : AllByRecursion LeavesEmails more = derived_leaves c (after_edits c s.creating.edits) (touched_threads s.creating.edits) in
+    let flags : AreCountsFlagsRight (after_edits c s.creating.edits) more =
+    derived_flags c (after_edits c s.creating.edits) (touched_threads s.creating.edits) (AreTables-after_edits s.creating.edits c tidy.tables).mailboxes in
+    let rest : IsPlanned summary (blobs ++ s.creating.blobs) (after_edits c s.creating.edits) more =
+    planned_mailboxes summary (blobs ++ s.creating.blobs) (after_edits c s.creating.edits) more (fit_rest s.creating.edits more c made.0) leaves (subst IsTidy (after_edits-append s.creating.edits more c) made.1) flags in
     record {
       fits = made.0;
-      kept = kept_append s.progress.edits more c led.kept rest.kept;
-      delivered = all_append (PutsNewEmail (IsDelivered summary (blobs ++ s.brought))) s.progress.edits more (all_map (IsCopied (blobs ++ s.brought)) (PutsNewEmail (IsDelivered summary (blobs ++ s.brought))) s.progress.edits (delivered (blobs ++ s.brought)) led.copies) rest.delivered;
-      filed = all_append (PutsEmail IsFiled) s.progress.edits more (all_map (IsCopied (blobs ++ s.brought)) (PutsEmail IsFiled) s.progress.edits (filed (blobs ++ s.brought)) led.copies) rest.filed;
+      kept = kept_append s.creating.edits more c led.kept rest.kept;
+      delivered = all_append (PutsNewEmail (IsDelivered summary (blobs ++ s.creating.blobs))) s.creating.edits more (all_map (IsCopied (blobs ++ s.creating.blobs)) (PutsNewEmail (IsDelivered summary (blobs ++ s.creating.blobs))) s.creating.edits (delivered (blobs ++ s.creating.blobs)) led.copies) rest.delivered;
+      filed = all_append (PutsEmail IsFiled) s.creating.edits more (all_map (IsCopied (blobs ++ s.creating.blobs)) (PutsEmail IsFiled) s.creating.edits (filed (blobs ++ s.creating.blobs)) led.copies) rest.filed;
       tidy = made.1;
-      flags = flags_append s.progress.edits more c (flags_of s.progress.edits c puts) flags;
+      flags = flags_append s.creating.edits more c (flags_of s.creating.edits c puts) flags;
     }
   where
     fit_rest : (es more : List Edit) (d : Content) → AllFit d (es ++ more) → AllFit (after_edits d es) more
     fit_rest [] more d fit = fit
     fit_rest (e ∷ es) more d fit = fit_rest es more (after_edit d e) fit.1
 
-puts_checked : (s : Copying) (creation : List ℕ) (e : Email) (bytes : List ℕ) (o : Option SetError) → AllByRecursion puts_email s.progress.edits → AllByRecursion puts_email (after_checked s creation e bytes o).progress.edits
-puts_checked s creation e bytes None all = all_push puts_email s.progress.edits (PutEmail e false) all refl
+puts_checked : (s : Progress) (creation : List ℕ) (e : Email) (bytes : List ℕ) (o : Option SetError) → AllByRecursion puts_email s.creating.edits → AllByRecursion puts_email (after_check s creation e (Some bytes) o).creating.edits
+puts_checked s creation e bytes None all = all_push puts_email s.creating.edits (PutEmail e false) all refl
 puts_checked s creation e bytes (Some r) all = all
 
-puts_copy : (blobs : List (List ℕ)) (moment : ℕ) (s : Copying) (x : Create) (d : Option Delivery) → AllByRecursion puts_email s.progress.edits → AllByRecursion puts_email (after_copy blobs moment s x d).progress.edits
+puts_copy : (blobs : List (List ℕ)) (moment : ℕ) (s : Progress) (x : Create) (d : Option Delivery) → AllByRecursion puts_email s.creating.edits → AllByRecursion puts_email (after_copy blobs moment s x d).creating.edits
 puts_copy blobs moment s x None all = all
 puts_copy blobs moment s x (Some d) all =
-    let bs : List (List ℕ) = blobs ++ s.brought in
+    let bs : List (List ℕ) = blobs ++ s.creating.blobs in
     let message : NamedBlob = next_blob bs d.bytes in
-    let a : Sent = properties_in s.progress.content s.progress.made moment x.members d.item message in
-    puts_checked s x.creation (email_of s.progress moment a message) d.bytes (error_of_copy (length s.progress.content.emails) bs a (length d.bytes)) all
+    let a : Sent = properties_in s.creating.content s.creating.made moment x.members d.item message in
+    puts_checked s x.creation (email_of s moment a message) d.bytes (error_of_copy (length s.creating.content.emails) bs a (length d.bytes)) all
 
-puts_copies : (blobs : List (List ℕ)) (moment : ℕ) (xs : List Create) (ds : List (Option Delivery)) (s : Copying) → AllByRecursion puts_email s.progress.edits → AllByRecursion puts_email (after_copies blobs moment s xs ds).progress.edits
+puts_copies : (blobs : List (List ℕ)) (moment : ℕ) (xs : List Create) (ds : List (Option Delivery)) (s : Progress) → AllByRecursion puts_email s.creating.edits → AllByRecursion puts_email (after_copies blobs moment s xs ds).creating.edits
 puts_copies blobs moment [] ds s all = all
 puts_copies blobs moment (x ∷ xs) ds s all =
     let d = delivery_for x (first_delivery ds) in
@@ -391,82 +391,55 @@ puts_copies blobs moment (x ∷ xs) ds s all =
 
 -- ---- the blobs
 
-few_checked : (blobs : List (List ℕ)) (s : Copying) (creation : List ℕ) (e : Email) (bytes : List ℕ) (a : Option SetError) → AreBlobsFew (blobs ++ s.brought)
-    → AreBlobsFew (blobs ++ (after_checked s creation e bytes (option_or a (cond (has_room (length bytes) (blobs ++ s.brought)) None (Some OverQuota)))).brought)
+few_checked : (blobs : List (List ℕ)) (s : Progress) (creation : List ℕ) (e : Email) (bytes : List ℕ) (a : Option SetError) → AreBlobsFew (blobs ++ s.creating.blobs)
+    → AreBlobsFew (blobs ++ (after_check s creation e (Some bytes) (option_or a (cond (has_room (length bytes) (blobs ++ s.creating.blobs)) None (Some OverQuota)))).creating.blobs)
 few_checked blobs s creation e bytes (Some r) few = few
-few_checked blobs s creation e bytes None few = step (has_room (length bytes) (blobs ++ s.brought)) refl
+few_checked blobs s creation e bytes None few = step (has_room (length bytes) (blobs ++ s.creating.blobs)) refl
   where
-    step : (b : Bool) → has_room (length bytes) (blobs ++ s.brought) ≡ b → AreBlobsFew (blobs ++ (after_checked s creation e bytes (cond b None (Some OverQuota))).brought)
-    step true room = subst AreBlobsFew (append_assoc blobs s.brought (bytes ∷ [])) (few_with (blobs ++ s.brought) bytes room)
+    step : (b : Bool) → has_room (length bytes) (blobs ++ s.creating.blobs) ≡ b → AreBlobsFew (blobs ++ (after_check s creation e (Some bytes) (cond b None (Some OverQuota))).creating.blobs)
+    step true room = subst AreBlobsFew (append_assoc blobs s.creating.blobs (bytes ∷ [])) (few_with (blobs ++ s.creating.blobs) bytes room)
     step false room = few
 
-few_copy : (blobs : List (List ℕ)) (moment : ℕ) (s : Copying) (x : Create) (d : Option Delivery) → AreBlobsFew (blobs ++ s.brought) → AreBlobsFew (blobs ++ (after_copy blobs moment s x d).brought)
+few_copy : (blobs : List (List ℕ)) (moment : ℕ) (s : Progress) (x : Create) (d : Option Delivery) → AreBlobsFew (blobs ++ s.creating.blobs) → AreBlobsFew (blobs ++ (after_copy blobs moment s x d).creating.blobs)
 few_copy blobs moment s x None few = few
 few_copy blobs moment s x (Some d) few =
-    let bs : List (List ℕ) = blobs ++ s.brought in
+    let bs : List (List ℕ) = blobs ++ s.creating.blobs in
     let message : NamedBlob = next_blob bs d.bytes in
-    let a : Sent = properties_in s.progress.content s.progress.made moment x.members d.item message in
-    few_checked blobs s x.creation (email_of s.progress moment a message) d.bytes (error_of (length s.progress.content.emails) a) few
+    let a : Sent = properties_in s.creating.content s.creating.made moment x.members d.item message in
+    few_checked blobs s x.creation (email_of s moment a message) d.bytes (error_of (length s.creating.content.emails) a) few
 
-few_copies : (blobs : List (List ℕ)) (moment : ℕ) (xs : List Create) (ds : List (Option Delivery)) (s : Copying) → AreBlobsFew (blobs ++ s.brought) → AreBlobsFew (blobs ++ (after_copies blobs moment s xs ds).brought)
+few_copies : (blobs : List (List ℕ)) (moment : ℕ) (xs : List Create) (ds : List (Option Delivery)) (s : Progress) → AreBlobsFew (blobs ++ s.creating.blobs) → AreBlobsFew (blobs ++ (after_copies blobs moment s xs ds).creating.blobs)
 few_copies blobs moment [] ds s few = few
 few_copies blobs moment (x ∷ xs) ds s few =
     let d = delivery_for x (first_delivery ds) in
     few_copies blobs moment xs (drop 1 ds) (after_copy blobs moment s x d) (few_copy blobs moment s x d few)
 
-few_by : (c : Content) (blobs : List (List ℕ)) (carried : Carried) (made : List Created) (moment : ℕ) (o : Option (List (List ℕ × Tree))) → AreBlobsFew blobs → AreBlobsFew (blobs ++ blobs_by c blobs carried made moment o)
-few_by c blobs carried made moment None few = subst AreBlobsFew (sym (append-nil blobs)) few
-few_by c blobs carried made moment (Some ms) few =
-    few_copies blobs moment (creates_in ms) (deliveries carried.emails carried.blobs) (first_copying c made) (subst AreBlobsFew (sym (append-nil blobs)) few)
-
--- the blobs of a plan are within the limits with those of the account
-pub few_blobs : (c : Content) (blobs : List (List ℕ)) (args : Tree) (carried : Carried) (made : List Created) (moment : ℕ) → AreBlobsFew blobs → AreBlobsFew (blobs ++ place_blobs c blobs args carried made moment)
-few_blobs c blobs args carried made moment few = few_by c blobs carried made moment (as_object args) few
-
 -- ---- what a plan promises
 
--- what the plan of a call is promised to be, with the blobs that it brings
-pub record Promised (g : Ground) (blobs brought : List (List ℕ)) (moment : ℕ) (p : Plan) : Type 0 where
-  pub planned : moment ≤ last_moment → IsTidy g.content → IsPlanned summary (blobs ++ brought) g.content p.edits
+-- what the plan of a call is promised to be, over an account with these blobs
+pub record Promised (g : Ground) (blobs : List (List ℕ)) (moment : ℕ) (p : Plan) : Type 0 where
+  pub planned : moment ≤ last_moment → IsTidy g.content → IsPlanned summary (blobs ++ p.blobs) g.content p.edits
+  pub few : AreBlobsFew blobs → AreBlobsFew (blobs ++ p.blobs)
   pub new_state : HasNewState OfEmail g p.reply p.edits
   pub flags : AreTables g.content → AreCountsFlagsRight g.content p.edits
 
 promised_copies : (g : Ground) (blobs : List (List ℕ)) (made : List Created) (moment : ℕ) (account from : List ℕ) (xs : List Create) (ds : List (Option Delivery))
-    → Promised g blobs (after_copies blobs moment (first_copying g.content made) xs ds).brought moment (plan_after g account from (after_copies blobs moment (first_copying g.content made) xs ds).progress)
+    → Promised g blobs moment (plan_after g account from (after_copies blobs moment (beginning g.content made) xs ds))
 promised_copies g blobs made moment account from xs ds =
     let c = g.content in
-    let s : Copying = after_copies blobs moment (first_copying c made) xs ds in
-    let puts = puts_copies blobs moment xs ds (first_copying c made) tt in
+    let s : Progress = after_copies blobs moment (beginning c made) xs ds in
+    let puts = puts_copies blobs moment xs ds (beginning c made) tt in
     record {
-      planned = λ le tidy. promised_edits blobs c s tidy puts (led_copies blobs moment c xs ds (first_copying c made) le (led_first blobs c made tidy));
+      planned = λ le tidy. promised_edits blobs c s tidy puts (led_copies blobs moment c xs ds (beginning c made) le (led_first blobs c made tidy));
+      few = λ are. few_copies blobs moment xs ds (beginning c made) (subst AreBlobsFew (sym (append-nil blobs)) are);
       new_state = refl;
       flags = λ tables.
-          flags_append s.progress.edits (derived_edits c s.progress.edits) c (flags_of s.progress.edits c puts)
-          (derived_flags c (after_edits c s.progress.edits) (touched_threads s.progress.edits) (AreTables-after_edits s.progress.edits c tables).mailboxes);
+          flags_append s.creating.edits (derived_edits c s.creating.edits) c (flags_of s.creating.edits c puts)
+          (derived_flags c (after_edits c s.creating.edits) (touched_threads s.creating.edits) (AreTables-after_edits s.creating.edits c tables).mailboxes);
     }
 
--- the plan of these arguments, or one that changes nothing
-abbrev plan_for : Ground → List (List ℕ) → Carried → List Created → ℕ → Option (List (List ℕ × Tree)) → Plan
-plan_for g blobs carried made moment None = plan_after g [] [] (first_copying g.content made).progress
-plan_for g blobs carried made moment (Some ms) = plan_in g blobs carried made moment ms
-
-promised_for : (g : Ground) (blobs : List (List ℕ)) (carried : Carried) (made : List Created) (moment : ℕ) (o : Option (List (List ℕ × Tree)))
-    → Promised g blobs (blobs_by g.content blobs carried made moment o) moment (plan_for g blobs carried made moment o)
-promised_for g blobs carried made moment None = promised_copies g blobs made moment [] [] [] []
-promised_for g blobs carried made moment (Some ms) =
-    promised_copies g blobs made moment (account_in ms) (from_account_in ms) (creates_in ms) (deliveries carried.emails carried.blobs)
-
-same_outcome_for : (g : Ground) (blobs : List (List ℕ)) (carried : Carried) (made : List Created) (moment : ℕ) (o : Option (List (List ℕ × Tree)))
-    → outcome_of_members forms count_copies (present_state OfEmail g) (λ ms. plan_for g blobs carried made moment o) o
-    ≡ outcome_of_members forms count_copies (present_state OfEmail g) (plan_in g blobs carried made moment) o
-same_outcome_for g blobs carried made moment None = refl
-same_outcome_for g blobs carried made moment (Some ms) = refl
-
 -- the plan of a call promises what plans do, with the blobs that it brings
-pub promised : (g : Ground) (blobs : List (List ℕ)) (args : Tree) (carried : Carried) (made : List Created) (moment : ℕ) (q : Plan) → place_outcome g blobs args carried made moment ≡ planned q
-    → Promised g blobs (place_blobs g.content blobs args carried made moment) moment q
+pub promised : (g : Ground) (blobs : List (List ℕ)) (args : Tree) (carried : Carried) (made : List Created) (moment : ℕ) (q : Plan) → place_outcome g blobs args carried made moment ≡ planned q → Promised g blobs moment q
 promised g blobs args carried made moment q e =
-    let o = as_object args in
-    plan_of_planned (Promised g blobs (blobs_by g.content blobs carried made moment o) moment) forms count_copies (present_state OfEmail g)
-    (λ ms. plan_for g blobs carried made moment o) (λ ms. promised_for g blobs carried made moment o) args q
-    (same_outcome_for g blobs carried made moment o ∙ e)
+    plan_of_planned (Promised g blobs moment) forms count_copies (present_state OfEmail g) (plan_in g blobs carried made moment)
+    (λ ms. promised_copies g blobs made moment (account_in ms) (from_account_in ms) (creates_in ms) (deliveries carried.emails carried.blobs)) args q e

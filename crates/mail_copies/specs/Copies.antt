@@ -5,18 +5,15 @@ use Rattle.std.specs.Option.{option_or}
 use Rattle.jm_base.specs.declared.identifiers.UtcDate.{UtcDate}
 use Rattle.jm_json.specs.Tree.{Tree}
 use Rattle.jm_json.specs.Find.{find}
-use Rattle.jm_json.specs.Order.{put}
 use Rattle.jm_json.specs.declared.invocation.Created.{Created}
 use Rattle.blob_store.specs.Blobs.{byte_count}
 use Rattle.blob_store.specs.declared.limits.TheConstants.{MAX_BLOB_BYTES_PER_ACCOUNT, MAX_BLOBS_PER_ACCOUNT}
 use Rattle.mail_records.specs.Contents.{Content, mailbox_number}
-use Rattle.mail_import.specs.Imports.{Progress, after_made, email_of, error_of}
-use Rattle.mail_records.specs.declared.records.Email.{Email}
+use Rattle.mail_import.specs.Imports.{Progress, after_check, after_rejected, email_of, error_of}
 use Rattle.mail_import.specs.Properties.{NamedBlob, Sent, received_in}
 use Rattle.method_args.specs.Arguments.{text_in}
 use Rattle.set_parts.specs.Arguments.{Create}
 use Rattle.set_parts.specs.Names.{keywords_in, mailboxes_in}
-use Rattle.set_parts.specs.SetErrors.{error_tree}
 use Rattle.set_parts.specs.declared.set_errors.SetError.{SetError}
 use Rattle.set_parts.specs.declared.set_errors.SetError.TheVariants.{NotFound, OverQuota}
 use Rattle.mail_copies.specs.Carried.{Delivery, carried_date, carried_keywords}
@@ -60,55 +57,27 @@ abbrev pub error_of_copy : ℕ → List (List ℕ) → Sent → ℕ → Option S
 error_of_copy emails blobs a size =
     option_or (error_of emails a) (if has_room size blobs then None else Some OverQuota)
 
--- ---- a copy after those before it
-
--- How far the copies of a call have come: as of imports, and the blobs that they brought.
-pub record Copying : Type 0 where
-  pub progress : Progress
-  pub brought : List (List ℕ)
+-- ---- a copy after those before it: copies come as far as imports do, and bring blobs
 
 -- the blob that a message becomes, after these blobs
 abbrev pub next_blob : List (List ℕ) → List ℕ → NamedBlob
 next_blob blobs bytes = record { number = length blobs + 1; bytes = bytes }
 
--- what is reported of a copy that is rejected
-abbrev pub with_error : Progress → List ℕ → SetError → Progress
-with_error s creation error =
-    record s { not_created = put creation (error_tree error) s.not_created }
-
--- after a copy that created an email, whose message brought these bytes
-abbrev pub with_created : Copying → List ℕ → Email → List ℕ → Copying
-with_created s creation e bytes = record {
-  progress = after_made s.progress creation e;
-  brought = s.brought ++ bytes ∷ [];
-}
-
--- after a copy that is rejected
-abbrev pub with_rejected : Copying → List ℕ → SetError → Copying
-with_rejected s creation error = record {
-  progress = with_error s.progress creation error;
-  brought = s.brought;
-}
-
--- after a copy that is rejected, or else creates this email of this message
-abbrev pub after_checked : Copying → List ℕ → Email → List ℕ → Option SetError → Copying
-after_checked s creation e bytes None = with_created s creation e bytes
-after_checked s creation e bytes (Some error) = with_rejected s creation error
-
--- after a copy of an original that was found, with these properties, whose message is this blob
-abbrev pub after_found : List (List ℕ) → ℕ → Copying → List ℕ → Sent → NamedBlob → Copying
+-- After a copy of an original that was found, with these properties, whose message is this blob: it
+-- is rejected, or its email is created and brings the message.
+abbrev pub after_found : List (List ℕ) → ℕ → Progress → List ℕ → Sent → NamedBlob → Progress
 after_found blobs moment s creation a message =
-    after_checked s creation (email_of s.progress moment a message) message.bytes
-    (error_of_copy (length s.progress.content.emails) (blobs ++ s.brought) a
+    after_check s creation (email_of s moment a message) (Some message.bytes)
+    (error_of_copy (length s.creating.content.emails) (blobs ++ s.creating.blobs) a
     (length message.bytes))
 
 -- After a copy into an account with these blobs, at this timestamp in Unix seconds.
-abbrev pub after_copy : List (List ℕ) → ℕ → Copying → Create → Option Delivery → Copying
-after_copy blobs moment s x None = with_rejected s x.creation NotFound
+abbrev pub after_copy : List (List ℕ) → ℕ → Progress → Create → Option Delivery → Progress
+after_copy blobs moment s x None = after_rejected s x.creation NotFound
 after_copy blobs moment s x (Some d) =
-    let message = next_blob (blobs ++ s.brought) d.bytes in
+    let message = next_blob (blobs ++ s.creating.blobs) d.bytes in
     after_found blobs moment s x.creation
-    (properties_in s.progress.content s.progress.made moment x.members d.item message) message
+    (properties_in s.creating.content s.creating.made moment x.members d.item message) message
 
 -- What is delivered for a create: nothing if its `id` is no string.
 abbrev pub delivery_for : Create → Option Delivery → Option Delivery
@@ -121,8 +90,8 @@ first_delivery (d ∷ ds) = d
 
 -- After copies, one after the other, for each of which this is delivered; nothing for those that
 -- have no delivery.
-abbrev pub after_copies : List (List ℕ) → ℕ → Copying → List Create → List (Option Delivery)
-    → Copying
+abbrev pub after_copies : List (List ℕ) → ℕ → Progress → List Create → List (Option Delivery)
+    → Progress
 after_copies blobs moment s [] ds = s
 after_copies blobs moment s (x ∷ xs) ds =
     after_copies blobs moment

@@ -1,10 +1,9 @@
 -- The response to an Email/copy, its edits and the blobs that it brings (RFC 8620, 5.4; RFC 8621,
 -- 4.7).
-use Rattle.std.specs.Prelude.{ℕ, List, [], ◌∷◌, Option, Some, None, codes}
+use Rattle.std.specs.Prelude.{ℕ, List, [], ◌∷◌, codes}
 use Rattle.jm_base.specs.Ids.{state_text}
 use Rattle.jm_base.specs.declared.identifiers.Kind.TheVariants.{Email as OfEmail}
 use Rattle.jm_json.specs.Tree.{Tree, text, object, fields_of}
-use Rattle.jm_json.specs.Find.{as_object}
 use Rattle.jm_json.specs.declared.invocation.Created.{Created}
 use Rattle.account_book.specs.declared.asks.Carried.{Carried}
 use Rattle.mail_records.specs.Contents.{Content}
@@ -17,7 +16,7 @@ use Rattle.set_parts.specs.Outcomes.{Outcome, Plan, outcome_by}
 use Rattle.set_parts.specs.Responses.{object_or_null}
 use Rattle.mail_copies.specs.Arguments.{count_copies, forms, from_account_in}
 use Rattle.mail_copies.specs.Carried.{deliveries}
-use Rattle.mail_copies.specs.Copies.{Copying, after_copies}
+use Rattle.mail_copies.specs.Copies.{after_copies}
 
 -- the arguments of the response: both accounts, the states before and after, what was created, and
 -- what was not
@@ -32,26 +31,23 @@ reply_members account from before after created not_created =
     ∷ (codes "oldState", text (state_text before))
     ∷ []
 
--- where the copies of a call begin
-abbrev pub first_copying : Content → List Created → Copying
-first_copying c made = record { progress = beginning c made; brought = [] }
-
 -- The copies of a call: its creates, in byte order of their creation ids, each with what is
 -- delivered for it.
 abbrev pub copying_in : Content → List (List ℕ) → Carried → List Created → ℕ
-    → List (List ℕ × Tree) → Copying
+    → List (List ℕ × Tree) → Progress
 copying_in c blobs carried made moment ms =
-    after_copies blobs moment (first_copying c made) (creates_in ms)
+    after_copies blobs moment (beginning c made) (creates_in ms)
     (deliveries carried.emails carried.blobs)
 
--- the plan of copies from an account
+-- The plan of copies from an account. The blobs are the messages of the emails that are created.
 abbrev pub plan_after : Ground → List ℕ → List ℕ → Progress → Plan
 plan_after g account from s = record {
   reply = object (fields_of
       (reply_members account from (present_state OfEmail g)
-      (state_after OfEmail g (all_edits g.content s)) s.created s.not_created));
+      (state_after OfEmail g (all_edits g.content s)) s.creating.created s.creating.not_created));
   edits = all_edits g.content s;
-  made = s.fresh;
+  made = s.creating.fresh;
+  blobs = s.creating.blobs;
 }
 
 -- the plan of copies that are not rejected as a whole
@@ -59,7 +55,7 @@ abbrev pub plan_in : Ground → List (List ℕ) → Carried → List Created →
     → List (List ℕ × Tree) → Plan
 plan_in g blobs carried made moment ms =
     plan_after g (account_in ms) (from_account_in ms)
-    (copying_in g.content blobs carried made moment ms).progress
+    (copying_in g.content blobs carried made moment ms)
 
 -- The outcome of an Email/copy with these arguments and what is carried, in the account to which
 -- emails are copied: with these blobs, with what the request has created up to here, at a timestamp
@@ -73,15 +69,3 @@ place_outcome g blobs args carried made moment =
 abbrev pub place_in : History → Tree → Carried → List Created → ℕ → Outcome
 place_in h args carried made moment =
     place_outcome (ground_of_history h) (blobs_of h) args carried made moment
-
--- The blobs that the plan brings: the message of each email that is created, in order.
-abbrev pub blobs_by : Content → List (List ℕ) → Carried → List Created → ℕ
-    → Option (List (List ℕ × Tree)) → List (List ℕ)
-blobs_by c blobs carried made moment None = []
-blobs_by c blobs carried made moment (Some ms) =
-    (copying_in c blobs carried made moment ms).brought
-
-abbrev pub place_blobs : Content → List (List ℕ) → Tree → Carried → List Created → ℕ
-    → List (List ℕ)
-place_blobs c blobs args carried made moment =
-    blobs_by c blobs carried made moment (as_object args)

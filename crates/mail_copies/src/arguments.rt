@@ -1,14 +1,14 @@
 // The arguments of an Email/copy (RFC 8620, section 5.4; RFC 8621, section 4.7).
 ghost use Rattle.std.specs.Prelude.{◌≡◌, MatchResult, None, codes, option_map};
 ghost use Rattle.method_args.specs.Arguments.{find_invalid};
-ghost use Rattle.set_parts.specs.Outcomes.{ExplainsRejection, rejected, rejected_for};
+ghost use Rattle.set_parts.specs.Outcomes.{ExplainsRejection, rejected};
 ghost use Rattle.mail_copies.specs.Arguments.{forms, from_account_in, rejected_unless};
 
-use jm_base::{NoMemory, Text};
+use jm_base::Text;
 use jm_json::Members;
 use mail_counts::SetFault;
-use method_args::{Argument, MAX_OBJECTS_PER_CALL, Presence, Shape, find_invalid, read_text};
-use set_parts::is_other_state;
+use method_args::{Argument, Presence, Shape, find_invalid, read_text};
+use set_parts::check_state;
 use std::alloc::Global;
 
 // Returns the name of the first argument in byte order that does not have its form.
@@ -57,26 +57,6 @@ fn find_invalid_argument(members: &Members) -> Option<&'static str>
     )
 }
 
-fn check_state(
-    alloc: Global,
-    copies: usize,
-    state: u64,
-    wanted: Option<&Text>,
-) -> Result<(), SetFault>
-    ensures { MatchResult result
-        (λ _. rejected_for copies state (option_map (λ t. t.now) wanted.entry) ≡ None)
-        (λ e. ExplainsRejection e
-        (rejected_for copies state (option_map (λ t. t.now) wanted.entry))) }
-{
-    if copies > MAX_OBJECTS_PER_CALL {
-        return Err(SetFault::TooLarge);
-    }
-    if is_other_state(alloc, state, wanted)? {
-        return Err(SetFault::StateMismatch);
-    }
-    Ok(())
-}
-
 // Returns Ok if a call of so many copies with these arguments is not rejected as a whole, where
 // the argument of this name asks for a state.
 fn check_unless(
@@ -101,6 +81,8 @@ fn check_unless(
 /// name of the first argument that does not have its form, with `TooLarge` if there are more than
 /// [`MAX_OBJECTS_PER_CALL`] copies, and with `StateMismatch` if `ifInState` is another state; the
 /// first fault in this order is returned.
+///
+/// [`MAX_OBJECTS_PER_CALL`]: method_args::MAX_OBJECTS_PER_CALL
 pub fn check_place(
     alloc: Global,
     members: &Members,

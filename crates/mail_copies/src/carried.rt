@@ -79,7 +79,7 @@ pub fn collect_deliveries<'a>(
 }
 
 /// Returns what is delivered at an index.
-pub fn delivery_at<'a>(deliveries: &[Option<Delivery<'a>>], index: usize) -> Option<Delivery<'a>>
+pub fn pick_delivery<'a>(deliveries: &[Option<Delivery<'a>>], index: usize) -> Option<Delivery<'a>>
     ensures { option_map delivery_of result
         ≡ first_delivery (drop index (map (λ d. option_map delivery_of d) deliveries.now)) }
 {

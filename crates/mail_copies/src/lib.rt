@@ -8,7 +8,6 @@
 mod arguments;
 mod carried;
 mod copy;
-mod created;
 mod dates;
 mod errors;
 mod place;
@@ -17,6 +16,6 @@ mod properties;
 mod response;
 
 pub use arguments::{check_fetch, read_from_account};
-pub use carried::{Delivery, collect_deliveries, delivery_at};
+pub use carried::{Delivery, collect_deliveries, pick_delivery};
 pub use errors::has_room;
-pub use place::{PlacePlan, place_emails, plan_place};
+pub use place::{place_emails, plan_place};

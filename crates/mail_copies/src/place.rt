@@ -19,121 +19,69 @@ ghost use Rattle.set_parts.specs.Responses.{HasNewState};
 ghost use Rattle.set_parts.specs.Views.{create_of};
 ghost use Rattle.state_log.specs.Logs.{log_end};
 ghost use Rattle.mail_copies.specs.Arguments.{count_copies, forms};
-ghost use Rattle.mail_copies.specs.Copies.{Copying, after_copies};
-ghost use Rattle.mail_copies.specs.Plans.{blobs_by, first_copying, place_blobs, place_in, place_outcome, plan_after, plan_in};
-ghost use Rattle.mail_copies.specs.Views.{Follows, delivery_of, put_new};
+ghost use Rattle.mail_copies.specs.Copies.{after_copies};
+ghost use Rattle.mail_copies.specs.Plans.{place_in, place_outcome, plan_after, plan_in};
+ghost use Rattle.mail_import.specs.Imports.{Progress};
+ghost use Rattle.mail_import.specs.Plans.{beginning};
+ghost use Rattle.mail_import.specs.Views.{Follows};
+ghost use Rattle.mail_copies.specs.Views.{delivery_of};
 
 use crate::arguments::{check_place, read_from_account};
 use crate::carried::{Delivery, collect_deliveries};
 use crate::copy::perform_copies;
-use crate::planner::{Planner, Setting, start_planner};
+use crate::planner::{Copier, start_copier};
 use crate::response::{Accounts, build_response};
 use account_book::{Account, Carried};
 use blob_store::BlobList;
-use jm_base::{Blobs, Kind, NoMemory, Text};
+use jm_base::{Kind, NoMemory, Text};
 use jm_json::{Created, Json, Made, Members};
 use mail_counts::{SetFault, SetPlan, derived};
-use mail_records::{Content, Edit, Edits, Email};
-use set_parts::{SentCreate, find_new_state, read_account_id, read_creates};
+use mail_import::{Planner, Setting};
+use mail_records::Content;
+use set_parts::{Creates, SentCreate, find_new_state, read_account_id, read_creates};
 use state_log::Log;
 use std::alloc::Global;
-use std::collections::VecDeque;
 
-/// The plan of the account to which emails are copied: that of its response and its edits, and the
-/// blobs that it brings.
-#[derive(Drop)]
-pub struct PlacePlan {
-    pub set: SetPlan,
-    pub blobs: Blobs,
-}
-
-// Returns the edits that create these emails.
-fn put_emails(alloc: Global, emails: Vec<Email>) -> Result<Vec<Edit>, NoMemory>
-    ensures { IfOk result (λ v. v.items ≡ map put_new emails.items) }
-{
-    let mut edits = Vec::with_capacity(alloc, emails.len())?;
-    let mut rest = VecDeque::from_vec(emails);
-    while let Some(item) = rest.pop_front() {
-        edits.push(Edit::PutEmail { item, was: false })?;
-    }
-    Ok(edits)
-}
-
-// What is left of a planner once its emails are edits.
-#[derive(Drop)]
-struct Finished {
-    edits: Vec<Edit>,
-    blobs: Blobs,
-    fresh: Vec<Created>,
-    created: Members,
-    not_created: Members,
-}
-
-fn finish_copies<'a>(alloc: Global, planner: Planner<'a>) -> Result<Finished, NoMemory>
-    ensures edits { IfOk result (λ f. f.edits.items ≡ map put_new planner.entry.emails.items) }
-    ensures blobs { IfOk result (λ f. f.blobs ≡ planner.entry.blobs.items) }
-    ensures fresh { IfOk result (λ f. f.fresh ≡ planner.entry.fresh) }
-    ensures created { IfOk result (λ f. f.created ≡ planner.entry.created) }
-    ensures not_created { IfOk result (λ f. f.not_created ≡ planner.entry.not_created) }
-{
-    let Planner {
-        next_email: _,
-        next_thread: _,
-        emails,
-        blobs,
-        blob_bytes: _,
-        ids,
-        fresh,
-        created,
-        not_created,
-    } = planner;
-    drop(ids);
-    Ok(Finished {
-        edits: put_emails(alloc, emails)?,
-        blobs: Blobs::from_vec(blobs),
-        fresh,
-        created,
-        not_created,
-    })
-}
-
-// Returns the plan that a planner has come to, over an account with this content and log.
+// Returns the plan that copies have come to, over an account with this content and log.
 fn finish_plan<'a>(
     alloc: Global,
     accounts: Accounts,
     content: &Content,
     log: &Log,
     planner: Planner<'a>,
-) -> Result<PlacePlan, NoMemory>
+) -> Result<SetPlan, NoMemory>
     requires last { log_end log.now ≤ max_position }
-    ensures set { IfOk result
-        (λ p. (s : Copying) → Follows content.now.content planner.entry s → plan_of p.set
+    ensures { IfOk result
+        (λ p. (s : Progress) → Follows content.now.content planner.entry s → plan_of p
         ≡ plan_after (ground_of content.now.content log.now) accounts.entry.to.now
-        accounts.entry.from.now s.progress) }
-    ensures blobs { IfOk result
-        (λ p. (s : Copying) → Follows content.now.content planner.entry s
-        → p.blobs ≡ s.brought) }
+        accounts.entry.from.now s) }
 {
-    let finished = finish_copies(alloc, planner)?;
-    let more = derived(alloc, content, finished.edits.as_slice())?;
-    let Finished {
-        edits,
-        blobs,
+    let Planner {
+        next_email: _,
+        next_thread: _,
+        new_emails,
+        creates,
+    } = planner;
+    drop(new_emails);
+    let Creates {
+        ids: _ids,
         fresh,
+        mut edits,
+        blobs,
         created,
         not_created,
-    } = finished;
-    let mut edits = Edits::from_vec(edits);
+    } = creates;
+    let more = derived(alloc, content, edits.as_slice())?;
     edits.append(more)?;
     let before = log.state_of(Kind::Email);
     let after = find_new_state(log, Kind::Email, edits.as_slice());
     let reply = build_response(alloc, accounts, before, after, created, not_created)?;
-    let set = SetPlan {
+    Ok(SetPlan {
         reply,
         edits,
-        made: Made::from_vec(fresh),
-    };
-    Ok(PlacePlan { set, blobs })
+        made: fresh,
+        blobs,
+    })
 }
 
 // Returns the planner after all copies.
@@ -153,11 +101,15 @@ fn perform_all<'a>(
     ensures { IfOk result
         (λ p. Follows setting.now.content.now.content p
         (after_copies setting.now.blobs.now.blobs setting.now.moment
-        (first_copying setting.now.content.now.content made.now)
+        (beginning setting.now.content.now.content made.now)
         (map create_of creates.now) (map (λ d. option_map delivery_of d) deliveries.now))) }
 {
-    let mut planner = start_planner(alloc, setting.content, made)?;
-    perform_copies(alloc, setting, &mut planner, creates, deliveries)?;
+    let mut copier = start_copier(alloc, setting.content, made)?;
+    perform_copies(alloc, setting, &mut copier, creates, deliveries)?;
+    let Copier {
+        planner,
+        blob_bytes: _,
+    } = copier;
     Ok(planner)
 }
 
@@ -169,25 +121,22 @@ fn plan_members<'a>(
     members: &'a Members,
     carried: &'a Carried,
     made: &'a Made,
-) -> Result<PlacePlan, SetFault>
+) -> Result<SetPlan, SetFault>
     requires numbered { AreNumbered setting.now.content.now.content }
     requires email { setting.now.content.now.content.next_email ≤ max_position }
     requires thread { setting.now.content.now.content.next_thread ≤ max_position }
     requires last { log_end log.now ≤ max_position }
     requires moment { setting.now.moment < 2 ^ 63 }
-    ensures outcome { MatchResult result
+    ensures { MatchResult result
         (λ p. outcome_of_members forms count_copies
         (present_state Kind.Email (ground_of setting.now.content.now.content log.now))
         (plan_in (ground_of setting.now.content.now.content log.now) setting.now.blobs.now.blobs
-        carried.now made.now setting.now.moment) (Some members.now) ≡ planned (plan_of p.set))
+        carried.now made.now setting.now.moment) (Some members.now) ≡ planned (plan_of p))
         (λ e. ExplainsSet e
         (outcome_of_members forms count_copies
         (present_state Kind.Email (ground_of setting.now.content.now.content log.now))
         (plan_in (ground_of setting.now.content.now.content log.now) setting.now.blobs.now.blobs
         carried.now made.now setting.now.moment) (Some members.now))) }
-    ensures blobs { IfOk result (λ p. p.blobs
-        ≡ blobs_by setting.now.content.now.content setting.now.blobs.now.blobs carried.now made.now
-        setting.now.moment (Some members.now)) }
 {
     let creates = read_creates(alloc, members, "create")?;
     check_place(alloc, members, creates.len(), log.state_of(Kind::Email))?;
@@ -221,21 +170,18 @@ pub fn place_emails(
     carried: &Carried,
     made: &Made,
     moment: u64,
-) -> Result<PlacePlan, SetFault>
+) -> Result<SetPlan, SetFault>
     requires numbered { AreNumbered content.now.content }
     requires email { content.now.content.next_email ≤ max_position }
     requires thread { content.now.content.next_thread ≤ max_position }
     requires last { log_end log.now ≤ max_position }
     requires moment { moment ≤ last_moment }
-    ensures outcome { MatchResult result
+    ensures { MatchResult result
         (λ p. place_outcome (ground_of content.now.content log.now) blobs.now.blobs
-        (tree_of args.now) carried.now made.now moment ≡ planned (plan_of p.set))
+        (tree_of args.now) carried.now made.now moment ≡ planned (plan_of p))
         (λ e. ExplainsSet e
         (place_outcome (ground_of content.now.content log.now) blobs.now.blobs
         (tree_of args.now) carried.now made.now moment)) }
-    ensures blobs { IfOk result (λ p. p.blobs
-        ≡ place_blobs content.now.content blobs.now.blobs (tree_of args.now) carried.now made.now
-        moment) }
 {
     let setting = Setting {
         content,
@@ -255,17 +201,14 @@ fn plan_over(
     carried: &Carried,
     made: &Made,
     moment: u64,
-) -> Result<PlacePlan, SetFault>
+) -> Result<SetPlan, SetFault>
     requires bounded { IsBounded account.now.history }
     requires moment { moment ≤ last_moment }
     ensures outcome { MatchResult result
         (λ p. place_in account.now.history (tree_of args.now) carried.now made.now moment
-        ≡ planned (plan_of p.set))
+        ≡ planned (plan_of p))
         (λ e. ExplainsSet e
         (place_in account.now.history (tree_of args.now) carried.now made.now moment)) }
-    ensures blobs { IfOk result (λ p. p.blobs
-        ≡ place_blobs (content_of account.now.history) (blobs_of account.now.history)
-        (tree_of args.now) carried.now made.now moment) }
     ensures few { AreBlobsFew (blobs_of account.now.history) }
 {
     place_emails(
@@ -309,29 +252,26 @@ pub fn plan_place(
     carried: &Carried,
     made: &Made,
     moment: u64,
-) -> Result<PlacePlan, SetFault>
+) -> Result<SetPlan, SetFault>
     requires bounded { IsBounded account.now.history }
     requires moment { moment ≤ last_moment }
     ensures outcome { IfOk result
         (λ p. place_in account.now.history (tree_of args.now) carried.now made.now moment
-        ≡ planned (plan_of p.set)) }
-    ensures blobs { IfOk result (λ p. p.blobs
-        ≡ place_blobs (content_of account.now.history) (blobs_of account.now.history)
-        (tree_of args.now) carried.now made.now moment) }
+        ≡ planned (plan_of p)) }
     ensures fault { IfErr result
         (λ e. ExplainsSet e
         (place_in account.now.history (tree_of args.now) carried.now made.now moment)) }
     ensures promises { IfOk result
         (λ p. IsTidy (content_of account.now.history)
         → IsPlanned summary (blobs_of account.now.history ++ p.blobs)
-        (content_of account.now.history) p.set.edits) }
+        (content_of account.now.history) p.edits) }
     ensures few { IfOk result (λ p. AreBlobsFew (blobs_of account.now.history ++ p.blobs)) }
     ensures flags { IfOk result
         (λ p. AreTables (content_of account.now.history)
-        → AreCountsFlagsRight (content_of account.now.history) p.set.edits) }
+        → AreCountsFlagsRight (content_of account.now.history) p.edits) }
     ensures new_state { IfOk result
-        (λ p. HasNewState Kind.Email (ground_of_history account.now.history) (tree_of p.set.reply)
-        p.set.edits) }
+        (λ p. HasNewState Kind.Email (ground_of_history account.now.history) (tree_of p.reply)
+        p.edits) }
 {
     plan_over(alloc, account, args, carried, made, moment)
 }

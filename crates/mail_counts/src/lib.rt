@@ -28,7 +28,7 @@ pub use limits::{
 };
 pub use mailbox_counts::MailboxCounts;
 pub use plan::{SetFault, SetPlan};
-pub use state::state_after;
+pub use state::find_state_after;
 pub use tally::Tally;
 pub use thread_lists::ThreadLists;
-pub use view::{mailbox_rights, mailbox_view};
+pub use view::{build_mailbox_view, build_rights};

@@ -21,7 +21,7 @@ fn state_after_edit(kind: Kind, before: u64, position: u64, edit: &Edit) -> u64
 /// Returns the state of a kind of record after these edits, which follow the position `last`, at
 /// which the state of the kind is `before`: the position of the last edit of the kind, or `before`
 /// if no edit is of the kind (RFC 8620, section 5.1).
-pub fn state_after(kind: Kind, before: u64, last: u64, edits: &[Edit]) -> u64
+pub fn find_state_after(kind: Kind, before: u64, last: u64, edits: &[Edit]) -> u64
     requires room { last + length edits.now < 2 ^ 64 }
     ensures { (g : Ground) → present_state kind g ≡ before → present_end g ≡ last → result
         ≡ state_after kind g edits.now }

@@ -59,7 +59,7 @@ fn rights(alloc: Global, read_only: bool) -> Result<Members, NoMemory>
 }
 
 /// The rights of a user on each mailbox of an account, which is read-only for the user or not.
-pub fn mailbox_rights(alloc: Global, read_only: bool) -> Result<Json, NoMemory>
+pub fn build_rights(alloc: Global, read_only: bool) -> Result<Json, NoMemory>
     ensures { IfOk result (λ t. tree_of t ≡ rights_tree read_only) }
 {
     Ok(Json::Object(rights(alloc, read_only)?))
@@ -80,7 +80,7 @@ fn set_identity(
 {
     view.set(alloc, "id", identifier(alloc, mailbox.number)?)?;
     view.set(alloc, "isSubscribed", Json::Bool(mailbox.subscribed))?;
-    view.set(alloc, "myRights", mailbox_rights(alloc, read_only)?)?;
+    view.set(alloc, "myRights", build_rights(alloc, read_only)?)?;
     view.set(alloc, "name", Json::Text(mailbox.name.copy()?))
 }
 
@@ -112,7 +112,11 @@ fn set_counts(alloc: Global, view: &mut Members, mailbox: &Mailbox) -> Result<()
 
 /// The members of a mailbox's object, in byte order of their names, for a user to whom the account
 /// is read-only or not.
-pub fn mailbox_view(alloc: Global, mailbox: &Mailbox, read_only: bool) -> Result<Members, NoMemory>
+pub fn build_mailbox_view(
+    alloc: Global,
+    mailbox: &Mailbox,
+    read_only: bool,
+) -> Result<Members, NoMemory>
     ensures { IfOk result (λ ms. ms ≡ mailbox_members read_only mailbox.now) }
 {
     let mut view = Members::with_room(alloc, 11)?;

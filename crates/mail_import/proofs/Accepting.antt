@@ -104,11 +104,11 @@ pub record IsNewEmail (blobs : List (List ℕ)) (c : Content) (e : Email) : Type
   pub room : length c.emails < MAX_EMAILS_PER_ACCOUNT
 
 pub new_email : (blobs : List (List ℕ)) (moment : ℕ) (s : Progress) (ms : List (List ℕ × Tree)) → moment ≤ last_moment
-    → error_of (length s.content.emails) (sent_in blobs s.content s.made ms) ≡ None
-    → IsNewEmail blobs s.content (email_of s moment (sent_in blobs s.content s.made ms) (unwrap_or (sent_in blobs s.content s.made ms).blob no_blob))
+    → error_of (length s.creating.content.emails) (sent_in blobs s.creating.content s.creating.made ms) ≡ None
+    → IsNewEmail blobs s.creating.content (email_of s moment (sent_in blobs s.creating.content s.creating.made ms) (unwrap_or (sent_in blobs s.creating.content s.creating.made ms).blob no_blob))
 new_email blobs moment s ms le none =
-    let a : Sent = sent_in blobs s.content s.made ms in
-    let ok = accepted (length s.content.emails) a none in
+    let a : Sent = sent_in blobs s.creating.content s.creating.made ms in
+    let ok = accepted (length s.creating.content.emails) a none in
     let boxes = there a.mailboxes ok.mailboxes in
     let words = there a.keywords ok.keywords in
     let date = there a.received ok.received in
@@ -118,7 +118,7 @@ new_email blobs moment s ms le none =
     let words_are : unwrap_or a.keywords [] ≡ words.0 = unwrapped a.keywords words.0 [] words.1 in
     let date_is : unwrap_or a.received None ≡ date.0 = unwrapped a.received date.0 None date.1 in
     let blob_is : x ≡ blob.0 = unwrapped a.blob blob.0 no_blob blob.1 in
-    let boxes_good = mailboxes_good s.content s.made (find (codes "mailboxIds") ms) boxes.0 boxes.1 in
+    let boxes_good = mailboxes_good s.creating.content s.creating.made (find (codes "mailboxIds") ms) boxes.0 boxes.1 in
     let words_good = keywords_good (find (codes "keywords") ms) words.0 words.1 in
     let named : IsBlobOf blobs x = subst (IsBlobOf blobs) (sym blob_is) (blob_good blobs (find (codes "blobId") ms) blob.0 blob.1) in
     let dated : IsUtcDate (received_at moment (received x.bytes) (unwrap_or a.received None)) =
@@ -126,7 +126,7 @@ new_email blobs moment s ms le none =
     record {
       number = refl;
       tidy = record {
-        mailboxes = subst (AllByRecursion (IsThere s.content)) (sym boxes_are) boxes_good.there;
+        mailboxes = subst (AllByRecursion (IsThere s.creating.content)) (sym boxes_are) boxes_good.there;
         some_mailbox = subst (λ (ns : List ℕ). 1 ≤ length ns) (sym boxes_are) boxes_good.some;
         few_mailboxes = ok.few_mailboxes;
         mailboxes_rise = rw boxes_are boxes_good.rise;

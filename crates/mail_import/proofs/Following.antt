@@ -5,11 +5,11 @@ use Rattle.std.specs.Option.{option_or}
 use Rattle.std.proofs.lemmas.List.{drop_more}
 use Rattle.jm_json.specs.Tree.{Tree}
 use Rattle.jm_json.specs.Find.{find}
-use Rattle.jm_json.specs.Order.{put as put_member}
 use Rattle.jm_json.specs.declared.invocation.Created.{Created}
-use Rattle.mail_records.specs.Contents.{Content, AreNumbered, email_at, email_number, mailbox_number}
+use Rattle.mail_records.specs.Contents.{Content, AreNumbered, Held, email_at, email_number, mailbox_number}
 use Rattle.mail_records.specs.Edits.{Fits, after_edit}
 use Rattle.mail_records.specs.Tables.{put}
+use Rattle.mail_records.specs.declared.edits.Edit.{Edit}
 use Rattle.mail_records.specs.declared.edits.Edit.TheVariants.{PutEmail}
 use Rattle.mail_records.specs.declared.records.Email.{Email}
 use Rattle.mail_records.specs.declared.records.Mailbox.{Mailbox}
@@ -18,11 +18,14 @@ use Rattle.mail_records.proofs.Growth.{AreNumbered-after_edit, all_map}
 use Rattle.mail_counts.proofs.Growth.{put-last, lookup-above}
 use Rattle.set_parts.specs.Arguments.{Create}
 use Rattle.set_parts.specs.Names.{keywords_in, mailboxes_in}
-use Rattle.set_parts.specs.Views.{HoldIds, create_of}
+use Rattle.set_parts.specs.Creates.{Creating, after_create}
+use Rattle.set_parts.specs.CreatesViews.{KeepUp}
+use Rattle.set_parts.specs.Views.{create_of}
+use Rattle.set_parts.specs.declared.creates.CreateStep.TheVariants.{Rejected, Done}
 use Rattle.set_parts.specs.declared.arguments.SentCreate.{SentCreate}
 use Rattle.set_parts.specs.declared.set_errors.SetError.{SetError}
 use Rattle.thread_assign.specs.Threads.{joined_thread}
-use Rattle.mail_import.specs.Imports.{Progress, after_check, after_import, after_imports, after_made, created_tree, email_of, error_of, made_under, next_after, no_blob}
+use Rattle.mail_import.specs.Imports.{Progress, after_check, after_import, after_imports, after_made, after_rejected, email_of, error_of, new_record, next_after, no_blob}
 use Rattle.mail_import.specs.NewEmails.{thread_if_related}
 use Rattle.mail_import.specs.Properties.{Sent, blob_in, received_in, sent_in}
 use Rattle.mail_import.specs.Views.{Follows, HasNumbersFor}
@@ -69,38 +72,45 @@ entered c d e thread v is numbered number same links subject = record {
 
 -- ---- a planner that entered an email
 
-pub record Adds (c : Content) (p q : Planner) (creation : List ℕ) (e : Email) : Type 0 where
+pub record Adds (c : Content) (p q : Planner) (creation : List ℕ) (e : Email) (brought : Option (List ℕ)) : Type 0 where
   pub next_email : q.next_email ≡ p.next_email + 1
   pub next_thread : q.next_thread ≡ next_after (option_or (joined_thread c.emails e.summary) (joined_thread p.new_emails.content.emails e.summary)) p.next_thread
   pub threads : (u : Summary) → joined_thread q.new_emails.content.emails u ≡ option_or (joined_thread p.new_emails.content.emails u) (thread_if_related u e.thread e.summary)
-  pub ids : (made : List Created) → HoldIds p.ids made → HoldIds q.ids (made ++ made_under creation e ∷ [])
-  pub fresh : q.fresh.items ≡ p.fresh.items ++ made_under creation e ∷ []
-  pub edits : q.edits.items ≡ p.edits.items ++ PutEmail e false ∷ []
-  pub created : q.created ≡ put_member creation (created_tree e) p.created
-  pub not_created : q.not_created ≡ p.not_created
+  pub creates : (t : Creating) → KeepUp p.creates t → KeepUp q.creates (after_create creation t (Done (new_record e brought)))
 
-pub Follows-made : (c : Content) (p q : Planner) (s : Progress) (creation : List ℕ) (e : Email) → Adds c p q creation e → Follows c p s → e.number ≡ s.content.next_email → Follows c q (after_made s creation e)
-Follows-made c p q s creation e adds f is =
-    let more = ap length (emails-new s.content e f.numbered is) ∙ length-append s.content.emails (e ∷ []) in
-    let edits = ap length adds.edits ∙ length-append p.edits.items (PutEmail e false ∷ []) in
+pub Follows-made : (c : Content) (p q : Planner) (s : Progress) (creation : List ℕ) (e : Email) (brought : Option (List ℕ)) → Adds c p q creation e brought → Follows c p s → e.number ≡ s.creating.content.next_email
+    → Follows c q (after_made s creation e brought)
+Follows-made c p q s creation e brought adds f is =
+    let more = ap length (emails-new s.creating.content e f.numbered is) ∙ length-append s.creating.content.emails (e ∷ []) in
+    let kept : KeepUp q.creates (after_create creation s.creating (Done (new_record e brought))) = adds.creates s.creating f.creates in
+    let edits = ap length (kept.edits ∙ ap (λ (es : List Edit). es ++ PutEmail e false ∷ []) (sym f.creates.edits)) ∙ length-append p.creates.edits (PutEmail e false ∷ []) in
     let count = f.count in
     record {
       mailboxes = f.mailboxes;
       count = omega (arith, more, edits, count);
-      numbered = numbered-new s.content e f.numbered is;
+      numbered = numbered-new s.creating.content e f.numbered is;
       threads = λ u.
-          joined-new s.content e u f.numbered is
+          joined-new s.creating.content e u f.numbered is
           ∙ (ap (λ o. option_or o (thread_if_related u e.thread e.summary)) (f.threads u)
           ∙ (or_assoc (joined_thread c.emails u) (joined_thread p.new_emails.content.emails u) (thread_if_related u e.thread e.summary)
           ∙ ap (λ o. option_or (joined_thread c.emails u) o) (sym (adds.threads u))));
       next_email = adds.next_email ∙ ap (λ n. n + 1) (f.next_email ∙ sym is);
       next_thread = adds.next_thread ∙ ap₂ (λ o n. next_after o n) (sym (f.threads e.summary)) f.next_thread;
-      ids = adds.ids s.made f.ids;
-      fresh = adds.fresh ∙ ap (λ xs. xs ++ made_under creation e ∷ []) f.fresh;
-      edits = adds.edits ∙ ap (λ xs. xs ++ PutEmail e false ∷ []) f.edits;
-      created = adds.created ∙ ap (put_member creation (created_tree e)) f.created;
-      not_created = adds.not_created ∙ f.not_created;
+      creates = kept;
     }
+
+-- a planner that entered one that is rejected
+pub Follows-rejected : (c : Content) (p q : Planner) (s : Progress) (creation : List ℕ) (error : SetError) → q.next_email ≡ p.next_email → q.next_thread ≡ p.next_thread → q.new_emails ≡ p.new_emails
+    → KeepUp q.creates (after_create creation s.creating (Rejected error)) → Follows c p s → Follows c q (after_rejected s creation error)
+Follows-rejected c p q s creation error email thread news kept f = record {
+  mailboxes = f.mailboxes;
+  count = f.count ∙ ap (λ (es : List Edit). length c.emails + length es) (f.creates.edits ∙ sym kept.edits);
+  numbered = f.numbered;
+  threads = λ u. f.threads u ∙ ap (λ (d : Held). option_or (joined_thread c.emails u) (joined_thread d.content.emails u)) (sym news);
+  next_email = email ∙ f.next_email;
+  next_thread = thread ∙ f.next_thread;
+  creates = kept;
+}
 
 pub numbers-fewer : (n : ℕ) (p : Planner) → HasNumbersFor (n + 1) p → HasNumbersFor n p
 numbers-fewer n p h = record { email = omega (arith, h.email); thread = omega (arith, h.thread); new_emails = h.new_emails; numbered = h.numbered }
@@ -129,13 +139,13 @@ sent_by blobs made ms rows = record {
 pub sent_same : (blobs : List (List ℕ)) (made : List Created) (ms : List (List ℕ × Tree)) (c d : Content) → c.mailboxes ≡ d.mailboxes → sent_in blobs c made ms ≡ sent_in blobs d made ms
 sent_same blobs made ms c d same = ap (sent_by blobs made ms) same
 
-pub import_step : (blobs : List (List ℕ)) (moment : ℕ) (s : Progress) (x : Create) (c : Content) (a : Sent) (n : ℕ) (o : Option SetError) → s.content.mailboxes ≡ c.mailboxes
-    → a ≡ sent_in blobs c s.made x.members → length s.content.emails ≡ n → error_of n a ≡ o
-    → after_import blobs moment s x ≡ after_check s x.creation (email_of s moment a (unwrap_or a.blob no_blob)) o
+pub import_step : (blobs : List (List ℕ)) (moment : ℕ) (s : Progress) (x : Create) (c : Content) (a : Sent) (n : ℕ) (o : Option SetError) → s.creating.content.mailboxes ≡ c.mailboxes
+    → a ≡ sent_in blobs c s.creating.made x.members → length s.creating.content.emails ≡ n → error_of n a ≡ o
+    → after_import blobs moment s x ≡ after_check s x.creation (email_of s moment a (unwrap_or a.blob no_blob)) None o
 import_step blobs moment s x c a n o mailboxes sent count error =
-    let is : sent_in blobs s.content s.made x.members ≡ a = sent_same blobs s.made x.members s.content c mailboxes ∙ sym sent in
-    ap (λ (b : Sent). after_check s x.creation (email_of s moment b (unwrap_or b.blob no_blob)) (error_of (length s.content.emails) b)) is
-    ∙ ap (after_check s x.creation (email_of s moment a (unwrap_or a.blob no_blob))) (ap (λ k. error_of k a) count ∙ error)
+    let is : sent_in blobs s.creating.content s.creating.made x.members ≡ a = sent_same blobs s.creating.made x.members s.creating.content c mailboxes ∙ sym sent in
+    ap (λ (b : Sent). after_check s x.creation (email_of s moment b (unwrap_or b.blob no_blob)) None (error_of (length s.creating.content.emails) b)) is
+    ∙ ap (after_check s x.creation (email_of s moment a (unwrap_or a.blob no_blob)) None) (ap (λ k. error_of k a) count ∙ error)
 
 pub imports_step : (blobs : List (List ℕ)) (moment : ℕ) (s : Progress) (ds : List SentCreate) (i : ℕ) (e : SentCreate) → i < length ds → e ≡ get_or ds i e
     → after_imports blobs moment s (map create_of (drop i ds)) ≡ after_imports blobs moment (after_import blobs moment s (create_of e)) (map create_of (drop (i + 1) ds))

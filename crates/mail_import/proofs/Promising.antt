@@ -1,5 +1,5 @@
 -- What the plan of an import promises.
-use Rattle.std.proofs.Common.{◌≡◌, ℕ, zero, suc, ◌<◌, ◌≤◌, Bool, true, false, ◌||◌, eqb, List, [], ◌∷◌, ◌++◌, length, nat_lt, Option, Some, None, is_some, unwrap_or, refl, sym, ap, ◌∙◌, subst, arith, true≢false, eqb-true, eq-eqb, length-append, ⊎_elim, ◌⊎◌, inl, inr}
+use Rattle.std.proofs.Common.{◌≡◌, ℕ, zero, suc, ◌<◌, ◌≤◌, Bool, true, false, ◌||◌, eqb, List, [], ◌∷◌, ◌++◌, length, nat_lt, Option, Some, None, is_some, unwrap_or, refl, sym, ap, ◌∙◌, subst, arith, true≢false, eqb-true, eq-eqb, length-append, append-nil, ⊎_elim, ◌⊎◌, inl, inr}
 use Rattle.std.specs.List.{AllByRecursion}
 use Rattle.std.proofs.lemmas.Option.{none-some}
 use Rattle.jm_base.specs.declared.identifiers.Kind.TheVariants.{Email as OfEmail}
@@ -163,14 +163,14 @@ known_more c a b t le known =
     (λ (r : (c.next_thread ≤ t) × (t < a)). inr (r.0, omega (arith, le, r.1))) known
 
 pub record Led (blobs : List (List ℕ)) (c : Content) (s : Progress) : Type 0 where
-  pub content : s.content ≡ after_edits c s.edits
-  pub imports : AllByRecursion (IsImport blobs) s.edits
-  pub fits : AllFit c s.edits
-  pub kept : AllKeepMessages c s.edits
-  pub tidy : IsTidyButThreadsAndCounts s.content
+  pub content : s.creating.content ≡ after_edits c s.creating.edits
+  pub imports : AllByRecursion (IsImport blobs) s.creating.edits
+  pub fits : AllFit c s.creating.edits
+  pub kept : AllKeepMessages c s.creating.edits
+  pub tidy : IsTidyButThreadsAndCounts s.creating.content
   pub low : c.next_thread ≤ s.next_thread
-  pub known : AllByRecursion (λ (e : Email). IsKnown c s.next_thread e.thread) s.content.emails
-  pub named : AreNamed c s.edits s.next_thread
+  pub known : AllByRecursion (λ (e : Email). IsKnown c s.next_thread e.thread) s.creating.content.emails
+  pub named : AreNamed c s.creating.edits s.next_thread
 
 -- the thread that is taken and the next one after it
 thread_taken : (c : Content) (o : Option ℕ) (next : ℕ) → c.next_thread ≤ next → ((t : ℕ) → o ≡ Some t → IsKnown c next t)
@@ -215,34 +215,34 @@ named_more c edits e o next is up taken named =
           (low_or n next));
     }
 
-led_made : (blobs : List (List ℕ)) (c : Content) (s : Progress) (creation : List ℕ) (e : Email) → Led blobs c s → IsNewEmail blobs s.content e → e.thread ≡ thread_for s e.summary → Led blobs c (after_made s creation e)
+led_made : (blobs : List (List ℕ)) (c : Content) (s : Progress) (creation : List ℕ) (e : Email) → Led blobs c s → IsNewEmail blobs s.creating.content e → e.thread ≡ thread_for s e.summary → Led blobs c (after_made s creation e None)
 led_made blobs c s creation e led new is =
-    let o : Option ℕ = joined_thread s.content.emails e.summary in
+    let o : Option ℕ = joined_thread s.creating.content.emails e.summary in
     let numbered = led.tidy.numbered in
-    let taken = thread_taken c o s.next_thread led.low (λ t joined. joined_known (IsKnown c s.next_thread) e.summary t s.content.emails led.known joined) in
-    let fit = Fits-new_email s.content e numbered new.number in
-    let none = not_there s.content e numbered new.number in
-    let keeps : KeepsMessage s.content (PutEmail e false) = λ (old : Email) there. absurd (none-some old (sym none ∙ there)) in
+    let taken = thread_taken c o s.next_thread led.low (λ t joined. joined_known (IsKnown c s.next_thread) e.summary t s.creating.content.emails led.known joined) in
+    let fit = Fits-new_email s.creating.content e numbered new.number in
+    let none = not_there s.creating.content e numbered new.number in
+    let keeps : KeepsMessage s.creating.content (PutEmail e false) = λ (old : Email) there. absurd (none-some old (sym none ∙ there)) in
     let up = taken.0 in
     let low = led.low in
     record {
-      content = ap (λ d. after_edit d (PutEmail e false)) led.content ∙ sym (after_edits-append s.edits (PutEmail e false ∷ []) c);
-      imports = all_push (IsImport blobs) s.edits (PutEmail e false) led.imports (new.delivered, new.filed);
-      fits = AllFit-append s.edits (PutEmail e false ∷ []) c led.fits (subst (λ d. AllFit d (PutEmail e false ∷ [])) led.content (fit, tt));
-      kept = kept_append s.edits (PutEmail e false ∷ []) c led.kept (subst (λ d. AllKeepMessages d (PutEmail e false ∷ [])) led.content (keeps, tt));
-      tidy = tidy_with_email blobs s.content e led.tidy new;
+      content = ap (λ d. after_edit d (PutEmail e false)) led.content ∙ sym (after_edits-append s.creating.edits (PutEmail e false ∷ []) c);
+      imports = all_push (IsImport blobs) s.creating.edits (PutEmail e false) led.imports (new.delivered, new.filed);
+      fits = AllFit-append s.creating.edits (PutEmail e false ∷ []) c led.fits (subst (λ d. AllFit d (PutEmail e false ∷ [])) led.content (fit, tt));
+      kept = kept_append s.creating.edits (PutEmail e false ∷ []) c led.kept (subst (λ d. AllKeepMessages d (PutEmail e false ∷ [])) led.content (keeps, tt));
+      tidy = tidy_with_email blobs s.creating.content e led.tidy new;
       low = omega (arith, up, low);
       known =
-          subst (AllByRecursion (λ (x : Email). IsKnown c (next_after o s.next_thread) x.thread)) (sym (emails-new s.content e numbered new.number))
-          (all_push (λ (x : Email). IsKnown c (next_after o s.next_thread) x.thread) s.content.emails e
-          (all_map (λ (x : Email). IsKnown c s.next_thread x.thread) (λ (x : Email). IsKnown c (next_after o s.next_thread) x.thread) s.content.emails
+          subst (AllByRecursion (λ (x : Email). IsKnown c (next_after o s.next_thread) x.thread)) (sym (emails-new s.creating.content e numbered new.number))
+          (all_push (λ (x : Email). IsKnown c (next_after o s.next_thread) x.thread) s.creating.content.emails e
+          (all_map (λ (x : Email). IsKnown c s.next_thread x.thread) (λ (x : Email). IsKnown c (next_after o s.next_thread) x.thread) s.creating.content.emails
           (λ (x : Email) k. known_more c s.next_thread (next_after o s.next_thread) x.thread up k) led.known)
           (subst (IsKnown c (next_after o s.next_thread)) (sym is) taken.1));
-      named = named_more c s.edits e o s.next_thread is up taken.1 led.named;
+      named = named_more c s.creating.edits e o s.next_thread is up taken.1 led.named;
     }
 
-led_check : (blobs : List (List ℕ)) (c : Content) (s : Progress) (creation : List ℕ) (e : Email) (o : Option SetError) → Led blobs c s → (o ≡ None → IsNewEmail blobs s.content e) → e.thread ≡ thread_for s e.summary
-    → Led blobs c (after_check s creation e o)
+led_check : (blobs : List (List ℕ)) (c : Content) (s : Progress) (creation : List ℕ) (e : Email) (o : Option SetError) → Led blobs c s → (o ≡ None → IsNewEmail blobs s.creating.content e) → e.thread ≡ thread_for s e.summary
+    → Led blobs c (after_check s creation e None o)
 led_check blobs c s creation e None led new is = led_made blobs c s creation e led (new refl) is
 led_check blobs c s creation e (Some r) led new is = record {
   content = led.content;
@@ -258,9 +258,9 @@ led_check blobs c s creation e (Some r) led new is = record {
 led_imports : (blobs : List (List ℕ)) (moment : ℕ) (c : Content) (xs : List Create) (s : Progress) → moment ≤ last_moment → Led blobs c s → Led blobs c (after_imports blobs moment s xs)
 led_imports blobs moment c [] s le led = led
 led_imports blobs moment c (x ∷ xs) s le led =
-    let a = sent_in blobs s.content s.made x.members in
+    let a = sent_in blobs s.creating.content s.creating.made x.members in
     led_imports blobs moment c xs (after_import blobs moment s x) le
-    (led_check blobs c s x.creation (email_of s moment a (unwrap_or a.blob no_blob)) (error_of (length s.content.emails) a) led
+    (led_check blobs c s x.creation (email_of s moment a (unwrap_or a.blob no_blob)) (error_of (length s.creating.content.emails) a) led
     (λ none. new_email blobs moment s x.members le none) refl)
 
 -- ---- where they begin
@@ -316,50 +316,63 @@ flags_of (DropThread number ∷ es) c all = absurd all.0
 
 -- ---- the plan
 
-promised_edits : (blobs : List (List ℕ)) (c : Content) (s : Progress) → IsTidy c → AllByRecursion puts_email s.edits → Led blobs c s → IsPlanned summary blobs c (all_edits c s)
+promised_edits : (blobs : List (List ℕ)) (c : Content) (s : Progress) → IsTidy c → AllByRecursion puts_email s.creating.edits → Led blobs c s → IsPlanned summary blobs c (all_edits c s)
 promised_edits blobs c s tidy puts led =
-    let more = derived_edits c s.edits in
-    let leave : LeaveTidyButThreadsAndCounts c s.edits = record {
+    let more = derived_edits c s.creating.edits in
+    let leave : LeaveTidyButThreadsAndCounts c s.creating.edits = record {
       fit = led.fits;
-      keep_threads = threads_kept s.edits c led.kept;
-      keep_counts = counts_kept blobs s.edits c led.imports;
-      leave_threads = all_map (IsImport blobs) LeavesThreads s.edits (leaves_threads blobs) led.imports;
-      new_threads = threads_next c s.edits s.next_thread (λ n le. no_thread c n tidy.numbered le) led.named;
+      keep_threads = threads_kept s.creating.edits c led.kept;
+      keep_counts = counts_kept blobs s.creating.edits c led.imports;
+      leave_threads = all_map (IsImport blobs) LeavesThreads s.creating.edits (leaves_threads blobs) led.imports;
+      new_threads = threads_next c s.creating.edits s.next_thread (λ n le. no_thread c n tidy.numbered le) led.named;
       after = subst IsTidyButThreadsAndCounts led.content led.tidy;
     } in
-    let made = made_tidy c s.edits tidy leave in
-    let leaves : AllByRecursion LeavesEmails more = derived_leaves c (after_edits c s.edits) (touched_threads s.edits) in
-    let flags : AreCountsFlagsRight (after_edits c s.edits) more =
-    derived_flags c (after_edits c s.edits) (touched_threads s.edits) (AreTables-after_edits s.edits c tidy.tables).mailboxes in
-    let rest : IsPlanned summary blobs (after_edits c s.edits) more =
-    planned_mailboxes summary blobs (after_edits c s.edits) more (fit_rest s.edits more c made.0) leaves (subst IsTidy (after_edits-append s.edits more c) made.1) flags in
+    let made = made_tidy c s.creating.edits tidy leave in
+    let leaves : AllByRecursion LeavesEmails more = derived_leaves c (after_edits c s.creating.edits) (touched_threads s.creating.edits) in
+    let flags : AreCountsFlagsRight (after_edits c s.creating.edits) more =
+    derived_flags c (after_edits c s.creating.edits) (touched_threads s.creating.edits) (AreTables-after_edits s.creating.edits c tidy.tables).mailboxes in
+    let rest : IsPlanned summary blobs (after_edits c s.creating.edits) more =
+    planned_mailboxes summary blobs (after_edits c s.creating.edits) more (fit_rest s.creating.edits more c made.0) leaves (subst IsTidy (after_edits-append s.creating.edits more c) made.1) flags in
     record {
       fits = made.0;
-      kept = kept_append s.edits more c led.kept rest.kept;
-      delivered = all_append (PutsNewEmail (IsDelivered summary blobs)) s.edits more (all_map (IsImport blobs) (PutsNewEmail (IsDelivered summary blobs)) s.edits (delivered blobs) led.imports) rest.delivered;
-      filed = all_append (PutsEmail IsFiled) s.edits more (all_map (IsImport blobs) (PutsEmail IsFiled) s.edits (filed blobs) led.imports) rest.filed;
+      kept = kept_append s.creating.edits more c led.kept rest.kept;
+      delivered = all_append (PutsNewEmail (IsDelivered summary blobs)) s.creating.edits more (all_map (IsImport blobs) (PutsNewEmail (IsDelivered summary blobs)) s.creating.edits (delivered blobs) led.imports) rest.delivered;
+      filed = all_append (PutsEmail IsFiled) s.creating.edits more (all_map (IsImport blobs) (PutsEmail IsFiled) s.creating.edits (filed blobs) led.imports) rest.filed;
       tidy = made.1;
-      flags = flags_append s.edits more c (flags_of s.edits c puts) flags;
+      flags = flags_append s.creating.edits more c (flags_of s.creating.edits c puts) flags;
     }
   where
     fit_rest : (es more : List Edit) (d : Content) → AllFit d (es ++ more) → AllFit (after_edits d es) more
     fit_rest [] more d fit = fit
     fit_rest (e ∷ es) more d fit = fit_rest es more (after_edit d e) fit.1
 
-puts_check : (s : Progress) (creation : List ℕ) (e : Email) (o : Option SetError) → AllByRecursion puts_email s.edits → AllByRecursion puts_email (after_check s creation e o).edits
-puts_check s creation e None all = all_push puts_email s.edits (PutEmail e false) all refl
+puts_check : (s : Progress) (creation : List ℕ) (e : Email) (o : Option SetError) → AllByRecursion puts_email s.creating.edits → AllByRecursion puts_email (after_check s creation e None o).creating.edits
+puts_check s creation e None all = all_push puts_email s.creating.edits (PutEmail e false) all refl
 puts_check s creation e (Some r) all = all
 
-puts_imports : (blobs : List (List ℕ)) (moment : ℕ) (xs : List Create) (s : Progress) → AllByRecursion puts_email s.edits → AllByRecursion puts_email (after_imports blobs moment s xs).edits
+puts_imports : (blobs : List (List ℕ)) (moment : ℕ) (xs : List Create) (s : Progress) → AllByRecursion puts_email s.creating.edits → AllByRecursion puts_email (after_imports blobs moment s xs).creating.edits
 puts_imports blobs moment [] s all = all
 puts_imports blobs moment (x ∷ xs) s all =
-    puts_imports blobs moment xs (after_import blobs moment s x) (puts_check s x.creation _ (error_of (length s.content.emails) (sent_in blobs s.content s.made x.members)) all)
+    puts_imports blobs moment xs (after_import blobs moment s x) (puts_check s x.creation _ (error_of (length s.creating.content.emails) (sent_in blobs s.creating.content s.creating.made x.members)) all)
+
+-- ---- imports bring no blobs
+
+none_check : (s : Progress) (creation : List ℕ) (e : Email) (o : Option SetError) → (after_check s creation e None o).creating.blobs ≡ s.creating.blobs
+none_check s creation e None = append-nil s.creating.blobs
+none_check s creation e (Some r) = refl
+
+none_imports : (blobs : List (List ℕ)) (moment : ℕ) (xs : List Create) (s : Progress) → (after_imports blobs moment s xs).creating.blobs ≡ s.creating.blobs
+none_imports blobs moment [] s = refl
+none_imports blobs moment (x ∷ xs) s =
+    none_imports blobs moment xs (after_import blobs moment s x)
+    ∙ none_check s x.creation _ (error_of (length s.creating.content.emails) (sent_in blobs s.creating.content s.creating.made x.members))
 
 -- what a plan is promised to be
-pub record Promised (g : Ground) (blobs : List (List ℕ)) (moment : ℕ) (p : Plan) : Type 0 where
-  pub planned : moment ≤ last_moment → IsTidy g.content → IsPlanned summary blobs g.content p.edits
+pub record Promised (g : Ground) (known : List (List ℕ)) (moment : ℕ) (p : Plan) : Type 0 where
+  pub planned : moment ≤ last_moment → IsTidy g.content → IsPlanned summary known g.content p.edits
   pub new_state : HasNewState OfEmail g p.reply p.edits
   pub flags : AreTables g.content → AreCountsFlagsRight g.content p.edits
+  pub none_brought : p.blobs ≡ []
 
 promised_imports : (g : Ground) (blobs : List (List ℕ)) (made : List Created) (moment : ℕ) (account : List ℕ) (xs : List Create) → Promised g blobs moment (plan_after g account (after_imports blobs moment (beginning g.content made) xs))
 promised_imports g blobs made moment account xs =
@@ -369,8 +382,9 @@ promised_imports g blobs made moment account xs =
       planned = λ le tidy. promised_edits blobs c s tidy (puts_imports blobs moment xs (beginning c made) tt) (led_imports blobs moment c xs (beginning c made) le (led_first blobs c made tidy));
       new_state = refl;
       flags = λ tables.
-          flags_append s.edits (derived_edits c s.edits) c (flags_of s.edits c (puts_imports blobs moment xs (beginning c made) tt))
-          (derived_flags c (after_edits c s.edits) (touched_threads s.edits) (AreTables-after_edits s.edits c tables).mailboxes);
+          flags_append s.creating.edits (derived_edits c s.creating.edits) c (flags_of s.creating.edits c (puts_imports blobs moment xs (beginning c made) tt))
+          (derived_flags c (after_edits c s.creating.edits) (touched_threads s.creating.edits) (AreTables-after_edits s.creating.edits c tables).mailboxes);
+      none_brought = none_imports blobs moment xs (beginning c made);
     }
 
 pub promised : (g : Ground) (blobs : List (List ℕ)) (args : Tree) (made : List Created) (moment : ℕ) (q : Plan) → import_outcome g blobs args made moment ≡ planned q → Promised g blobs moment q

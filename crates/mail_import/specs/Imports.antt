@@ -4,23 +4,20 @@ use Rattle.std.specs.Prelude.{ℕ, pos, ◌+◌, List, [], ◌∷◌, ◌++◌, 
 use Rattle.jm_base.specs.Ids.{id_text}
 use Rattle.jm_base.specs.declared.identifiers.UtcDate.{UtcDate}
 use Rattle.jm_base.specs.declared.identifiers.Kind.TheVariants.{Email as OfEmail, Thread as OfThread}
-use Rattle.jm_json.specs.Tree.{Tree, number, text, object, fields_of}
-use Rattle.jm_json.specs.Order.{put}
-use Rattle.jm_json.specs.declared.invocation.Created.{Created}
+use Rattle.jm_json.specs.Tree.{Tree, number, text}
 use Rattle.blob_ids.specs.BlobIds.{blob_id_text}
-use Rattle.mail_records.specs.Contents.{Content}
-use Rattle.mail_records.specs.Edits.{after_edit}
 use Rattle.mail_counts.specs.declared.limits.TheConstants.{MAX_EMAILS_PER_ACCOUNT, MAX_KEYWORDS_PER_EMAIL}
 use Rattle.mail_records.specs.declared.limits.TheConstants.{MAX_MAILBOXES_PER_EMAIL}
 use Rattle.mail_records.specs.declared.records.Email.{Email}
 use Rattle.mail_records.specs.declared.records.Summary.{Summary}
-use Rattle.mail_records.specs.declared.edits.Edit.{Edit}
 use Rattle.mail_records.specs.declared.edits.Edit.TheVariants.{PutEmail}
 use Rattle.mail_summary.specs.Received.{received}
 use Rattle.mail_summary.specs.Summaries.{summary}
 use Rattle.thread_assign.specs.Threads.{joined_thread}
 use Rattle.set_parts.specs.Arguments.{Create}
-use Rattle.set_parts.specs.SetErrors.{error_tree}
+use Rattle.set_parts.specs.Creates.{Creating, after_create}
+use Rattle.set_parts.specs.declared.creates.CreateStep.TheVariants.{Rejected, Done}
+use Rattle.set_parts.specs.declared.creates.NewRecord.{NewRecord}
 use Rattle.set_parts.specs.declared.set_errors.SetError.{SetError}
 use Rattle.set_parts.specs.declared.set_errors.SetError.TheVariants.{InvalidProperties, TooManyKeywords, TooManyMailboxes, OverQuota}
 use Rattle.mail_import.specs.Properties.{NamedBlob, Sent, date_of, sent_in}
@@ -76,22 +73,16 @@ received_at moment field None = unwrap_or field (date_of (pos moment))
 abbrev pub no_blob : NamedBlob
 no_blob = record { number = 0; bytes = [] }
 
--- How far the imports of a call have come: the content with the emails that they created, the next
--- number of a thread, what the request has created up to here and what this call has created of it,
--- the edits, and what is reported of each import that is done.
+-- How far the imports of a call have come: as any creates, and the next number of a thread. The
+-- edits of threads follow from those of emails.
 pub record Progress : Type 0 where
-  pub content : Content
+  pub creating : Creating
   pub next_thread : ℕ
-  pub made : List Created
-  pub fresh : List Created
-  pub edits : List Edit
-  pub created : List (List ℕ × Tree)
-  pub not_created : List (List ℕ × Tree)
 
 -- The thread of a new email with this summary: the one that it joins, also one that an email of the
 -- same call began, else the next one (RFC 8621, 3).
 abbrev pub thread_for : Progress → Summary → ℕ
-thread_for s summary = unwrap_or (joined_thread s.content.emails summary) s.next_thread
+thread_for s summary = unwrap_or (joined_thread s.creating.content.emails summary) s.next_thread
 
 -- the next number of a thread, after a new email that joins a thread or begins one
 abbrev pub next_after : Option ℕ → ℕ → ℕ
@@ -100,7 +91,7 @@ next_after joined next = if is_some joined then next else next + 1
 -- the email of a message that is imported with these properties
 abbrev pub email_of : Progress → ℕ → Sent → NamedBlob → Email
 email_of s moment a message = record {
-  number = s.content.next_email;
+  number = s.creating.content.next_email;
   thread = thread_for s (summary message.bytes);
   blob = message.number;
   mailboxes = unwrap_or a.mailboxes [];
@@ -119,43 +110,48 @@ abbrev pub thread_id : ℕ → List ℕ
 thread_id n = id_text (record { kind = OfThread; number = n })
 
 -- what is reported of a new email (RFC 8621, 4.8: created)
-abbrev pub created_tree : Email → Tree
-created_tree e =
-    object (fields_of
-    ((codes "blobId", text (blob_id_text (record { blob = e.blob; leaf = None })))
+abbrev pub created_members : Email → List (List ℕ × Tree)
+created_members e =
+    (codes "blobId", text (blob_id_text (record { blob = e.blob; leaf = None })))
     ∷ (codes "id", text (email_id e.number))
     ∷ (codes "size", number (pos e.size))
     ∷ (codes "threadId", text (thread_id e.thread))
-    ∷ []))
+    ∷ []
 
-abbrev pub made_under : List ℕ → Email → Created
-made_under creation e = record { creation = creation; id = email_id e.number }
+-- a new email as what its create makes; a copy brings its message too, as a blob
+abbrev pub new_record : Email → Option (List ℕ) → NewRecord
+new_record e brought = record {
+  id = email_id e.number;
+  members = created_members e;
+  edits = PutEmail e false ∷ [];
+  blob = brought;
+}
 
 -- ---- an import after those before it
 
--- after an import that created an email
-abbrev pub after_made : Progress → List ℕ → Email → Progress
-after_made s creation e = record s {
-  content = after_edit s.content (PutEmail e false);
-  next_thread = next_after (joined_thread s.content.emails e.summary) s.next_thread;
-  made = s.made ++ made_under creation e ∷ [];
-  fresh = s.fresh ++ made_under creation e ∷ [];
-  edits = s.edits ++ PutEmail e false ∷ [];
-  created = put creation (created_tree e) s.created;
+-- after an import that created an email, and brought a blob or none
+abbrev pub after_made : Progress → List ℕ → Email → Option (List ℕ) → Progress
+after_made s creation e brought = record {
+  creating = after_create creation s.creating (Done (new_record e brought));
+  next_thread = next_after (joined_thread s.creating.content.emails e.summary) s.next_thread;
 }
 
+-- after an import that is rejected
+abbrev pub after_rejected : Progress → List ℕ → SetError → Progress
+after_rejected s creation error =
+    record s { creating = after_create creation s.creating (Rejected error) }
+
 -- after an import that is rejected, or else creates this email
-abbrev pub after_check : Progress → List ℕ → Email → Option SetError → Progress
-after_check s creation e None = after_made s creation e
-after_check s creation e (Some error) =
-    record s { not_created = put creation (error_tree error) s.not_created }
+abbrev pub after_check : Progress → List ℕ → Email → Option (List ℕ) → Option SetError → Progress
+after_check s creation e brought None = after_made s creation e brought
+after_check s creation e brought (Some error) = after_rejected s creation error
 
 -- After an import into an account with these blobs, at this timestamp in Unix seconds.
 abbrev pub after_import : List (List ℕ) → ℕ → Progress → Create → Progress
 after_import blobs moment s x =
-    let a = sent_in blobs s.content s.made x.members in
-    after_check s x.creation (email_of s moment a (unwrap_or a.blob no_blob))
-    (error_of (length s.content.emails) a)
+    let a = sent_in blobs s.creating.content s.creating.made x.members in
+    after_check s x.creation (email_of s moment a (unwrap_or a.blob no_blob)) None
+    (error_of (length s.creating.content.emails) a)
 
 -- after imports, one after the other
 abbrev pub after_imports : List (List ℕ) → ℕ → Progress → List Create → Progress

@@ -10,6 +10,7 @@ use Rattle.mail_records.specs.declared.edits.Edit.{Edit}
 use Rattle.mail_counts.specs.DerivedEdits.{derived_edits}
 use Rattle.mail_counts.specs.Plans.{Ground, ground_of_history, present_state, state_after}
 use Rattle.set_parts.specs.Arguments.{account_in}
+use Rattle.set_parts.specs.Creates.{before_creates}
 use Rattle.set_parts.specs.Outcomes.{Outcome, Plan, outcome_by}
 use Rattle.set_parts.specs.Responses.{object_or_null}
 use Rattle.mail_import.specs.Arguments.{count_imports, forms, imports_in}
@@ -29,28 +30,21 @@ reply_members account before after created not_created =
 
 -- the edits of a call: of its emails, and those of threads and counts that follow from them
 abbrev pub all_edits : Content → Progress → List Edit
-all_edits c s = s.edits ++ derived_edits c s.edits
+all_edits c s = s.creating.edits ++ derived_edits c s.creating.edits
 
 -- where the imports of a call begin
 abbrev pub beginning : Content → List Created → Progress
-beginning c made = record {
-  content = c;
-  next_thread = c.next_thread;
-  made = made;
-  fresh = [];
-  edits = [];
-  created = [];
-  not_created = [];
-}
+beginning c made = record { creating = before_creates c made; next_thread = c.next_thread }
 
 -- the plan of imports
 abbrev pub plan_after : Ground → List ℕ → Progress → Plan
 plan_after g account s = record {
   reply = object (fields_of
       (reply_members account (present_state OfEmail g)
-      (state_after OfEmail g (all_edits g.content s)) s.created s.not_created));
+      (state_after OfEmail g (all_edits g.content s)) s.creating.created s.creating.not_created));
   edits = all_edits g.content s;
-  made = s.fresh;
+  made = s.creating.fresh;
+  blobs = s.creating.blobs;
 }
 
 -- The plan of imports that are not rejected as a whole.

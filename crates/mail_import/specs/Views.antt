@@ -5,7 +5,7 @@ use Rattle.jm_base.specs.declared.identifiers.TheConstants.{NUMBER_LIMIT}
 use Rattle.mail_records.specs.Contents.{AreNumbered, Content}
 use Rattle.mail_records.specs.declared.records.Summary.{Summary}
 use Rattle.thread_assign.specs.Threads.{joined_thread}
-use Rattle.set_parts.specs.Views.{HoldIds}
+use Rattle.set_parts.specs.CreatesViews.{KeepUp}
 use Rattle.mail_import.specs.Imports.{Progress}
 use Rattle.mail_import.specs.Properties.{NamedBlob, Sent}
 use Rattle.mail_import.specs.declared.planner.Planner.{Planner}
@@ -27,22 +27,18 @@ sent_of a = record {
 
 -- ---- what a planner keeps in step with the progress of an import
 
--- Over a content, the planner has the next numbers, what was made, and what is to be answered. The
+-- Over a content, the planner has the next numbers, and what the creates have come to. The
 -- mailboxes are those of the content. The emails are those of the content and of the edits, and a
 -- new email joins a thread of the former first.
 pub record Follows (c : Content) (p : Planner) (s : Progress) : Type 0 where
-  pub mailboxes : s.content.mailboxes ≡ c.mailboxes
-  pub count : length s.content.emails ≡ length c.emails + length p.edits.items
-  pub numbered : AreNumbered s.content
-  pub threads : (u : Summary) → joined_thread s.content.emails u
+  pub mailboxes : s.creating.content.mailboxes ≡ c.mailboxes
+  pub count : length s.creating.content.emails ≡ length c.emails + length p.creates.edits
+  pub numbered : AreNumbered s.creating.content
+  pub threads : (u : Summary) → joined_thread s.creating.content.emails u
       ≡ option_or (joined_thread c.emails u) (joined_thread p.new_emails.content.emails u)
-  pub next_email : p.next_email ≡ s.content.next_email
+  pub next_email : p.next_email ≡ s.creating.content.next_email
   pub next_thread : p.next_thread ≡ s.next_thread
-  pub ids : HoldIds p.ids s.made
-  pub fresh : p.fresh.items ≡ s.fresh
-  pub edits : p.edits.items ≡ s.edits
-  pub created : p.created ≡ s.created
-  pub not_created : p.not_created ≡ s.not_created
+  pub creates : KeepUp p.creates s.creating
 
 -- There are numbers for so many emails and threads more, also among the emails of the call.
 pub record HasNumbersFor (n : ℕ) (p : Planner) : Type 0 where

@@ -1,29 +1,24 @@
 // Performs imports (RFC 8621, section 4.8).
-ghost use Rattle.std.specs.Prelude.{◌≡◌, ◌+◌, ◌<◌, ◌^◌, ◌++◌, ◌∷◌, [], IfOk, List, OnOk, ℕ, length, map, option_map, unwrap_or};
+ghost use Rattle.std.specs.Prelude.{◌≡◌, ◌+◌, ◌<◌, ◌^◌, ◌++◌, IfOk, None, OnOk, ℕ, length, map, option_map, unwrap_or};
 ghost use Rattle.std.specs.Option.{option_or};
-ghost use Rattle.jm_json.specs.Order.{put};
-ghost use Rattle.jm_json.specs.declared.invocation.Created.{Created as TheCreated};
-ghost use Rattle.mail_records.specs.Contents.{AreNumbered, Content as TheContent};
-ghost use Rattle.mail_records.specs.declared.records.Summary.{Summary as TheSummary};
+ghost use Rattle.mail_records.specs.Contents.{Content as TheContent};
 ghost use Rattle.thread_assign.specs.Threads.{joined_thread};
-ghost use Rattle.set_parts.specs.SetErrors.{error_tree};
-ghost use Rattle.set_parts.specs.Views.{HoldIds, create_of};
-ghost use Rattle.mail_import.specs.NewEmails.{thread_if_related};
-ghost use Rattle.mail_import.specs.Imports.{Progress, after_import, after_imports, after_made, created_tree, email_of, made_under, next_after, no_blob, received_at, thread_for};
+ghost use Rattle.set_parts.specs.Creates.{blobs_brought};
+ghost use Rattle.set_parts.specs.Views.{create_of};
+ghost use Rattle.mail_import.specs.Imports.{Progress, after_import, after_imports, after_made, after_rejected, email_of, next_after, no_blob, received_at, thread_for};
 ghost use Rattle.mail_import.specs.Views.{Follows, HasNumbersFor, blob_of, sent_of};
 
 use crate::errors::find_error;
 use crate::new_emails::add_new_email;
 use crate::planner::{Planner, Setting};
 use crate::properties::{NamedBlob, Sent, read_sent};
-use crate::response::{build_created, build_created_object};
-use jm_base::{NoMemory, Numbers, Text, Texts, UtcDate};
-use jm_json::{Created, Members};
+use crate::response::build_record;
+use jm_base::{Bytes, NoMemory, Numbers, Text, Texts, UtcDate};
 use mail_records::{Content, Edit, Email, Summary};
 use mail_summary::read_summary_and_receipt;
-use set_parts::{CreatedIds, SentCreate, SetError, build_error, note_id, read_mailbox_number};
+use set_parts::{CreateStep, SentCreate, SetError, enter_create};
 use std::alloc::Global;
-use thread_assign::thread_in;
+use thread_assign::find_joined_thread;
 
 // Returns when an email was received: the date that is sent, else that of the newest Received
 // field, else the timestamp of the call.
@@ -46,9 +41,9 @@ fn find_thread(content: &Content, new_emails: &Content, summary: &Summary) -> Op
     ensures { result ≡ option_or (joined_thread content.now.content.emails summary.now)
         (joined_thread new_emails.now.content.emails summary.now) }
 {
-    match thread_in(content, summary) {
+    match find_joined_thread(content, summary) {
         Some(thread) => Some(thread),
-        None => thread_in(new_emails, summary),
+        None => find_joined_thread(new_emails, summary),
     }
 }
 
@@ -81,7 +76,7 @@ fn build_email<'a>(
         → e.item ≡ email_of s setting.now.moment (sent_of sent.entry) (blob_of blob.entry)) }
     ensures joined { IfOk result
         (λ e. (s : Progress) → Follows setting.now.content.now.content planner.now s
-        → e.joined ≡ joined_thread s.content.emails e.item.summary) }
+        → e.joined ≡ joined_thread s.creating.content.emails e.item.summary) }
     ensures size { IfOk result (λ e. e.item.size < 2 ^ 63) }
 {
     let Sent {
@@ -108,96 +103,89 @@ fn build_email<'a>(
     Ok(NewEmail { item, joined })
 }
 
-// Notes a new email under its creation id: what the id means, what was created and what is
-// reported of it, and its links.
-fn note_email<'a>(
-    alloc: Global,
-    ids: &mut CreatedIds<'a>,
-    fresh: &mut Vec<Created>,
-    new_emails: &mut Content,
-    created: &mut Members,
-    creation: &'a Text,
-    item: &Email,
-) -> Result<(), NoMemory>
-    requires numbered { AreNumbered new_emails.old.content }
-    requires next { new_emails.old.content.next_email + 1 < 2 ^ 64 }
-    requires size { item.now.size < 2 ^ 63 }
-    ensures ids { OnOk result ((made : List TheCreated) → HoldIds ids.old made
-        → HoldIds ids.new (made ++ made_under creation.now item.now ∷ [])) }
-    ensures fresh { OnOk result (fresh.new.items
-        ≡ fresh.old.items ++ made_under creation.now item.now ∷ []) }
-    ensures threads { OnOk result
-        ((u : TheSummary) → joined_thread new_emails.new.content.emails u
-        ≡ option_or (joined_thread new_emails.old.content.emails u)
-        (thread_if_related u item.now.thread item.now.summary)) }
-    ensures numbered { OnOk result (AreNumbered new_emails.new.content) }
-    ensures next { OnOk result
-        (new_emails.new.content.next_email ≡ new_emails.old.content.next_email + 1) }
-    ensures created { OnOk result (created.new
-        ≡ put creation.now (created_tree item.now) created.old) }
-{
-    let made = build_created(alloc, creation, item)?;
-    note_id(
-        ids,
-        creation.as_bytes(),
-        read_mailbox_number(made.id.as_bytes()),
-    )?;
-    fresh.push(made)?;
-    add_new_email(alloc, new_emails, item.thread, &item.summary)?;
-    let told = build_created_object(alloc, item)?;
-    created.put(creation.copy()?, told)?;
-    Ok(())
-}
-
-// Enters a new email under its creation id.
+// Enters a new email under its creation id, with the blob that it brings, if it brings one.
 fn enter_email<'a>(
     alloc: Global,
     planner: &mut Planner<'a>,
     creation: &'a Text,
     email: NewEmail,
+    brought: Option<Bytes>,
 ) -> Result<(), NoMemory>
     requires numbers { HasNumbersFor 1 planner.old }
     requires size { email.item.size < 2 ^ 63 }
     ensures follows { OnOk result
         ((c : TheContent) (s : Progress) → Follows c planner.old s
-        → email.item.number ≡ s.content.next_email
+        → email.item.number ≡ s.creating.content.next_email
         → email.item.thread ≡ thread_for s email.item.summary
-        → email.joined ≡ joined_thread s.content.emails email.item.summary
-        → Follows c planner.new (after_made s creation.now email.item)) }
+        → email.joined ≡ joined_thread s.creating.content.emails email.item.summary
+        → Follows c planner.new (after_made s creation.now email.item brought)) }
     ensures numbers { OnOk result
         ((n : ℕ) → HasNumbersFor (n + 1) planner.old → HasNumbersFor n planner.new) }
+    ensures blobs { OnOk result
+        (planner.new.creates.blobs ≡ planner.old.creates.blobs ++ blobs_brought brought) }
 {
     let NewEmail { item, joined } = email;
-    note_email(
+    add_new_email(alloc, &mut planner.new_emails, item.thread, &item.summary)?;
+    let made = build_record(alloc, item, brought)?;
+    enter_create(
         alloc,
-        &mut planner.ids,
-        &mut planner.fresh,
-        &mut planner.new_emails,
-        &mut planner.created,
+        &mut planner.creates,
         creation,
-        &item,
+        CreateStep::Done(made),
     )?;
-    planner.edits.push(Edit::PutEmail { item, was: false })?;
     planner.next_email = planner.next_email + 1;
     planner.next_thread = count_thread(joined, planner.next_thread);
     Ok(())
 }
 
-fn reject_import<'a>(
+/// Rejects an import or a copy, which changes nothing.
+pub fn reject_email<'a>(
     alloc: Global,
     planner: &mut Planner<'a>,
     creation: &'a Text,
     error: SetError,
 ) -> Result<(), NoMemory>
     ensures follows { OnOk result
-        ((c : TheContent) (s : Progress) → Follows c planner.old s → Follows c planner.new
-        (record s { not_created = put creation.now (error_tree error) s.not_created })) }
+        ((c : TheContent) (s : Progress) → Follows c planner.old s
+        → Follows c planner.new (after_rejected s creation.now error)) }
     ensures numbers { OnOk result
         ((n : ℕ) → HasNumbersFor (n + 1) planner.old → HasNumbersFor n planner.new) }
+    ensures blobs { OnOk result (planner.new.creates.blobs ≡ planner.old.creates.blobs) }
 {
-    let told = build_error(alloc, error)?;
-    planner.not_created.put(creation.copy()?, told)?;
+    enter_create(
+        alloc,
+        &mut planner.creates,
+        creation,
+        CreateStep::Rejected(error),
+    )?;
     Ok(())
+}
+
+/// Creates the email of a message with these properties, which are valid. `brought` is the message
+/// if it becomes a blob with the email.
+pub fn create_email<'a>(
+    alloc: Global,
+    setting: &Setting<'a>,
+    planner: &mut Planner<'a>,
+    creation: &'a Text,
+    sent: Sent<'a>,
+    message: NamedBlob<'a>,
+    brought: Option<Bytes>,
+) -> Result<(), NoMemory>
+    requires numbers { HasNumbersFor 1 planner.old }
+    requires moment { setting.now.moment < 2 ^ 63 }
+    ensures follows { OnOk result
+        ((s : Progress) → Follows setting.now.content.now.content planner.old s
+        → Follows setting.now.content.now.content planner.new
+        (after_made s creation.now
+        (email_of s setting.now.moment (sent_of sent.entry) (blob_of message.entry)) brought)) }
+    ensures numbers { OnOk result
+        ((n : ℕ) → HasNumbersFor (n + 1) planner.old → HasNumbersFor n planner.new) }
+    ensures blobs { OnOk result
+        (planner.new.creates.blobs ≡ planner.old.creates.blobs ++ blobs_brought brought) }
+{
+    let email = build_email(alloc, setting, planner, sent, message)?;
+    enter_email(alloc, planner, creation, email, brought)
 }
 
 fn blob_or_none<'a>(blob: Option<NamedBlob<'a>>) -> NamedBlob<'a>
@@ -227,17 +215,16 @@ fn import_email<'a>(
         → Follows setting.now.content.now.content planner.new
         (after_made s creation.now
         (email_of s setting.now.moment (sent_of sent.entry)
-        (unwrap_or (sent_of sent.entry).blob no_blob)))) }
+        (unwrap_or (sent_of sent.entry).blob no_blob)) None)) }
     ensures numbers { OnOk result
         ((n : ℕ) → HasNumbersFor (n + 1) planner.old → HasNumbersFor n planner.new) }
 {
-    let blob = blob_or_none(sent.blob);
-    let email = build_email(alloc, setting, planner, sent, blob)?;
-    enter_email(alloc, planner, creation, email)
+    let message = blob_or_none(sent.blob);
+    create_email(alloc, setting, planner, creation, sent, message, None)
 }
 
-// Returns how many emails there are with those of the edits, each of which creates one.
-fn count_emails(content: &Content, edits: &[Edit]) -> usize
+/// Returns how many emails there are with those of the edits, each of which creates one.
+pub fn count_emails(content: &Content, edits: &[Edit]) -> usize
     ensures { result ≡ length content.now.content.emails + length edits.now }
 {
     content.emails().len() + edits.len()
@@ -264,12 +251,12 @@ pub fn perform_import<'a>(
         alloc,
         setting.blobs,
         setting.content,
-        &planner.ids,
+        &planner.creates.ids,
         import.members,
     )?;
-    let emails = count_emails(setting.content, planner.edits.as_slice());
+    let emails = count_emails(setting.content, planner.creates.edits.as_slice());
     match find_error(alloc, emails, &sent)? {
-        Some(error) => reject_import(alloc, planner, import.creation, error),
+        Some(error) => reject_email(alloc, planner, import.creation, error),
         None => import_email(alloc, setting, planner, import.creation, sent),
     }
 }

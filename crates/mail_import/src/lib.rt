@@ -11,5 +11,7 @@ mod properties;
 mod response;
 
 pub use errors::find_error;
+pub use import::{count_emails, create_email, reject_email};
 pub use plan::{import_emails, plan_import};
+pub use planner::{Planner, Setting, start_planner};
 pub use properties::{NamedBlob, Sent};

@@ -29,8 +29,8 @@ use blob_store::BlobList;
 use jm_base::{Kind, NoMemory, Text};
 use jm_json::{Created, Json, Made, Members};
 use mail_counts::{SetFault, SetPlan, derived};
-use mail_records::{Content, Edits};
-use set_parts::{SentCreate, find_new_state, read_account_id, read_creates};
+use mail_records::Content;
+use set_parts::{Creates, SentCreate, find_new_state, read_account_id, read_creates};
 use state_log::Log;
 use std::alloc::Global;
 
@@ -47,20 +47,22 @@ fn finish_plan<'a>(
         (λ p. (s : Progress) → Follows content.now.content planner.entry s → plan_of p
         ≡ plan_after (ground_of content.now.content log.now) account.now s) }
 {
-    let more = derived(alloc, content, planner.edits.as_slice())?;
     let Planner {
         next_email: _,
         next_thread: _,
         new_emails,
-        ids,
-        fresh,
-        edits,
-        created,
-        not_created,
+        creates,
     } = planner;
     drop(new_emails);
-    drop(ids);
-    let mut edits = Edits::from_vec(edits);
+    let Creates {
+        ids: _ids,
+        fresh,
+        mut edits,
+        blobs,
+        created,
+        not_created,
+    } = creates;
+    let more = derived(alloc, content, edits.as_slice())?;
     edits.append(more)?;
     let before = log.state_of(Kind::Email);
     let after = find_new_state(log, Kind::Email, edits.as_slice());
@@ -68,7 +70,8 @@ fn finish_plan<'a>(
     Ok(SetPlan {
         reply,
         edits,
-        made: Made::from_vec(fresh),
+        made: fresh,
+        blobs,
     })
 }
 

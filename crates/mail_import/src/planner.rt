@@ -7,13 +7,13 @@ ghost use Rattle.mail_import.specs.Views.{Follows, HasNumbersFor};
 
 use blob_store::BlobList;
 use jm_base::{Kind, NoMemory};
-use jm_json::{Created, Members};
-use mail_records::{Content, Edit};
-use set_parts::{CreatedIds, collect_ids};
+use jm_json::Created;
+use mail_records::Content;
+use set_parts::{Creates, start_creates};
 use std::alloc::Global;
 
-/// What imports are performed on: the content of the account before the call, its blobs, and the
-/// timestamp of the call in Unix seconds.
+/// What imports, or copies, are performed on: the content of the account before the call, its
+/// blobs, and the timestamp of the call in Unix seconds.
 #[derive(Clone, Copy)]
 pub struct Setting<'a> {
     pub content: &'a Content,
@@ -21,19 +21,14 @@ pub struct Setting<'a> {
     pub moment: u64,
 }
 
-/// How far the imports of a call have come: the next numbers of an email and of a thread, the
-/// emails that were created, by their links, and what creation ids mean; what was created, the
-/// edits, and what is reported of the imports that are done.
+/// How far the imports, or the copies, of a call have come: the next numbers of an email and of a
+/// thread, the emails that were created, by their links, and what the creates have come to.
 #[derive(Drop)]
 pub struct Planner<'a> {
     pub next_email: u64,
     pub next_thread: u64,
     pub new_emails: Content,
-    pub ids: CreatedIds<'a>,
-    pub fresh: Vec<Created>,
-    pub edits: Vec<Edit>,
-    pub created: Members,
-    pub not_created: Members,
+    pub creates: Creates<'a>,
 }
 
 /// Returns a planner before the first import.
@@ -49,15 +44,11 @@ pub fn start_planner<'a>(
         (λ p. (n : ℕ) → content.now.content.next_email + n < NUMBER_LIMIT
         → content.now.content.next_thread + n < NUMBER_LIMIT → HasNumbersFor n p) }
 {
-    let ids = collect_ids(alloc, made)?;
+    let creates = start_creates(alloc, made)?;
     Ok(Planner {
         next_email: content.next(Kind::Email),
         next_thread: content.next(Kind::Thread),
         new_emails: Content::new(alloc),
-        ids,
-        fresh: Vec::new(alloc),
-        edits: Vec::new(alloc),
-        created: Members::new(alloc),
-        not_created: Members::new(alloc),
+        creates,
     })
 }

@@ -2,14 +2,14 @@
 ghost use Rattle.std.specs.Prelude.{◌≡◌, ◌<◌, ◌^◌, IfOk};
 ghost use Rattle.jm_json.specs.Json.{tree_of};
 ghost use Rattle.jm_json.specs.Tree.{fields_of, object};
-ghost use Rattle.mail_import.specs.Imports.{created_tree, email_id, made_under, thread_id};
+ghost use Rattle.mail_import.specs.Imports.{created_members, email_id, new_record, thread_id};
 ghost use Rattle.mail_import.specs.Plans.{reply_members};
 
 use blob_ids::{BlobId, write_blob_id};
-use jm_base::{Id, Kind, NoMemory, Text, id_text, state_text};
-use jm_json::{Created, Json, Members};
-use mail_records::Email;
-use set_parts::wrap_object;
+use jm_base::{Bytes, Id, Kind, NoMemory, Text, id_text, state_text};
+use jm_json::{Json, Members};
+use mail_records::{Edit, Edits, Email};
+use set_parts::{NewRecord, wrap_object};
 use std::alloc::Global;
 
 /// Builds the arguments of the response: the account, the states before and after, what was
@@ -38,8 +38,7 @@ pub fn build_response(
     Ok(Json::Object(reply))
 }
 
-/// Builds the id of an email.
-pub fn build_email_id(alloc: Global, number: u64) -> Result<Text, NoMemory>
+fn build_email_id(alloc: Global, number: u64) -> Result<Text, NoMemory>
     ensures { IfOk result (λ t. t ≡ email_id number) }
 {
     let kind = Kind::Email;
@@ -53,10 +52,10 @@ fn build_thread_id(alloc: Global, number: u64) -> Result<Text, NoMemory>
     id_text(alloc, &Id { kind, number })
 }
 
-/// Builds what is reported of a new email.
-pub fn build_created_object(alloc: Global, email: &Email) -> Result<Json, NoMemory>
+// Builds what is reported of a new email.
+fn collect_created_members(alloc: Global, email: &Email) -> Result<Members, NoMemory>
     requires { email.now.size < 2 ^ 63 }
-    ensures { IfOk result (λ j. tree_of j ≡ created_tree email.now) }
+    ensures { IfOk result (λ ms. ms ≡ created_members email.now) }
 {
     let blob = email.blob;
     let blob_id = write_blob_id(alloc, BlobId { blob, leaf: None })?;
@@ -67,15 +66,26 @@ pub fn build_created_object(alloc: Global, email: &Email) -> Result<Json, NoMemo
     object.set(alloc, "id", Json::Text(id))?;
     object.set(alloc, "size", Json::Int(email.size as i64))?;
     object.set(alloc, "threadId", Json::Text(thread_id))?;
-    Ok(Json::Object(object))
+    Ok(object)
 }
 
-/// Builds the record of a created email for later references in the request.
-pub fn build_created(alloc: Global, creation: &Text, email: &Email) -> Result<Created, NoMemory>
-    ensures { IfOk result (λ x. x ≡ made_under creation.now email.now) }
+/// Builds what the create of an email makes, which brings a blob or none.
+pub fn build_record(
+    alloc: Global,
+    item: Email,
+    brought: Option<Bytes>,
+) -> Result<NewRecord, NoMemory>
+    requires { item.size < 2 ^ 63 }
+    ensures { IfOk result (λ x. x ≡ new_record item brought) }
 {
-    Ok(Created {
-        creation: creation.copy()?,
-        id: build_email_id(alloc, email.number)?,
+    let id = build_email_id(alloc, item.number)?;
+    let members = collect_created_members(alloc, &item)?;
+    let mut edits = Edits::new(alloc);
+    edits.push(Edit::PutEmail { item, was: false })?;
+    Ok(NewRecord {
+        id,
+        members,
+        edits,
+        blob: brought,
     })
 }

@@ -1,10 +1,8 @@
 -- A planner keeps in step with the course of a set.
-use Rattle.std.proofs.Common.{◌≡◌, ◌==◌, ℕ, map, length, Result, Ok, Err, OnOk, ◌+◌, ◌≤◌, Bool, true, false, ◌&&◌, ◌||◌, not, eqb, List, [], ◌∷◌, ◌++◌, Option, Some, None, is_some, refl, sym, ap, ap₂, ◌∙◌, arith, subst, ⊎_elim, bytes_eq}
+use Rattle.std.proofs.Common.{◌≡◌, ◌==◌, ℕ, map, length, Result, Ok, Err, OnOk, ◌+◌, ◌≤◌, Bool, true, false, ◌&&◌, ◌||◌, not, eqb, List, [], ◌∷◌, Option, Some, None, is_some, refl, sym, ap, ap₂, ◌∙◌, arith, subst, ⊎_elim, bytes_eq}
 use Rattle.std.specs.List.{list_any}
 use Rattle.std.proofs.lemmas.Bool.{cases_Bool, false≢true, eqb-true}
 use Rattle.jm_json.specs.Tree.{Tree}
-use Rattle.jm_json.specs.Order.{put as put_member}
-use Rattle.jm_json.specs.declared.invocation.Created.{Created}
 use Rattle.mail_records.specs.Contents.{Content, Held, mailbox_number, mailbox_at}
 use Rattle.mail_records.specs.Edits.{after_edit}
 use Rattle.mail_records.specs.declared.records.Mailbox.{Mailbox}
@@ -17,9 +15,12 @@ use Rattle.jm_json.specs.declared.tree.Member.{Member}
 use Rattle.mail_counts.specs.Views.{mailbox_members}
 use Rattle.mailbox_creates.specs.Properties.{SentProperties, sent_properties}
 use Rattle.mailbox_creates.specs.Views.{Follows, has_role, is_created, is_found, is_new, is_other}
-use Rattle.set_parts.specs.Views.{HoldIds, holds}
+use Rattle.set_parts.specs.Views.{holds}
 use Rattle.mailbox_creates.specs.declared.checks.Faults.{Faults}
-use Rattle.mailbox_creates.specs.Creates.{Progress, after_checks, after_create, after_made, bad_members, blank, created_tree, faults_of, made_under, mailbox_of, new_mailbox, refusal}
+use Rattle.set_parts.specs.Creates.{Creating, after_create as after_step}
+use Rattle.set_parts.specs.CreatesViews.{KeepUp}
+use Rattle.set_parts.specs.declared.creates.CreateStep.TheVariants.{Done}
+use Rattle.mailbox_creates.specs.Creates.{after_checks, after_create, after_made, after_rejected, bad_members, blank, faults_of, mailbox_of, new_mailbox, new_record}
 use Rattle.set_parts.specs.Arguments.{Create}
 use Rattle.mailbox_creates.specs.declared.planner.Planner.{Planner}
 use Rattle.mailbox_creates.proofs.NewNumbers.{created_with_new, new_next, none_new, other_twice, other_with_new}
@@ -56,16 +57,12 @@ pub record Adds (p q : Planner) (x : Create) (m : Mailbox) : Type 0 where
   pub next : q.next ≡ p.next + 1
   pub names : (g : Option ℕ) (t : List ℕ) → holds q.names.keys.keys g t ≡ (same_parent m.parent g && bytes_eq m.name t || holds p.names.keys.keys g t)
   pub roles : (t : List ℕ) → holds q.roles.keys.keys None t ≡ (same_role m.role (Some t) || holds p.roles.keys.keys None t)
-  pub ids : (made : List Created) → HoldIds p.ids made → HoldIds q.ids (made ++ made_under x.creation m ∷ [])
-  pub fresh : q.fresh.items ≡ p.fresh.items ++ made_under x.creation m ∷ []
-  pub edits : q.edits.items ≡ p.edits.items ++ new_mailbox m ∷ []
-  pub created : q.created ≡ put_member x.creation (created_tree x.members m) p.created
-  pub refused : q.refused ≡ p.refused
+  pub creates : (t : Creating) → KeepUp p.creates t → KeepUp q.creates (after_step x.creation t (Done (new_record x.members m)))
 
 ap_table : {c d : Held} → d ≡ c → IsTable mailbox_number c.content.mailboxes → IsTable mailbox_number d.content.mailboxes
 ap_table e table = subst (λ (h : Held). IsTable mailbox_number h.content.mailboxes) (sym e) table
 
-pub Follows-made : (p q : Planner) (s : Progress) (x : Create) (m : Mailbox) → Adds p q x m → Follows p s → Follows q (after_made s x m)
+pub Follows-made : (p q : Planner) (s : Creating) (x : Create) (m : Mailbox) → Adds p q x m → Follows p s → Follows q (after_made s x m)
 Follows-made p q s x m adds f =
     let rows = s.content.mailboxes in
     let more = put mailbox_number m rows in
@@ -97,26 +94,22 @@ Follows-made p q s x m adds f =
           ∙ (any_same _ _ (λ y. other_twice first p.next test y f.grown) p.content.now.content.mailboxes
           ∙ (ap₂ (λ k n. list_any (is_other k n test) p.content.now.content.mailboxes) same (sym adds.next)
           ∙ ap (λ (c : Held). list_any (is_other q.content.now.content.next_mailbox q.next test) c.content.mailboxes) (sym adds.content)))));
-      ids = adds.ids s.made f.ids;
-      fresh = adds.fresh ∙ ap (λ xs. xs ++ made_under x.creation m ∷ []) f.fresh;
-      edits = adds.edits ∙ ap (λ xs. xs ++ new_mailbox m ∷ []) f.edits;
-      created = adds.created ∙ ap (put_member x.creation (created_tree x.members m)) f.created;
-      refused = adds.refused ∙ f.refused;
+      creates = adds.creates s f.creates;
     }
 
 -- the checks of a create, made by what a planner has
-pub checks_made : (s : Progress) (x : Create) (a : SentProperties) (f : Faults) (given bad : List (List ℕ × Tree)) (next : ℕ) → a ≡ sent_properties s.content s.made x.members → f ≡ faults_of s.content a → next ≡ s.content.next_mailbox
+pub checks_made : (s : Creating) (x : Create) (a : SentProperties) (f : Faults) (given bad : List (List ℕ × Tree)) (next : ℕ) → a ≡ sent_properties s.content s.made x.members → f ≡ faults_of s.content a → next ≡ s.content.next_mailbox
     → given ≡ mailbox_members false (blank next) → bad ≡ bad_members f given x.members → after_create s x ≡ after_checks s x (mailbox_of s.content.next_mailbox a) bad
 checks_made s x a f given bad next ea ef en eg eb = rw (eb, eg, ef, en, ea) refl
 
-pub all_good : (s : Progress) (x : Create) (m : Mailbox) (ms : List Member) (bad : List (List ℕ × Tree)) → map member_of ms ≡ bad → (length ms == 0) ≡ true → after_checks s x m bad ≡ after_made s x m
+pub all_good : (s : Creating) (x : Create) (m : Mailbox) (ms : List Member) (bad : List (List ℕ × Tree)) → map member_of ms ≡ bad → (length ms == 0) ≡ true → after_checks s x m bad ≡ after_made s x m
 all_good s x m [] bad is none = ap (after_checks s x m) (sym is)
 all_good s x m (y ∷ ms) bad is none = absurd (omega (arith, eqb-true (length (y ∷ ms)) 0 none))
 
-pub some_bad : (s : Progress) (x : Create) (m : Mailbox) (ms : List Member) (bad : List (List ℕ × Tree)) → map member_of ms ≡ bad → (length ms == 0) ≡ false
-    → after_checks s x m bad ≡ record s { refused = put_member x.creation (refusal bad) s.refused }
+pub some_bad : (s : Creating) (x : Create) (m : Mailbox) (ms : List Member) (bad : List (List ℕ × Tree)) → map member_of ms ≡ bad → (length ms == 0) ≡ false
+    → after_checks s x m bad ≡ after_rejected s x bad
 some_bad s x m [] bad is none = absurd (false≢true (sym none))
-some_bad s x m (y ∷ ms) bad is none = ap (after_checks s x m) (sym is) ∙ ap (λ b. record s { refused = put_member x.creation (refusal b) s.refused }) is
+some_bad s x m (y ∷ ms) bad is none = ap (after_checks s x m) (sym is) ∙ ap (after_rejected s x) is
 
 pub on_ok : {T E : Type 0} (r : Result T E) (P Q : Type 0) → (P → Q) → OnOk r P → OnOk r Q
 on_ok (Ok v) P Q f h = f h

@@ -25,7 +25,8 @@ use Rattle.mail_counts.proofs.Growth.{Fits-new_mailbox, Tidy_with_new_mailbox}
 use Rattle.mailbox_creates.specs.Properties.{SentProperties, named, parent_in, role_in, sent_name, sent_parent, sent_properties, sort_order_in}
 use Rattle.set_parts.specs.CreationIds.{identifier}
 use Rattle.set_parts.specs.Names.{only_if}
-use Rattle.mailbox_creates.specs.Creates.{Progress, after_checks, after_create, after_made, bad_in, bad_members, blank, faults_of, is_bad, is_name_taken, is_role_taken, mailbox_of, new_mailbox, property, refusal, PutsNew}
+use Rattle.set_parts.specs.Creates.{Creating}
+use Rattle.mailbox_creates.specs.Creates.{after_checks, after_create, after_made, bad_in, bad_members, blank, faults_of, is_bad, is_name_taken, is_role_taken, mailbox_of, new_mailbox, property, after_rejected, PutsNew}
 use Rattle.set_parts.specs.Arguments.{Create}
 use Rattle.mailbox_creates.specs.Rounds.{after_creates, after_each, after_round, in_rounds, stands, taken_out}
 use Rattle.mail_counts.specs.CountsFlag.{AreCountsFlagsRight, ChangesOnlyCounts, IsCountsFlagRight}
@@ -222,25 +223,25 @@ IsNewMailbox-from_good c made ms none =
 -- ---- creates in rounds
 
 -- what each create keeps, all keep
-pub by_checks : (P : Progress → Type 0) (s : Progress) (x : Create) (m : Mailbox) (bad : Pairs) → (bad ≡ [] → P (after_made s x m)) → ((r : Pairs) → P (record s { refused = r })) → P (after_checks s x m bad)
+pub by_checks : (P : Creating → Type 0) (s : Creating) (x : Create) (m : Mailbox) (bad : Pairs) → (bad ≡ [] → P (after_made s x m)) → ((r : Pairs) → P (record s { not_created = r })) → P (after_checks s x m bad)
 by_checks P s x m [] made other = made refl
-by_checks P s x m (b ∷ bs) made other = other (put x.creation (refusal (b ∷ bs)) s.refused)
+by_checks P s x m (b ∷ bs) made other = other (after_rejected s x (b ∷ bs)).not_created
 
-by_each : (P : Progress → Type 0) → ((s : Progress) (x : Create) → P s → P (after_create s x)) → (xs : List Create) (s : Progress) → P s → P (after_each s xs)
+by_each : (P : Creating → Type 0) → ((s : Creating) (x : Create) → P s → P (after_create s x)) → (xs : List Create) (s : Creating) → P s → P (after_each s xs)
 by_each P step [] s p = p
 by_each P step (x ∷ xs) s p = by_each P step xs (after_create s x) (step s x p)
 
-by_round : (P : Progress → Type 0) → ((s : Progress) (x : Create) → P s → P (after_create s x)) → (n : ℕ) (s : Progress) (xs : List Create) → P s → ((t : Progress) (ys : List Create) → P t → P (in_rounds n t ys)) → (o : Option (Create × List Create))
+by_round : (P : Creating → Type 0) → ((s : Creating) (x : Create) → P s → P (after_create s x)) → (n : ℕ) (s : Creating) (xs : List Create) → P s → ((t : Creating) (ys : List Create) → P t → P (in_rounds n t ys)) → (o : Option (Create × List Create))
     → P (after_round (in_rounds n) s xs o)
 by_round P step n s xs p next None = by_each P step xs s p
 by_round P step n s xs p next (Some r) = next (after_create s r.0) r.1 (step s r.0 p)
 
-pub by_rounds : (P : Progress → Type 0) → ((s : Progress) (x : Create) → P s → P (after_create s x)) → (n : ℕ) (s : Progress) (xs : List Create) → P s → P (in_rounds n s xs)
+pub by_rounds : (P : Creating → Type 0) → ((s : Creating) (x : Create) → P s → P (after_create s x)) → (n : ℕ) (s : Creating) (xs : List Create) → P s → P (in_rounds n s xs)
 by_rounds P step zero s xs p = by_each P step xs s p
 by_rounds P step (suc n) s xs p = by_round P step n s xs p (λ t ys q. by_rounds P step n t ys q) (taken_out (stands s.made) xs)
 
 -- the edits up to here lead to the content up to here, and put new mailboxes
-pub record Leading (c : Content) (s : Progress) : Type 0 where
+pub record Leading (c : Content) (s : Creating) : Type 0 where
   pub content : s.content ≡ after_edits c s.edits
   pub puts : AllByRecursion PutsNew s.edits
 
@@ -248,7 +249,7 @@ all_push : {A : Type 0} (P : A → Type 0) (xs : List A) (x : A) → AllByRecurs
 all_push P [] x all p = (p, tt)
 all_push P (y ∷ xs) x all p = (all.0, all_push P xs x all.1 p)
 
-leading_made : (c : Content) (s : Progress) (x : Create) (a : SentProperties) → Leading c s → Leading c (after_made s x (mailbox_of s.content.next_mailbox a))
+leading_made : (c : Content) (s : Creating) (x : Create) (a : SentProperties) → Leading c s → Leading c (after_made s x (mailbox_of s.content.next_mailbox a))
 leading_made c s x a f =
     let m = mailbox_of s.content.next_mailbox a in
     record {
@@ -256,22 +257,22 @@ leading_made c s x a f =
       puts = all_push PutsNew s.edits (new_mailbox m) f.puts (refl, refl, record { total_emails = refl; unread_emails = refl; total_threads = refl; unread_threads = refl });
     }
 
-leading_create : (c : Content) (s : Progress) (x : Create) → Leading c s → Leading c (after_create s x)
+leading_create : (c : Content) (s : Creating) (x : Create) → Leading c s → Leading c (after_create s x)
 leading_create c s x f =
     let a = sent_properties s.content s.made x.members in
     by_checks (Leading c) s x (mailbox_of s.content.next_mailbox a) (bad_in s.content a x.members) (λ none. leading_made c s x a f)
     (λ r. record { content = f.content; puts = f.puts })
 
-pub Leading-creates : (c : Content) (s : Progress) (xs : List Create) → Leading c s → Leading c (after_creates s xs)
+pub Leading-creates : (c : Content) (s : Creating) (xs : List Create) → Leading c s → Leading c (after_creates s xs)
 Leading-creates c s xs f = by_rounds (Leading c) (leading_create c) (length xs) s xs f
 
 -- the edits up to here fit too, where numbers are below the next ones
-pub record Fitting (c : Content) (s : Progress) : Type 0 where
+pub record Fitting (c : Content) (s : Creating) : Type 0 where
   pub leads : Leading c s
   pub fits : AllFit c s.edits
   pub numbered : AreNumbered s.content
 
-fitting_made : (c : Content) (s : Progress) (x : Create) (a : SentProperties) → Fitting c s → Fitting c (after_made s x (mailbox_of s.content.next_mailbox a))
+fitting_made : (c : Content) (s : Creating) (x : Create) (a : SentProperties) → Fitting c s → Fitting c (after_made s x (mailbox_of s.content.next_mailbox a))
 fitting_made c s x a f =
     let m = mailbox_of s.content.next_mailbox a in
     let fit : Fits s.content (new_mailbox m) = Fits-new_mailbox s.content m false f.numbered refl in
@@ -282,26 +283,26 @@ fitting_made c s x a f =
       numbered = AreNumbered-after_edit s.content (new_mailbox m) fit f.numbered;
     }
 
-fitting_create : (c : Content) (s : Progress) (x : Create) → Fitting c s → Fitting c (after_create s x)
+fitting_create : (c : Content) (s : Creating) (x : Create) → Fitting c s → Fitting c (after_create s x)
 fitting_create c s x f =
     let a = sent_properties s.content s.made x.members in
     by_checks (Fitting c) s x (mailbox_of s.content.next_mailbox a) (bad_in s.content a x.members) (λ none. fitting_made c s x a f)
     (λ r. record { leads = record { content = f.leads.content; puts = f.leads.puts }; fits = f.fits; numbered = f.numbered })
 
-pub Fitting-creates : (c : Content) (s : Progress) (xs : List Create) → Fitting c s → Fitting c (after_creates s xs)
+pub Fitting-creates : (c : Content) (s : Creating) (xs : List Create) → Fitting c s → Fitting c (after_creates s xs)
 Fitting-creates c s xs f = by_rounds (Fitting c) (fitting_create c) (length xs) s xs f
 
-abbrev Tidied : Progress → Type 0
+abbrev Tidied : Creating → Type 0
 Tidied s = IsTidy s.content
 
-tidy_create : (s : Progress) (x : Create) → Tidied s → Tidied (after_create s x)
+tidy_create : (s : Creating) (x : Create) → Tidied s → Tidied (after_create s x)
 tidy_create s x tidy =
     let a = sent_properties s.content s.made x.members in
     by_checks Tidied s x (mailbox_of s.content.next_mailbox a) (bad_in s.content a x.members)
     (λ none. Tidy_with_new_mailbox s.content (mailbox_of s.content.next_mailbox a) false tidy (IsNewMailbox-from_good s.content s.made x.members none))
     (λ r. tidy)
 
-pub Tidy-creates : (s : Progress) (xs : List Create) → IsTidy s.content → IsTidy (after_creates s xs).content
+pub Tidy-creates : (s : Creating) (xs : List Create) → IsTidy s.content → IsTidy (after_creates s xs).content
 Tidy-creates s xs tidy = by_rounds Tidied tidy_create (length xs) s xs tidy
 
 -- ---- a plan

@@ -4,7 +4,8 @@ use Rattle.std.specs.List.{remove}
 use Rattle.std.proofs.lemmas.List.{drop_more, drop_all, take_more, map-append}
 use Rattle.mailbox_creates.specs.Views.{IsFirst}
 use Rattle.set_parts.specs.Views.{IsIdFor, create_of}
-use Rattle.mailbox_creates.specs.Creates.{Progress, after_create}
+use Rattle.set_parts.specs.Creates.{Creating}
+use Rattle.mailbox_creates.specs.Creates.{after_create}
 use Rattle.set_parts.specs.Arguments.{Create}
 use Rattle.mailbox_creates.specs.Rounds.{after_each, after_round, in_rounds, stands, taken_out}
 use Rattle.set_parts.specs.declared.arguments.SentCreate.{SentCreate}
@@ -73,20 +74,20 @@ pub searched_all : (p : Create → Bool) (ds : List SentCreate) (i : ℕ) → le
 searched_all p ds i e so = so ∙ ap (λ xs. option_map (behind (map create_of (take i ds))) (taken_out p (map create_of xs))) (drop_all i ds (omega arith))
 
 -- rounds end where no reference stands
-pub rounds_end : (n : ℕ) (s : Progress) (xs : List Create) → taken_out (stands s.made) xs ≡ None → in_rounds n s xs ≡ after_each s xs
+pub rounds_end : (n : ℕ) (s : Creating) (xs : List Create) → taken_out (stands s.made) xs ≡ None → in_rounds n s xs ≡ after_each s xs
 rounds_end zero s xs none = refl
 rounds_end (suc n) s xs none = ap (after_round (in_rounds n) s xs) none
 
 -- a round
-pub rounds_step : (n k : ℕ) (s : Progress) (xs ys : List Create) (x : Create) → n ≡ suc k → taken_out (stands s.made) xs ≡ Some (x, ys) → in_rounds n s xs ≡ in_rounds k (after_create s x) ys
+pub rounds_step : (n k : ℕ) (s : Creating) (xs ys : List Create) (x : Create) → n ≡ suc k → taken_out (stands s.made) xs ≡ Some (x, ys) → in_rounds n s xs ≡ in_rounds k (after_create s x) ys
 rounds_step n k s xs ys x e some = ap (λ m. in_rounds m s xs) e ∙ ap (after_round (in_rounds k) s xs) some
 
 -- one create after the other, one further
-pub each_step : (s : Progress) (ds : List SentCreate) (i : ℕ) (e : SentCreate) → i < length ds → e ≡ get_or ds i e → after_each s (map create_of (drop i ds)) ≡ after_each (after_create s (create_of e)) (map create_of (drop (i + 1) ds))
+pub each_step : (s : Creating) (ds : List SentCreate) (i : ℕ) (e : SentCreate) → i < length ds → e ≡ get_or ds i e → after_each s (map create_of (drop i ds)) ≡ after_each (after_create s (create_of e)) (map create_of (drop (i + 1) ds))
 each_step s ds i e lt is =
     ap (λ xs. after_each s (map create_of xs)) (drop_more ds i e lt) ∙ ap (λ d. after_each (after_create s (create_of d)) (map create_of (drop (i + 1) ds))) (sym is)
 
-pub each_end : (s : Progress) (ds : List SentCreate) (i : ℕ) → length ds ≤ i → after_each s (map create_of (drop i ds)) ≡ s
+pub each_end : (s : Creating) (ds : List SentCreate) (i : ℕ) → length ds ≤ i → after_each s (map create_of (drop i ds)) ≡ s
 each_end s ds i le = ap (λ xs. after_each s (map create_of xs)) (drop_all i ds le)
 
 -- one draft less
@@ -94,7 +95,7 @@ pub length_removed : (ds : List SentCreate) (i : ℕ) → i < length ds → leng
 length_removed ds i lt = omega (arith, length-append (take i ds) (drop (suc i) ds), length-take i ds, length-drop (suc i) ds)
 
 -- a round, by the draft that was taken out
-pub round_by_draft : (ds rest : List SentCreate) (i : ℕ) (d : SentCreate) (t : Progress) → IsFirst (stands t.made) ds (Some i) → d ≡ get_or ds i d → rest ≡ remove ds i
+pub round_by_draft : (ds rest : List SentCreate) (i : ℕ) (d : SentCreate) (t : Creating) → IsFirst (stands t.made) ds (Some i) → d ≡ get_or ds i d → rest ≡ remove ds i
     → in_rounds (length ds) t (map create_of ds) ≡ in_rounds (length rest) (after_create t (create_of d)) (map create_of rest)
 round_by_draft ds rest i d t first is removed =
     rounds_step (length ds) (length (remove ds i)) t (map create_of ds) (map create_of (remove ds i)) (create_of (get_or ds i d)) (length_removed ds i first.0) (first.1 d)

@@ -1,14 +1,12 @@
 -- One create of a mailbox: which of its properties are invalid, the mailbox that it creates, and
 -- what is reported of it (RFC 8620, 5.3; RFC 8621, 2 and 2.5).
-use Rattle.std.specs.Prelude.{◌≡◌, ℕ, List, [], ◌∷◌, ◌++◌, map, filter, Bool, true, false, not, ◌&&◌, ◌||◌, Option, Some, None, is_some, unwrap_or, if◌then◌else◌, codes, bytes_eq}
+use Rattle.std.specs.Prelude.{◌≡◌, ℕ, List, [], ◌∷◌, map, filter, Bool, true, false, not, ◌&&◌, ◌||◌, Option, Some, None, is_some, unwrap_or, if◌then◌else◌, codes, bytes_eq}
 use Rattle.std.specs.List.{list_any}
 use Rattle.std.specs.Map.{keys_of}
-use Rattle.jm_json.specs.Tree.{Tree, null, text, list, object, trees_of, fields_of}
+use Rattle.jm_json.specs.Tree.{Tree, null}
 use Rattle.jm_json.specs.Find.{find}
 use Rattle.jm_json.specs.Order.{put}
-use Rattle.jm_json.specs.declared.invocation.Created.{Created}
 use Rattle.mail_records.specs.Contents.{Content}
-use Rattle.mail_records.specs.Edits.{after_edit}
 use Rattle.mail_records.specs.declared.edits.Edit.{Edit}
 use Rattle.mail_records.specs.declared.edits.Edit.TheVariants.{PutMailbox}
 use Rattle.mail_records.specs.declared.records.Mailbox.{Mailbox}
@@ -16,6 +14,10 @@ use Rattle.mail_counts.specs.Counts.{HasNoCounts}
 use Rattle.mail_counts.specs.Tidy.{is_sibling, same_role}
 use Rattle.mail_counts.specs.Views.{mailbox_id, mailbox_members}
 use Rattle.set_parts.specs.Arguments.{Create}
+use Rattle.set_parts.specs.Creates.{Creating, after_create as after_step}
+use Rattle.set_parts.specs.declared.creates.CreateStep.TheVariants.{Rejected, Done}
+use Rattle.set_parts.specs.declared.creates.NewRecord.{NewRecord}
+use Rattle.set_parts.specs.declared.set_errors.SetError.TheVariants.{InvalidProperties}
 use Rattle.mailbox_creates.specs.Equality.{is_same}
 use Rattle.mailbox_creates.specs.Properties.{SentProperties, sent_properties}
 use Rattle.mailbox_creates.specs.declared.checks.Faults.{Faults}
@@ -120,53 +122,35 @@ abbrev pub is_reported : List (List ℕ × Tree) → List ℕ × Tree → Bool
 is_reported sent m = not (is_settable m.0 && is_some (find m.0 sent))
 
 -- what is reported of a new mailbox: what the server sets, and each default that wasn't sent
-abbrev pub created_tree : List (List ℕ × Tree) → Mailbox → Tree
-created_tree sent m = object (fields_of (filter (is_reported sent) (mailbox_members false m)))
+abbrev pub created_members : List (List ℕ × Tree) → Mailbox → List (List ℕ × Tree)
+created_members sent m = filter (is_reported sent) (mailbox_members false m)
 
--- the SetError of a create, with the names of the invalid properties
-abbrev pub refusal : List (List ℕ × Tree) → Tree
-refusal bad =
-    object (fields_of
-    ((codes "properties", list (trees_of (map text (keys_of bad))))
-    ∷ (codes "type", text (codes "invalidProperties")) ∷ []))
+-- a new mailbox as what its create makes
+abbrev pub new_record : List (List ℕ × Tree) → Mailbox → NewRecord
+new_record sent m = record {
+  id = mailbox_id m.number;
+  members = created_members sent m;
+  edits = new_mailbox m ∷ [];
+  blob = None;
+}
 
 -- ---- a create after those before it
 
--- How far a set has come: the content, what the request has created up to here and what this set
--- has created of it, the edits, and what is reported of each create that was performed.
-pub record Progress : Type 0 where
-  pub content : Content
-  pub made : List Created
-  pub fresh : List Created
-  pub edits : List Edit
-  pub created : List (List ℕ × Tree)
-  pub refused : List (List ℕ × Tree)
-
--- where a set begins
-abbrev pub beginning : Content → List Created → Progress
-beginning c made =
-    record { content = c; made = made; fresh = []; edits = []; created = []; refused = [] }
-
-abbrev pub made_under : List ℕ → Mailbox → Created
-made_under creation m = record { creation = creation; id = mailbox_id m.number }
-
 -- after a create that created a mailbox
-abbrev pub after_made : Progress → Create → Mailbox → Progress
-after_made s x m = record s {
-  content = after_edit s.content (new_mailbox m);
-  made = s.made ++ made_under x.creation m ∷ [];
-  fresh = s.fresh ++ made_under x.creation m ∷ [];
-  edits = s.edits ++ new_mailbox m ∷ [];
-  created = put x.creation (created_tree x.members m) s.created;
-}
+abbrev pub after_made : Creating → Create → Mailbox → Creating
+after_made s x m = after_step x.creation s (Done (new_record x.members m))
+
+-- after a create that is rejected for these invalid members
+abbrev pub after_rejected : Creating → Create → List (List ℕ × Tree) → Creating
+after_rejected s x bad = after_step x.creation s (Rejected (InvalidProperties (keys_of bad)))
 
 -- after a create whose invalid members are these: it creates its mailbox if there are none
-abbrev pub after_checks : Progress → Create → Mailbox → List (List ℕ × Tree) → Progress
+abbrev pub after_checks : Creating → Create → Mailbox → List (List ℕ × Tree) → Creating
 after_checks s x m [] = after_made s x m
-after_checks s x m (b ∷ bs) = record s { refused = put x.creation (refusal (b ∷ bs)) s.refused }
+after_checks s x m (b ∷ bs) = after_rejected s x (b ∷ bs)
 
 -- after a create
-abbrev pub after_create : Progress → Create → Progress
+abbrev pub after_create : Creating → Create → Creating
 after_create s x =
     let a = sent_properties s.content s.made x.members in
     after_checks s x (mailbox_of s.content.next_mailbox a) (bad_in s.content a x.members)

@@ -5,11 +5,12 @@ use Rattle.mail_counts.specs.Tidy.{same_role, is_sibling}
 use Rattle.std.specs.List.{list_any, remove}
 use Rattle.mailbox_creates.specs.Properties.{SentProperties}
 use Rattle.set_parts.specs.Arguments.{Create}
-use Rattle.mailbox_creates.specs.Creates.{Progress}
+use Rattle.set_parts.specs.Creates.{Creating}
 use Rattle.set_parts.specs.declared.arguments.SentCreate.{SentCreate}
 use Rattle.mailbox_creates.specs.declared.properties.SentProperties.{SentProperties as TheSentProperties}
 use Rattle.mailbox_creates.specs.Rounds.{taken_out}
-use Rattle.set_parts.specs.Views.{HoldIds, create_of, holds}
+use Rattle.set_parts.specs.CreatesViews.{KeepUp}
+use Rattle.set_parts.specs.Views.{create_of, holds}
 use Rattle.mail_records.specs.Contents.{Content, mailbox_at, mailbox_number}
 use Rattle.mail_records.specs.Tables.{IsTable}
 use Rattle.mailbox_creates.specs.declared.planner.Planner.{Planner}
@@ -60,10 +61,10 @@ IsFirst test drafts (Some i) =
 abbrev pub is_found : Content → ℕ → ℕ → Bool
 is_found base next n = is_some (mailbox_at base n) || is_new base.next_mailbox next n
 
--- The planner has the next number, what was made, and what is to be answered. The names and roles
+-- The planner has the next number, and what the creates have come to. The names and roles
 -- that it holds are those of the mailboxes that the set created, and all other mailboxes are those
 -- of the content that it began with.
-pub record Follows (p : Planner) (s : Progress) : Type 0 where
+pub record Follows (p : Planner) (s : Creating) : Type 0 where
   pub table : IsTable mailbox_number s.content.mailboxes
   pub base : IsTable mailbox_number p.content.now.content.mailboxes
   pub next : p.next ≡ s.content.next_mailbox
@@ -80,8 +81,4 @@ pub record Follows (p : Planner) (s : Progress) : Type 0 where
       → list_any (is_other p.content.now.content.next_mailbox p.next test) s.content.mailboxes
       ≡ list_any
       (is_other p.content.now.content.next_mailbox p.next test) p.content.now.content.mailboxes
-  pub ids : HoldIds p.ids s.made
-  pub fresh : p.fresh.items ≡ s.fresh
-  pub edits : p.edits.items ≡ s.edits
-  pub created : p.created ≡ s.created
-  pub refused : p.refused ≡ s.refused
+  pub creates : KeepUp p.creates s

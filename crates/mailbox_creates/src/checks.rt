@@ -12,7 +12,8 @@ ghost use Rattle.mailbox_creates.specs.Properties.{parent_in, sent_parent, sent_
 ghost use Rattle.set_parts.specs.CreationIds.{identifier};
 ghost use Rattle.mailbox_creates.specs.Views.{Follows, has_role, properties_of};
 ghost use Rattle.set_parts.specs.Views.{MeansIfAny};
-ghost use Rattle.mailbox_creates.specs.Creates.{Progress, bad_members, blank, differs, faults_of, is_bad, is_name_taken, is_role_taken, property};
+ghost use Rattle.set_parts.specs.Creates.{Creating};
+ghost use Rattle.mailbox_creates.specs.Creates.{bad_members, blank, differs, faults_of, is_bad, is_name_taken, is_role_taken, property};
 
 use crate::equality::is_same;
 use crate::names::{has_other_role, has_other_sibling};
@@ -20,7 +21,7 @@ use crate::planner::Planner;
 use crate::properties::{SentProperties, read_name, read_role, read_sort_order, read_subscribed};
 use jm_base::{Kind, NoMemory, Text};
 use jm_json::{Json, Member, Members};
-use mail_counts::mailbox_view;
+use mail_counts::build_mailbox_view;
 use mail_records::Mailbox;
 use set_parts::{find_id, has_text, read_mailbox_number, read_reference};
 use std::alloc::Global;
@@ -39,11 +40,11 @@ pub struct Faults {
 // Returns the number of the mailbox that a string names: by its id, or by a reference to a created
 // one.
 fn find_number<'a>(planner: &Planner<'a>, text: &'a Text) -> Option<u64>
-    ensures { (s : Progress) → Follows planner.now s
+    ensures { (s : Creating) → Follows planner.now s
         → MeansIfAny (identifier s.made text.now) result }
 {
     match read_reference(text.as_bytes()) {
-        Some(creation) => match find_id(&planner.ids, creation) {
+        Some(creation) => match find_id(&planner.creates.ids, creation) {
             Some(number) => number,
             None => None,
         },
@@ -53,7 +54,7 @@ fn find_number<'a>(planner: &Planner<'a>, text: &'a Text) -> Option<u64>
 
 // Returns whether the mailbox of a number is there after the creates up to here.
 fn is_there(planner: &Planner, number: u64) -> bool
-    ensures { (s : Progress) → Follows planner.now s → result
+    ensures { (s : Creating) → Follows planner.now s → result
         ≡ is_some (mailbox_at s.content number) }
 {
     planner.content.mailbox(number).is_some()
@@ -62,7 +63,7 @@ fn is_there(planner: &Planner, number: u64) -> bool
 
 fn find_parent<'a>(planner: &Planner<'a>, text: &'a Text) -> Option<Option<u64>>
     requires { planner.now.next < NUMBER_LIMIT }
-    ensures { (s : Progress) → Follows planner.now s → result
+    ensures { (s : Creating) → Follows planner.now s → result
         ≡ parent_in s.content s.made (Some (text_tree text.now)) }
 {
     match find_number(planner, text) {
@@ -77,7 +78,7 @@ fn find_parent<'a>(planner: &Planner<'a>, text: &'a Text) -> Option<Option<u64>>
 
 fn parse_parent<'a>(planner: &Planner<'a>, tree: &'a Json) -> Option<Option<u64>>
     requires { planner.now.next < NUMBER_LIMIT }
-    ensures { (s : Progress) → Follows planner.now s → result
+    ensures { (s : Creating) → Follows planner.now s → result
         ≡ parent_in s.content s.made (Some (tree_of tree.now)) }
 {
     match tree {
@@ -89,7 +90,7 @@ fn parse_parent<'a>(planner: &Planner<'a>, tree: &'a Json) -> Option<Option<u64>
 
 fn read_parent<'a>(planner: &Planner<'a>, members: &'a Members) -> Option<Option<u64>>
     requires { planner.now.next < NUMBER_LIMIT }
-    ensures { (s : Progress) → Follows planner.now s → result
+    ensures { (s : Creating) → Follows planner.now s → result
         ≡ sent_parent s.content s.made members.now }
 {
     match members.get("parentId") {
@@ -101,7 +102,7 @@ fn read_parent<'a>(planner: &Planner<'a>, members: &'a Members) -> Option<Option
 /// Reads the properties that a create sends.
 pub fn read_properties<'a>(planner: &Planner<'a>, members: &'a Members) -> SentProperties<'a>
     requires { planner.now.next < NUMBER_LIMIT }
-    ensures { (s : Progress) → Follows planner.now s → properties_of result
+    ensures { (s : Creating) → Follows planner.now s → properties_of result
         ≡ sent_properties s.content s.made members.now }
 {
     SentProperties {
@@ -115,7 +116,7 @@ pub fn read_properties<'a>(planner: &Planner<'a>, members: &'a Members) -> SentP
 
 // Returns whether some mailbox has this parent and name.
 fn has_sibling_named<'a>(planner: &Planner<'a>, parent: Option<u64>, name: &'a str) -> bool
-    ensures { (s : Progress) → Follows planner.now s → result
+    ensures { (s : Creating) → Follows planner.now s → result
         ≡ list_any (is_sibling parent name.now) s.content.mailboxes }
 {
     if has_text(&planner.names, parent, name) {
@@ -127,7 +128,7 @@ fn has_sibling_named<'a>(planner: &Planner<'a>, parent: Option<u64>, name: &'a s
 }
 
 fn is_name_taken<'a>(planner: &Planner<'a>, properties: &SentProperties<'a>) -> bool
-    ensures { (s : Progress) → Follows planner.now s → result
+    ensures { (s : Creating) → Follows planner.now s → result
         ≡ is_name_taken s.content (properties_of properties.now).parent
         (properties_of properties.now).name }
 {
@@ -142,7 +143,7 @@ fn is_name_taken<'a>(planner: &Planner<'a>, properties: &SentProperties<'a>) -> 
 
 // Returns whether some mailbox has this role.
 fn has_mailbox_with_role<'a>(planner: &Planner<'a>, role: &'a str) -> bool
-    ensures { (s : Progress) → Follows planner.now s → result
+    ensures { (s : Creating) → Follows planner.now s → result
         ≡ list_any (has_role role.now) s.content.mailboxes }
 {
     if has_text(&planner.roles, None, role) {
@@ -157,7 +158,7 @@ fn has_mailbox_with_role<'a>(planner: &Planner<'a>, role: &'a str) -> bool
 }
 
 fn is_role_used<'a>(planner: &Planner<'a>, role: Option<&'a Text>) -> bool
-    ensures { (s : Progress) → Follows planner.now s → result
+    ensures { (s : Creating) → Follows planner.now s → result
         ≡ is_role_taken s.content (option_map (λ t. t.now) role.entry) }
 {
     match role {
@@ -167,7 +168,7 @@ fn is_role_used<'a>(planner: &Planner<'a>, role: Option<&'a Text>) -> bool
 }
 
 fn is_name_bad<'a>(planner: &Planner<'a>, properties: &SentProperties<'a>) -> bool
-    ensures { (s : Progress) → Follows planner.now s → result
+    ensures { (s : Creating) → Follows planner.now s → result
         ≡ (faults_of s.content (properties_of properties.now)).name }
 {
     if properties.name.is_none() {
@@ -177,7 +178,7 @@ fn is_name_bad<'a>(planner: &Planner<'a>, properties: &SentProperties<'a>) -> bo
 }
 
 fn is_role_bad<'a>(planner: &Planner<'a>, properties: &SentProperties<'a>) -> bool
-    ensures { (s : Progress) → Follows planner.now s → result
+    ensures { (s : Creating) → Follows planner.now s → result
         ≡ (faults_of s.content (properties_of properties.now)).role }
 {
     match properties.role {
@@ -188,7 +189,7 @@ fn is_role_bad<'a>(planner: &Planner<'a>, properties: &SentProperties<'a>) -> bo
 
 /// Returns which of the properties that a client may set are invalid.
 pub fn check_properties<'a>(planner: &Planner<'a>, properties: &SentProperties<'a>) -> Faults
-    ensures { (s : Progress) → Follows planner.now s → result
+    ensures { (s : Creating) → Follows planner.now s → result
         ≡ faults_of s.content (properties_of properties.now) }
 {
     Faults {
@@ -275,5 +276,5 @@ pub fn build_default_members(alloc: Global, number: u64) -> Result<Members, NoMe
         total_threads: 0,
         unread_threads: 0,
     };
-    mailbox_view(alloc, &mailbox, false)
+    build_mailbox_view(alloc, &mailbox, false)
 }

@@ -1,9 +1,9 @@
 // Performs one create (RFC 8620, section 5.3).
 ghost use Rattle.std.specs.Prelude.{IfOk, List, None, OnOk, Some, option_map, ℕ, ◌+◌, ◌<◌, ◌||◌, ◌≡◌, ◌≤◌};
 ghost use Rattle.jm_base.specs.declared.identifiers.TheConstants.{NUMBER_LIMIT};
-ghost use Rattle.jm_json.specs.Order.{put};
 ghost use Rattle.mail_counts.specs.Tidy.{same_role};
-ghost use Rattle.mailbox_creates.specs.Creates.{Progress, after_create, after_made, blank, made_under, mailbox_of, refusal};
+ghost use Rattle.set_parts.specs.Creates.{Creating};
+ghost use Rattle.mailbox_creates.specs.Creates.{after_create, after_made, after_rejected, mailbox_of};
 ghost use Rattle.mailbox_creates.specs.Views.{Follows, properties_of};
 ghost use Rattle.set_parts.specs.Views.{create_of, holds};
 
@@ -12,11 +12,11 @@ use crate::checks::{
 };
 use crate::planner::Planner;
 use crate::properties::{SentProperties, choose_values};
-use crate::response::{build_created_object, build_refusal};
-use jm_base::{Id, Kind, NoMemory, Text, id_text};
-use jm_json::{Created, Members};
-use mail_records::{Edit, Mailbox};
-use set_parts::{SentCreate, TextSet, add_text, note_id, read_mailbox_number};
+use crate::response::{build_record, collect_names};
+use jm_base::{NoMemory, Text};
+use jm_json::Members;
+use mail_records::Mailbox;
+use set_parts::{CreateStep, SentCreate, SetError, TextSet, add_text, enter_create};
 use std::alloc::Global;
 
 /// Returns a copy of a role, if there is one. Fails with `NoMemory` if memory runs out.
@@ -66,16 +66,6 @@ pub fn add_role<'a>(roles: &mut TextSet<'a>, role: Option<&'a Text>) -> Result<(
     }
 }
 
-fn build_created(alloc: Global, creation: &Text, number: u64) -> Result<Created, NoMemory>
-    ensures { IfOk result (λ x. x ≡ made_under creation.now (blank number)) }
-{
-    let kind = Kind::Mailbox;
-    Ok(Created {
-        creation: creation.copy()?,
-        id: id_text(alloc, &Id { kind, number })?,
-    })
-}
-
 // Creates the mailbox with these properties.
 fn create_mailbox<'a>(
     alloc: Global,
@@ -84,7 +74,7 @@ fn create_mailbox<'a>(
     properties: &SentProperties<'a>,
 ) -> Result<(), NoMemory>
     requires { planner.old.next + 1 < NUMBER_LIMIT }
-    ensures follows { OnOk result ((s : Progress) → Follows planner.old s
+    ensures follows { OnOk result ((s : Creating) → Follows planner.old s
         → Follows planner.new
         (after_made s (create_of draft.now)
         (mailbox_of s.content.next_mailbox (properties_of properties.now)))) }
@@ -92,40 +82,38 @@ fn create_mailbox<'a>(
 {
     let number = planner.next;
     let item = build_mailbox(alloc, number, properties)?;
-    let told = build_created_object(alloc, draft.members, &item)?;
+    let made = build_record(alloc, draft.members, item)?;
     let values = choose_values(properties);
     add_text(&mut planner.names, values.parent, values.name)?;
     add_role(&mut planner.roles, values.role)?;
-    let made = build_created(alloc, draft.creation, number)?;
-    note_id(
-        &mut planner.ids,
-        draft.creation.as_bytes(),
-        read_mailbox_number(made.id.as_bytes()),
+    enter_create(
+        alloc,
+        &mut planner.creates,
+        draft.creation,
+        CreateStep::Done(made),
     )?;
-    planner.fresh.push(made)?;
-    planner.created.put(draft.creation.copy()?, told)?;
-    planner.edits.push(Edit::PutMailbox {
-        item,
-        was: false,
-        counts: false,
-    })?;
     planner.next = number + 1;
     Ok(())
 }
 
-fn refuse_create<'a>(
+fn reject_create<'a>(
     alloc: Global,
     planner: &mut Planner<'a>,
     draft: &SentCreate<'a>,
     bad: Members,
 ) -> Result<(), NoMemory>
-    ensures follows { OnOk result ((s : Progress) → Follows planner.old s
-        → Follows planner.new
-        (record s { refused = put draft.now.creation.now (refusal bad) s.refused })) }
+    ensures follows { OnOk result ((s : Creating) → Follows planner.old s
+        → Follows planner.new (after_rejected s (create_of draft.now) bad)) }
     ensures next { planner.new.next ≡ planner.old.next }
 {
-    let told = build_refusal(alloc, bad)?;
-    planner.refused.put(draft.creation.copy()?, told)?;
+    let names = collect_names(alloc, bad)?;
+    let error = SetError::InvalidProperties(names);
+    enter_create(
+        alloc,
+        &mut planner.creates,
+        draft.creation,
+        CreateStep::Rejected(error),
+    )?;
     Ok(())
 }
 
@@ -137,7 +125,7 @@ pub fn perform_create<'a>(
 ) -> Result<(), NoMemory>
     requires { planner.old.next + 1 < NUMBER_LIMIT }
     ensures follows { OnOk result
-        ((s : Progress) → Follows planner.old s
+        ((s : Creating) → Follows planner.old s
         → Follows planner.new (after_create s (create_of draft.now))) }
     ensures next { OnOk result (planner.new.next ≤ planner.old.next + 1) }
 {
@@ -148,6 +136,6 @@ pub fn perform_create<'a>(
     if bad.as_slice().is_empty() {
         create_mailbox(alloc, planner, draft, &properties)
     } else {
-        refuse_create(alloc, planner, draft, bad)
+        reject_create(alloc, planner, draft, bad)
     }
 }

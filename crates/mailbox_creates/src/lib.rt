@@ -18,5 +18,5 @@ pub use properties::{
     NewValues, SentProperties, choose_values, read_name, read_role, read_sort_order,
     read_subscribed,
 };
-pub use response::is_settable;
+pub use response::{collect_names, is_settable};
 pub use rounds::do_creates;

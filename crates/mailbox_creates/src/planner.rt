@@ -1,28 +1,23 @@
 // How far a set has come, and where it begins.
 ghost use Rattle.std.specs.Prelude.{IfOk, ◌≡◌};
 ghost use Rattle.mailbox_creates.specs.Views.{Follows};
-ghost use Rattle.mailbox_creates.specs.Creates.{beginning};
+ghost use Rattle.set_parts.specs.Creates.{before_creates};
 
 use jm_base::{Kind, NoMemory};
-use jm_json::{Created, Members};
-use mail_records::{Content, Edit};
-use set_parts::{CreatedIds, TextSet, collect_ids, new_set};
+use jm_json::Created;
+use mail_records::Content;
+use set_parts::{Creates, TextSet, new_set, start_creates};
 use std::alloc::Global;
 
 /// How far a set has come: the content that it began with, the next number of a mailbox, the names
-/// and roles of the mailboxes that it created, and what creation ids mean; what it created,
-/// its edits, and what is reported of the creates that are done.
+/// and roles of the mailboxes that it created, and what the creates have come to.
 #[derive(Drop)]
 pub struct Planner<'a> {
     pub content: &'a Content,
     pub next: u64,
     pub names: TextSet<'a>,
     pub roles: TextSet<'a>,
-    pub ids: CreatedIds<'a>,
-    pub fresh: Vec<Created>,
-    pub edits: Vec<Edit>,
-    pub created: Members,
-    pub refused: Members,
+    pub creates: Creates<'a>,
 }
 
 /// A planner before the first create.
@@ -31,7 +26,7 @@ pub fn start_planner<'a>(
     content: &'a Content,
     made: &'a [Created],
 ) -> Result<Planner<'a>, NoMemory>
-    ensures follows { IfOk result (λ p. Follows p (beginning content.now.content made.now)) }
+    ensures follows { IfOk result (λ p. Follows p (before_creates content.now.content made.now)) }
     ensures next { IfOk result (λ p. p.next ≡ content.now.content.next_mailbox) }
 {
     let next = content.next(Kind::Mailbox);
@@ -39,16 +34,12 @@ pub fn start_planner<'a>(
     let _in_order = content.mailboxes();
     let names = new_set(alloc);
     let roles = new_set(alloc);
-    let ids = collect_ids(alloc, made)?;
+    let creates = start_creates(alloc, made)?;
     Ok(Planner {
         content,
         next,
         names,
         roles,
-        ids,
-        fresh: Vec::new(alloc),
-        edits: Vec::new(alloc),
-        created: Members::new(alloc),
-        refused: Members::new(alloc),
+        creates,
     })
 }

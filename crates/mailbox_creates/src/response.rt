@@ -1,14 +1,14 @@
 // What is reported of creates (RFC 8620, section 5.3).
-ghost use Rattle.std.specs.Prelude.{IfOk, filter, length, map, option_map, ◌+◌, ◌<◌, ◌^◌, ◌≡◌};
-ghost use Rattle.jm_json.specs.Json.{tree_of};
-ghost use Rattle.jm_json.specs.Tree.{Tree, text};
+ghost use Rattle.std.specs.Prelude.{IfOk, filter, ◌≡◌};
+ghost use Rattle.jm_json.specs.Tree.{Tree};
 ghost use Rattle.std.specs.Map.{keys_of};
-ghost use Rattle.mailbox_creates.specs.Creates.{created_tree, is_reported, is_settable, refusal};
+ghost use Rattle.mailbox_creates.specs.Creates.{created_members, is_reported, is_settable, new_record};
 
-use jm_base::{NoMemory, Text};
-use jm_json::{Items, Json, Member, Members};
-use mail_counts::mailbox_view;
-use mail_records::Mailbox;
+use jm_base::{Id, Kind, NoMemory, Texts, id_text};
+use jm_json::{Member, Members};
+use mail_counts::build_mailbox_view;
+use mail_records::{Edit, Edits, Mailbox};
+use set_parts::NewRecord;
 use std::alloc::Global;
 use std::collections::VecDeque;
 
@@ -44,38 +44,49 @@ fn collect_reported(alloc: Global, sent: &Members, view: Members) -> Result<Memb
     Ok(told)
 }
 
-/// Builds what is reported of a new mailbox: what the server sets, and each default that wasn't
-/// sent.
-pub fn build_created_object(
+// Collects what is reported of a new mailbox: what the server sets, and each default that wasn't
+// sent.
+fn collect_created_members(
     alloc: Global,
     sent: &Members,
     mailbox: &Mailbox,
-) -> Result<Json, NoMemory>
-    ensures { IfOk result (λ j. tree_of j ≡ created_tree sent.now mailbox.now) }
+) -> Result<Members, NoMemory>
+    ensures { IfOk result (λ ms. ms ≡ created_members sent.now mailbox.now) }
 {
-    let view = mailbox_view(alloc, mailbox, false)?;
-    Ok(Json::Object(collect_reported(alloc, sent, view)?))
+    let view = build_mailbox_view(alloc, mailbox, false)?;
+    collect_reported(alloc, sent, view)
 }
 
-fn collect_property_names(alloc: Global, bad: Members) -> Result<Items, NoMemory>
-    ensures { IfOk result (λ ts. ts ≡ map text (keys_of bad)) }
+/// Builds what the create of a mailbox makes, of which this was sent.
+pub fn build_record(alloc: Global, sent: &Members, item: Mailbox) -> Result<NewRecord, NoMemory>
+    ensures { IfOk result (λ x. x ≡ new_record sent.now item) }
 {
-    let mut names = Items::new(alloc);
-    let mut rest = VecDeque::from_vec(bad.into_vec());
+    let kind = Kind::Mailbox;
+    let number = item.number;
+    let id = id_text(alloc, &Id { kind, number })?;
+    let members = collect_created_members(alloc, sent, &item)?;
+    let mut edits = Edits::new(alloc);
+    edits.push(Edit::PutMailbox {
+        item,
+        was: false,
+        counts: false,
+    })?;
+    Ok(NewRecord {
+        id,
+        members,
+        edits,
+        blob: None,
+    })
+}
+
+/// Collects the names of properties, in byte order.
+pub fn collect_names(alloc: Global, properties: Members) -> Result<Texts, NoMemory>
+    ensures { IfOk result (λ ts. ts ≡ keys_of properties) }
+{
+    let mut names = Texts::new(alloc);
+    let mut rest = VecDeque::from_vec(properties.into_vec());
     while let Some(member) = rest.pop_front() {
-        names.push(Json::Text(member.name))?;
+        names.push(member.name)?;
     }
     Ok(names)
-}
-
-/// Builds what is reported of a create with invalid properties.
-pub fn build_refusal(alloc: Global, bad: Members) -> Result<Json, NoMemory>
-    ensures { IfOk result (λ j. tree_of j ≡ refusal bad) }
-{
-    let names = collect_property_names(alloc, bad)?;
-    let kind = Text::from_str(alloc, "invalidProperties")?;
-    let mut object = Members::with_room(alloc, 2)?;
-    object.set(alloc, "properties", Json::List(names))?;
-    object.set(alloc, "type", Json::Text(kind))?;
-    Ok(Json::Object(object))
 }

@@ -2,7 +2,7 @@
 // 5.3).
 ghost use Rattle.std.specs.Prelude.{IfSome, OnOk, length, map, option_map, ◌+◌, ◌<◌, ◌≡◌, ◌≤◌};
 ghost use Rattle.jm_base.specs.declared.identifiers.TheConstants.{NUMBER_LIMIT};
-ghost use Rattle.mailbox_creates.specs.Creates.{Progress};
+ghost use Rattle.set_parts.specs.Creates.{Creating};
 ghost use Rattle.mailbox_creates.specs.Views.{Follows, IsFirst};
 ghost use Rattle.set_parts.specs.Views.{create_of};
 ghost use Rattle.mailbox_creates.specs.Rounds.{after_creates, after_each, stands, waits_for};
@@ -23,18 +23,18 @@ fn read_awaited_id<'a>(members: &'a Members) -> Option<&'a [u8]>
 
 // Returns whether the create that this one refers to was performed.
 fn is_ready<'a>(planner: &Planner<'a>, draft: &SentCreate<'a>) -> bool
-    ensures { (s : Progress) → Follows planner.now s → result
+    ensures { (s : Creating) → Follows planner.now s → result
         ≡ stands s.made (create_of draft.now) }
 {
     match read_awaited_id(draft.members) {
-        Some(creation) => find_id(&planner.ids, creation).is_some(),
+        Some(creation) => find_id(&planner.creates.ids, creation).is_some(),
         None => true,
     }
 }
 
 fn find_ready<'a>(planner: &Planner<'a>, drafts: &[SentCreate<'a>]) -> Option<usize>
     ensures within { IfSome result (λ i. i < length drafts.now) }
-    ensures first { (s : Progress) → Follows planner.now s
+    ensures first { (s : Creating) → Follows planner.now s
         → IsFirst (stands s.made) drafts.now result }
 {
     for i in 0..drafts.len() {
@@ -53,7 +53,7 @@ fn do_each<'a>(
 ) -> Result<(), NoMemory>
     requires { planner.old.next + length drafts.now < NUMBER_LIMIT }
     ensures { OnOk result
-        ((s : Progress) → Follows planner.old s
+        ((s : Creating) → Follows planner.old s
         → Follows planner.new (after_each s (map create_of drafts.now))) }
 {
     for i in 0..drafts.len() {
@@ -71,7 +71,7 @@ pub fn do_creates<'a>(
 ) -> Result<(), NoMemory>
     requires { planner.old.next + length drafts.items < NUMBER_LIMIT }
     ensures { OnOk result
-        ((s : Progress) → Follows planner.old s
+        ((s : Creating) → Follows planner.old s
         → Follows planner.new (after_creates s (map create_of drafts.entry.items))) }
 {
     let mut rest = drafts;

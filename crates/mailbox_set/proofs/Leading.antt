@@ -38,6 +38,7 @@ use Rattle.plan_promises.specs.Planned.{AllKeepMessages, IsDelivered, IsFiled, I
 use Rattle.plan_promises.proofs.Planned.{planned_mailboxes, threads_kept}
 use Rattle.set_parts.specs.CreationIds.{reported_id}
 use Rattle.set_parts.specs.Outcomes.{Plan, planned}
+use Rattle.set_parts.specs.Plans.{plan_after}
 use Rattle.set_parts.specs.Responses.{HasNewState}
 use Rattle.set_parts.specs.Steps.{Progress as Steps, after_destroy, after_destroys, after_update, after_updates, before_steps}
 use Rattle.set_parts.specs.declared.steps.Step.{Step}
@@ -46,12 +47,13 @@ use Rattle.set_parts.specs.declared.set_errors.SetError.TheVariants.{MailboxHasC
 use Rattle.set_parts.specs.Arguments.{Create, Update, account_in, count_objects, creates_in, destroys_in, updates_in}
 use Rattle.set_parts.proofs.Parts.{all_append}
 use Rattle.set_parts.proofs.Rejecting.{plan_of_planned}
-use Rattle.mailbox_creates.specs.Creates.{Progress, PutsNew, bad_in, beginning, made_under, mailbox_of}
+use Rattle.set_parts.specs.Creates.{Creating, before_creates, record_under}
+use Rattle.mailbox_creates.specs.Creates.{PutsNew, bad_in, mailbox_of, new_record}
 use Rattle.mailbox_creates.specs.Properties.{mailbox_meant, sent_properties}
 use Rattle.mailbox_set.specs.Destroys.{destroy_edits, destroy_mailbox, destroy_of, has_child, has_email, removal, removal_of}
 use Rattle.mailbox_updates.specs.Left.{left_with, left_without, mailboxes_but}
 use Rattle.mailbox_creates.specs.Rounds.{after_creates}
-use Rattle.mailbox_set.specs.Sets.{mailbox_set_forms, mailbox_set_outcome, plan_after_steps, plan_in, removes_emails, steps_after, updated_after}
+use Rattle.mailbox_set.specs.Sets.{mailbox_set_forms, mailbox_set_outcome, plan_in, removes_emails, steps_after, updated_after}
 use Rattle.mailbox_updates.specs.Updates.{after_mailbox_updates, all_keep_rules, keeps_rules, update_as}
 use Rattle.mailbox_creates.specs.Views.{Follows}
 use Rattle.mailbox_set.specs.Views.{IsCreated, IsStepsOf}
@@ -270,12 +272,12 @@ tidy_but c t = record {
   emails = t.emails;
 }
 
-led_creates : (c : Content) (made : List Created) (xs : List Create) → IsTidy c → Led c (after_creates (beginning c made) xs).content (after_creates (beginning c made) xs).edits
+led_creates : (c : Content) (made : List Created) (xs : List Create) → IsTidy c → Led c (after_creates (before_creates c made) xs).content (after_creates (before_creates c made) xs).edits
 led_creates c made xs tidy =
-    let p = after_creates (beginning c made) xs in
-    let first : Leading c (beginning c made) = record { content = refl; puts = tt } in
-    let f = Leading-creates c (beginning c made) xs first in
-    let fits : AllFit c p.edits = (Fitting-creates c (beginning c made) xs (record { leads = first; fits = tt; numbered = tidy.numbered })).fits in
+    let p = after_creates (before_creates c made) xs in
+    let first : Leading c (before_creates c made) = record { content = refl; puts = tt } in
+    let f = Leading-creates c (before_creates c made) xs first in
+    let fits : AllFit c p.edits = (Fitting-creates c (before_creates c made) xs (record { leads = first; fits = tt; numbered = tidy.numbered })).fits in
     let same : p.content.emails ≡ c.emails = ap (λ (d : Content). d.emails) f.content ∙ emails-after_edits p.edits c (all_map PutsNew LeavesEmails p.edits leaves_new f.puts) in
     record {
       content = f.content;
@@ -284,29 +286,38 @@ led_creates c made xs tidy =
       counts = counts_new p.edits c fits f.puts;
       flags = flags_right p.edits c fits f.puts;
       own = all_map PutsNew (IsOwn c) p.edits (own_new c) f.puts;
-      tidy = tidy_but p.content (Tidy-creates (beginning c made) xs tidy);
+      tidy = tidy_but p.content (Tidy-creates (before_creates c made) xs tidy);
       known = subst (AllByRecursion (ThreadKnown c)) (sym same) tidy.threads.named;
     }
 
 -- what the creates of a set have created is what the request created with them
-made_creates : (c : Content) (made : List Created) (xs : List Create) → (after_creates (beginning c made) xs).made ≡ made ++ (after_creates (beginning c made) xs).fresh
+made_creates : (c : Content) (made : List Created) (xs : List Create) → (after_creates (before_creates c made) xs).made ≡ made ++ (after_creates (before_creates c made) xs).fresh
 made_creates c made xs =
-    by_rounds (λ (s : Progress). s.made ≡ made ++ s.fresh)
+    by_rounds (λ (s : Creating). s.made ≡ made ++ s.fresh)
     (λ s x is.
     let a = sent_properties s.content s.made x.members in
-    by_checks (λ (s : Progress). s.made ≡ made ++ s.fresh) s x (mailbox_of s.content.next_mailbox a) (bad_in s.content a x.members)
+    by_checks (λ (s : Creating). s.made ≡ made ++ s.fresh) s x (mailbox_of s.content.next_mailbox a) (bad_in s.content a x.members)
     (λ none.
-    let one = made_under x.creation (mailbox_of s.content.next_mailbox a) in
+    let one = record_under x.creation (new_record x.members (mailbox_of s.content.next_mailbox a)) in
     ap (λ (ms : List Created). ms ++ one ∷ []) is ∙ append_assoc made s.fresh (one ∷ []))
     (λ r. is))
-    (length xs) (beginning c made) xs (sym (append-nil made))
+    (length xs) (before_creates c made) xs (sym (append-nil made))
 
-pub created_by : (c : Content) (made : List Created) (xs : List Create) → IsCreated c made (after_creates (beginning c made) xs)
+-- creates of mailboxes bring no blobs
+none_brought : (c : Content) (made : List Created) (xs : List Create) → (after_creates (before_creates c made) xs).blobs ≡ []
+none_brought c made xs =
+    by_rounds (λ (s : Creating). s.blobs ≡ [])
+    (λ s x is.
+    let a = sent_properties s.content s.made x.members in
+    by_checks (λ (s : Creating). s.blobs ≡ []) s x (mailbox_of s.content.next_mailbox a) (bad_in s.content a x.members) (λ none. append-nil s.blobs ∙ is) (λ r. is))
+    (length xs) (before_creates c made) xs refl
+
+pub created_by : (c : Content) (made : List Created) (xs : List Create) → IsCreated c made (after_creates (before_creates c made) xs)
 created_by c made xs =
-    let f = Leading-creates c (beginning c made) xs (record { content = refl; puts = tt }) in
+    let f = Leading-creates c (before_creates c made) xs (record { content = refl; puts = tt }) in
     record {
       made = made_creates c made xs;
-      puts = all_map PutsNew PutsMailbox (after_creates (beginning c made) xs).edits puts_new f.puts;
+      puts = all_map PutsNew PutsMailbox (after_creates (before_creates c made) xs).edits puts_new f.puts;
       content = f.content;
     }
 
@@ -537,15 +548,16 @@ pub record Promised (g : Ground) (p : Plan) : Type 0 where
   pub planned : (summary : List ℕ → Summary) (blobs : List (List ℕ)) → IsTidy g.content → IsPlanned summary blobs g.content p.edits
   pub new_state : HasNewState OfMailbox g p.reply p.edits
   pub flags : AreTables g.content → AreNumbered g.content → AreCountsFlagsRight g.content p.edits
+  pub none_brought : p.blobs ≡ []
 
 promised_plan : (g : Ground) (made : List Created) (ms : List (List ℕ × Tree)) → Promised g (plan_in g made ms)
 promised_plan g made ms =
     let c = g.content in
-    let p = after_creates (beginning c made) (creates_in ms) in
+    let p = after_creates (before_creates c made) (creates_in ms) in
     let s = steps_after p ms in
     let es = p.edits ++ s.edits in
-    let first : Leading c (beginning c made) = record { content = refl; puts = tt } in
-    let f = Leading-creates c (beginning c made) (creates_in ms) first in
+    let first : Leading c (before_creates c made) = record { content = refl; puts = tt } in
+    let f = Leading-creates c (before_creates c made) (creates_in ms) first in
     let led : IsTidy c → LedBy c p.edits s =
     λ (tidy : IsTidy c).
     led_destroys c p.edits p.made (removes_emails ms) (destroys_in ms) (updated_after p ms)
@@ -554,12 +566,13 @@ promised_plan g made ms =
       planned = λ summary blobs tidy. promised_edits summary blobs c s.content es tidy (led tidy);
       new_state = refl;
       flags = λ tables numbered.
-          let fits : AllFit c p.edits = (Fitting-creates c (beginning c made) (creates_in ms) (record { leads = first; fits = tt; numbered = numbered })).fits in
+          let fits : AllFit c p.edits = (Fitting-creates c (before_creates c made) (creates_in ms) (record { leads = first; fits = tt; numbered = numbered })).fits in
           let now : AreTables p.content = subst AreTables (sym f.content) (AreTables-after_edits p.edits c tables) in
           let flagged = flagged_destroys p.content p.made (removes_emails ms) (destroys_in ms) (updated_after p ms) (flagged_updates p.made (destroys_in ms) p.content (updates_in ms) now) in
           flags_append es (derived_edits c es) c
           (flags_append p.edits s.edits c (flags_right p.edits c fits f.puts) (subst (λ (x : Content). AreCountsFlagsRight x s.edits) f.content flagged.flags))
           (derived_flags c (after_edits c es) (touched_threads es) (AreTables-after_edits es c tables).mailboxes);
+      none_brought = none_brought c made (creates_in ms);
     }
 
 pub promised : (g : Ground) (args : Tree) (made : List Created) (q : Plan) → mailbox_set_outcome g args made ≡ planned q → Promised g q
@@ -568,8 +581,8 @@ promised g args made q e =
 
 -- the plan of a set, from its creates and the steps after them
 pub objects_planned : (g : Ground) (made : List Created) (ms : List (List ℕ × Tree)) (x : Plan) (account : List ℕ) (planner : Planner) (steps : TheSteps) → account ≡ account_in ms
-    → Follows planner (after_creates (beginning g.content made) (creates_in ms)) → IsStepsOf steps (steps_after (after_creates (beginning g.content made) (creates_in ms)) ms)
-    → ((p : Progress) (s : Steps) → Follows planner p → IsStepsOf steps s → x ≡ plan_after_steps g account p s) → x ≡ plan_in g made ms
+    → Follows planner (after_creates (before_creates g.content made) (creates_in ms)) → IsStepsOf steps (steps_after (after_creates (before_creates g.content made) (creates_in ms)) ms)
+    → ((p : Creating) (s : Steps) → Follows planner p → IsStepsOf steps s → x ≡ plan_after OfMailbox g account p s) → x ≡ plan_in g made ms
 objects_planned g made ms x account planner steps same follows is all =
-    all (after_creates (beginning g.content made) (creates_in ms)) (steps_after (after_creates (beginning g.content made) (creates_in ms)) ms) follows is
-    ∙ ap (λ (a : List ℕ). plan_after_steps g a (after_creates (beginning g.content made) (creates_in ms)) (steps_after (after_creates (beginning g.content made) (creates_in ms)) ms)) same
+    all (after_creates (before_creates g.content made) (creates_in ms)) (steps_after (after_creates (before_creates g.content made) (creates_in ms)) ms) follows is
+    ∙ ap (λ (a : List ℕ). plan_after OfMailbox g a (after_creates (before_creates g.content made) (creates_in ms)) (steps_after (after_creates (before_creates g.content made) (creates_in ms)) ms)) same

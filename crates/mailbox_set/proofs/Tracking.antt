@@ -27,13 +27,6 @@ use Rattle.mailbox_set.specs.Views.{Drops, IsStepsOf, IsToDestroy}
 use Rattle.mailbox_updates.specs.Views.{Shows, Tracks}
 use Rattle.mailbox_set.specs.declared.plan.Steps.{Steps as TheSteps}
 use Rattle.mailbox_updates.specs.declared.current.Current.{Current}
-use Rattle.jm_base.specs.declared.identifiers.Kind.TheVariants.{Mailbox as OfMailbox}
-use Rattle.jm_json.specs.Tree.{Tree, fields_of, object}
-use Rattle.mail_counts.specs.Plans.{Ground, present_state, state_after}
-use Rattle.set_parts.specs.Outcomes.{Plan}
-use Rattle.set_parts.specs.Responses.{reply_members, set_reply}
-use Rattle.mailbox_creates.specs.Creates.{Progress}
-use Rattle.mailbox_set.specs.Sets.{all_edits, plan_after_steps, with_creates}
 use Rattle.mailbox_creates.specs.Properties.{mailbox_meant}
 use Rattle.mailbox_set.proofs.EmailsLeft.{emails_more, table_left}
 use Rattle.mailbox_updates.proofs.Present.{one_pushed, present_without}
@@ -165,21 +158,6 @@ steps_same x made a b c d xs ys us vs same content destroys updates h =
     (subst (λ (zs : List (List ℕ)). AllSteps x made b d zs us) destroys
     (subst (λ (z : Content). AllSteps x made b z xs us) content
     (subst (λ (z : Bool). AllSteps x made z c xs us) same h)))
-
--- ---- a plan
-
-pub plan_from_parts : (g : Ground) (account : List ℕ) (p : Progress) (s : Steps) (before after : ℕ) (reply : Tree) (edits : List Edit) (made : List Created) (reported : Reported) (created refused : List (List ℕ × Tree))
-    → reply ≡ object (fields_of (reply_members account before after (record reported { created = created; not_created = refused }))) → before ≡ present_state OfMailbox g → after ≡ state_after OfMailbox g (all_edits g.content p s)
-    → edits ≡ all_edits g.content p s → made ≡ p.fresh → reported ≡ s.reported → created ≡ p.created → refused ≡ p.refused
-    → (let x : Plan = record { reply = reply; edits = edits; made = made } in x) ≡ plan_after_steps g account p s
-plan_from_parts g account p s before after reply edits made reported created refused is was now all fresh told c r =
-    let same : record reported { created = created; not_created = refused } ≡ with_creates p s.reported =
-    ap₂ (λ (x y : List (List ℕ × Tree)). record reported { created = x; not_created = y }) c r ∙ ap (with_creates p) told in
-    let members : reply_members account before after (record reported { created = created; not_created = refused }) ≡ reply_members account (present_state OfMailbox g) (state_after OfMailbox g (all_edits g.content p s)) (with_creates p s.reported) =
-    ap₂ (λ (m n : ℕ). reply_members account m n (record reported { created = created; not_created = refused })) was now
-    ∙ ap (reply_members account (present_state OfMailbox g) (state_after OfMailbox g (all_edits g.content p s))) same in
-    ap₂ (λ (x : Tree) (y : List Edit). record { reply = x; edits = y; made = made }) (is ∙ ap (λ ms. object (fields_of ms)) members) all
-    ∙ ap (λ (z : List Created). record { reply = set_reply OfMailbox g account (with_creates p s.reported) (all_edits g.content p s); edits = all_edits g.content p s; made = z }) fresh
 
 -- ---- destroys, one more and the last one
 

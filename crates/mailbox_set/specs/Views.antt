@@ -2,7 +2,7 @@
 use Rattle.std.specs.Prelude.{ℕ, List, [], ◌∷◌, ◌++◌, Bool, ◌≡◌, true, is_some}
 use Rattle.std.specs.List.{AllByRecursion, remove}
 use Rattle.jm_json.specs.declared.invocation.Created.{Created}
-use Rattle.mailbox_creates.specs.Creates.{Progress}
+use Rattle.set_parts.specs.Creates.{Creating}
 use Rattle.mail_records.specs.Contents.{Content, mailbox_at, mailbox_number}
 use Rattle.mail_records.specs.Edits.{after_edits}
 use Rattle.mail_records.specs.Tables.{without}
@@ -34,7 +34,7 @@ pub record Drops (p : Current) (n : ℕ) (q : Current) : Type 0 where
 
 -- The creates of a set led from a content to a progress, of a request that had created this before:
 -- their edits put mailboxes.
-pub record IsCreated (c : Content) (before : List Created) (p : Progress) : Type 0 where
+pub record IsCreated (c : Content) (before : List Created) (p : Creating) : Type 0 where
   pub made : p.made ≡ before ++ p.fresh
   pub puts : AllByRecursion PutsMailbox p.edits
   pub content : p.content ≡ after_edits c p.edits

@@ -6,7 +6,7 @@ ghost use Rattle.set_parts.specs.Outcomes.{ExplainsRejection, rejected};
 use jm_json::Members;
 use mail_counts::SetFault;
 use method_args::{Argument, Presence, Shape, read_flag};
-use set_parts::check_call;
+use set_parts::check_set;
 use std::alloc::Global;
 
 /// Returns Ok if a set of so many objects with these arguments is not rejected as a whole, in an
@@ -21,44 +21,12 @@ pub fn check_arguments(
         (λ _. rejected mailbox_set_forms objects state members.now ≡ None)
         (λ e. ExplainsRejection e (rejected mailbox_set_forms objects state members.now)) }
 {
-    check_call(
-        alloc,
-        &[
-            Argument {
-                name: "accountId",
-                presence: Presence::Required,
-                shape: Shape::String,
-            },
-            Argument {
-                name: "create",
-                presence: Presence::Nullable,
-                shape: Shape::Objects,
-            },
-            Argument {
-                name: "destroy",
-                presence: Presence::Nullable,
-                shape: Shape::Strings,
-            },
-            Argument {
-                name: "ifInState",
-                presence: Presence::Nullable,
-                shape: Shape::String,
-            },
-            Argument {
-                name: "onDestroyRemoveEmails",
-                presence: Presence::Optional,
-                shape: Shape::Flag,
-            },
-            Argument {
-                name: "update",
-                presence: Presence::Nullable,
-                shape: Shape::Object,
-            },
-        ],
-        members,
-        objects,
-        state,
-    )
+    let own = [Argument {
+        name: "onDestroyRemoveEmails",
+        presence: Presence::Optional,
+        shape: Shape::Flag,
+    }];
+    check_set(alloc, &own, members, objects, state)
 }
 
 /// Reads whether destroys remove the emails of the mailboxes (RFC 8621, section 2.5:

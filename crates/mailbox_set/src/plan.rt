@@ -16,12 +16,12 @@ ghost use Rattle.state_log.specs.Logs.{log_end};
 ghost use Rattle.set_parts.specs.Arguments.{count_objects, creates_in, update_in};
 ghost use Rattle.set_parts.specs.Outcomes.{ExplainsSet, ground_of, outcome_of_members, plan_of, planned};
 ghost use Rattle.set_parts.specs.Responses.{HasNewState};
-ghost use Rattle.set_parts.specs.Steps.{Progress as Steps', after_destroys, before_steps};
+ghost use Rattle.set_parts.specs.Steps.{after_destroys, before_steps};
 ghost use Rattle.set_parts.specs.Views.{AreMade, create_of};
-ghost use Rattle.mailbox_creates.specs.Creates.{Progress, beginning};
+ghost use Rattle.set_parts.specs.Creates.{Creating, before_creates};
 ghost use Rattle.mailbox_set.specs.Destroys.{destroy_mailbox};
 ghost use Rattle.mailbox_creates.specs.Rounds.{after_creates};
-ghost use Rattle.mailbox_set.specs.Sets.{mailbox_set_forms, mailbox_set_outcome, plan_after_steps, plan_in, steps_after};
+ghost use Rattle.mailbox_set.specs.Sets.{mailbox_set_forms, mailbox_set_outcome, plan_in, steps_after};
 ghost use Rattle.mailbox_updates.specs.Updates.{after_mailbox_updates};
 ghost use Rattle.mailbox_updates.specs.Views.{AreDestroyed, PutsMailbox};
 ghost use Rattle.mailbox_creates.specs.Views.{Follows};
@@ -31,13 +31,13 @@ use crate::arguments::{check_arguments, read_removes_emails};
 use crate::destroys::perform_destroys;
 use jm_base::{Kind, NoMemory, Text};
 use jm_json::{Created, Json, Made, Member, Members};
-use mail_counts::{SetFault, SetPlan, derived};
+use mail_counts::{SetFault, SetPlan};
 use mail_records::{Content, Edit, Edits};
 use mailbox_creates::{Planner, do_creates, start_planner};
 use mailbox_updates::{Current, Setting, collect_all_created, collect_destroyed, perform_updates};
 use set_parts::{
-    Reported, SentCreate, build_set_response, count_objects, find_new_state, read_account_id,
-    read_creates, read_destroys, read_updates,
+    Reported, SentCreate, count_objects, finish_plan, read_account_id, read_creates, read_destroys,
+    read_updates,
 };
 use state_log::Log;
 use std::alloc::Global;
@@ -60,7 +60,7 @@ fn perform_creates<'a>(
     requires room { content.now.content.next_mailbox + length creates.items < NUMBER_LIMIT }
     ensures { IfOk result
         (λ p. Follows p
-        (after_creates (beginning content.now.content made.now)
+        (after_creates (before_creates content.now.content made.now)
         (map create_of creates.entry.items))) }
 {
     let mut planner = start_planner(alloc, content, made.as_slice())?;
@@ -112,7 +112,7 @@ fn perform_after_creates<'a>(
     creates: &[Edit],
     members: &'a Members,
 ) -> Result<Steps, NoMemory>
-    ensures { IfOk result (λ x. (p : Progress) → p.made ≡ made.now ++ fresh.now
+    ensures { IfOk result (λ x. (p : Creating) → p.made ≡ made.now ++ fresh.now
         → p.content ≡ after_edits content.now.content creates.now
         → AllByRecursion PutsMailbox creates.now → IsStepsOf x (steps_after p members.now)) }
 {
@@ -127,52 +127,6 @@ fn perform_after_creates<'a>(
     };
     let updates = read_updates(members);
     perform_steps(alloc, content, creates, &setting, updates, &destroys)
-}
-
-// Returns the plan of creates and steps, over an account with this content and log.
-fn finish_plan<'a>(
-    alloc: Global,
-    account: &str,
-    content: &Content,
-    log: &Log,
-    planner: Planner<'a>,
-    steps: Steps,
-) -> Result<SetPlan, NoMemory>
-    requires last { log_end log.now ≤ max_position }
-    ensures { IfOk result
-        (λ x. (p : Progress) (s : Steps') → Follows planner.entry p → IsStepsOf steps s
-        → plan_of x
-        ≡ plan_after_steps (ground_of content.now.content log.now) account.now p s) }
-{
-    let Planner {
-        content: _,
-        next: _,
-        names: _names,
-        roles: _roles,
-        ids: _ids,
-        fresh,
-        edits,
-        created,
-        refused,
-    } = planner;
-    let Steps {
-        mut reported,
-        edits: more,
-    } = steps;
-    reported.created = created;
-    reported.not_created = refused;
-    let mut edits = Edits::from_vec(edits);
-    edits.append(more)?;
-    let following = derived(alloc, content, edits.as_slice())?;
-    edits.append(following)?;
-    let before = log.state_of(Kind::Mailbox);
-    let after = find_new_state(log, Kind::Mailbox, edits.as_slice());
-    let reply = build_set_response(alloc, account, before, after, reported)?;
-    Ok(SetPlan {
-        reply,
-        edits,
-        made: Made::from_vec(fresh),
-    })
 }
 
 // Plans the creates and steps of a set that is not rejected as a whole.
@@ -192,16 +146,26 @@ fn plan_objects<'a>(
 {
     let planner = perform_creates(alloc, content, made, creates)?;
     let before = made.as_slice();
-    let fresh = planner.fresh.as_slice();
-    let edits = planner.edits.as_slice();
+    let fresh = planner.creates.fresh.as_slice();
+    let edits = planner.creates.edits.as_slice();
     let steps = perform_after_creates(alloc, content, before, fresh, edits, members)?;
+    let Planner {
+        content: _,
+        next: _,
+        names: _names,
+        roles: _roles,
+        creates,
+    } = planner;
+    let Steps { reported, edits } = steps;
     finish_plan(
         alloc,
+        Kind::Mailbox,
         read_account_id(members),
         content,
         log,
-        planner,
-        steps,
+        creates,
+        reported,
+        edits,
     )
 }
 

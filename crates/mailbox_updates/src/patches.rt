@@ -1,6 +1,5 @@
 // What a patch makes of a mailbox by itself (RFC 8620, section 5.3; RFC 8621, section 2.5).
 ghost use Rattle.std.specs.Prelude.{◌≡◌, [], IfOk, List, MatchOption, Some, filter, map, unwrap_or, ℕ};
-ghost use Rattle.std.specs.Map.{keys_of};
 ghost use Rattle.jm_json.specs.Find.{as_object};
 ghost use Rattle.jm_json.specs.Json.{member_of, tree_of};
 ghost use Rattle.jm_json.specs.Order.{put_all};
@@ -20,15 +19,14 @@ use crate::current::{Current, find_present};
 use crate::setting::find_number;
 use jm_base::{NoMemory, Text, Texts};
 use jm_json::{Json, Member, Members, PatchFault, patch};
-use mail_counts::mailbox_view;
+use mail_counts::build_mailbox_view;
 use mail_records::Mailbox;
 use mailbox_creates::{
-    Faults, SentProperties, choose_values, copy_role, find_invalid_members, is_settable, read_name,
-    read_role, read_sort_order, read_subscribed,
+    Faults, SentProperties, choose_values, collect_names, copy_role, find_invalid_members,
+    is_settable, read_name, read_role, read_sort_order, read_subscribed,
 };
 use set_parts::{CreatedRecords, SetError};
 use std::alloc::Global;
-use std::collections::VecDeque;
 
 /// What a patch makes of a mailbox by itself.
 #[derive(Drop)]
@@ -161,17 +159,6 @@ fn find_bad(
     add_removed(alloc, bad, before.as_slice(), after)
 }
 
-fn collect_names(alloc: Global, bad: Members) -> Result<Texts, NoMemory>
-    ensures { IfOk result (λ ts. ts ≡ keys_of bad) }
-{
-    let mut names = Texts::new(alloc);
-    let mut rest = VecDeque::from_vec(bad.into_vec());
-    while let Some(member) = rest.pop_front() {
-        names.push(member.name)?;
-    }
-    Ok(names)
-}
-
 // ---- the patched mailbox
 
 fn build_changed<'a>(
@@ -231,7 +218,7 @@ fn change_to<'a>(
 {
     let properties = read_properties(current, created, after);
     let faults = find_value_faults(&properties);
-    let before = mailbox_view(alloc, mailbox, false)?;
+    let before = build_mailbox_view(alloc, mailbox, false)?;
     let bad = find_bad(alloc, &faults, &before, after)?;
     let names = collect_names(alloc, bad)?;
     change_unless(alloc, names, mailbox, &properties)
@@ -277,7 +264,7 @@ pub fn change_mailbox<'a>(
         → x ≡ mailbox_after c made mailbox.now (tree_of changes.now)) }
     ensures number { IfOk result (λ x. IsOf mailbox.now.number x) }
 {
-    let view = mailbox_view(alloc, mailbox, false)?;
+    let view = build_mailbox_view(alloc, mailbox, false)?;
     match apply_changes(alloc, Json::Object(view), changes)? {
         Some(tree) => {
             let after = into_members(alloc, tree);

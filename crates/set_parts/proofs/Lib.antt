@@ -5,3 +5,4 @@ pub mod Parts
 pub mod Sets
 pub mod Rejecting
 pub mod Identifiers
+pub mod Planning

@@ -1,9 +1,10 @@
 -- The outcome of a call, from whether it is rejected.
-use Rattle.std.proofs.Common.{◌≡◌, ◌≢◌, ℕ, ◌≤◌, Bool, true, false, List, [], Option, Some, None, cond, nat_lt, refl, sym, ap, subst, arith, ltb-false}
+use Rattle.std.proofs.Common.{◌≡◌, ◌≢◌, ℕ, ◌≤◌, Bool, true, false, List, [], ◌∷◌, ◌++◌, Option, Some, None, cond, nat_lt, refl, sym, ap, ◌∙◌, subst, arith, ltb-false}
+use Rattle.std.specs.Option.{option_or}
 use Rattle.std.proofs.lemmas.Option.{none-some}
 use Rattle.jm_json.specs.Tree.{Tree}
-use Rattle.jm_json.specs.Find.{as_object}
-use Rattle.method_args.specs.Arguments.{Form, find_invalid}
+use Rattle.jm_json.specs.Find.{as_object, find}
+use Rattle.method_args.specs.Arguments.{Form, find_invalid, has_form}
 use Rattle.method_args.specs.declared.TheConstants.{MAX_OBJECTS_PER_CALL}
 use Rattle.mail_counts.specs.declared.plan.SetFault.{SetFault}
 use Rattle.mail_counts.specs.declared.plan.SetFault.TheVariants.{Invalid, TooLarge, StateMismatch, NoMemory}
@@ -69,3 +70,21 @@ plan_at P forms count state plan all (Some ms) q e =
 pub plan_of_planned : (P : Plan → Type 0) (forms : List Form) (count : List (List ℕ × Tree) → ℕ) (state : ℕ) (plan : List (List ℕ × Tree) → Plan) → ((ms : List (List ℕ × Tree)) → P (plan ms))
     → (args : Tree) (q : Plan) → outcome_by forms count state plan args ≡ planned q → P q
 plan_of_planned P forms count state plan all args q e = plan_at P forms count state plan all (as_object args) q e
+
+-- ---- the first argument that does not have its form, of two lists
+
+or_else : (b : Bool) (o p : Option (List ℕ)) (name : List ℕ) → cond b (option_or o p) (Some name) ≡ option_or (cond b o (Some name)) p
+or_else true o p name = refl
+or_else false o p name = refl
+
+invalid-append : (fs gs : List Form) (ms : List (List ℕ × Tree)) → find_invalid (fs ++ gs) ms ≡ option_or (find_invalid fs ms) (find_invalid gs ms)
+invalid-append [] gs ms = refl
+invalid-append (f ∷ fs) gs ms =
+    let test = has_form f.presence f.shape (find f.name ms) in
+    ap (λ o. cond test o (Some f.name)) (invalid-append fs gs ms) ∙ or_else test (find_invalid fs ms) (find_invalid gs ms) f.name
+
+pub invalid_first : (fs gs : List Form) (ms : List (List ℕ × Tree)) (o : Option (List ℕ)) (name : List ℕ) → o ≡ Some name → o ≡ find_invalid fs ms → Some name ≡ find_invalid (fs ++ gs) ms
+invalid_first fs gs ms o name some is = ap (λ p. option_or p (find_invalid gs ms)) (sym some ∙ is) ∙ sym (invalid-append fs gs ms)
+
+pub invalid_later : (fs gs : List Form) (ms : List (List ℕ × Tree)) (o : Option (List ℕ)) → o ≡ None → o ≡ find_invalid fs ms → find_invalid gs ms ≡ find_invalid (fs ++ gs) ms
+invalid_later fs gs ms o none is = ap (λ p. option_or p (find_invalid gs ms)) (sym none ∙ is) ∙ sym (invalid-append fs gs ms)

@@ -1,5 +1,5 @@
 -- The arguments that sets have in common (RFC 8620, 5.3).
-use Rattle.std.specs.Prelude.{ℕ, ◌+◌, List, [], ◌∷◌, length, map, Option, unwrap_or, option_map, codes}
+use Rattle.std.specs.Prelude.{ℕ, ◌+◌, List, [], ◌∷◌, ◌++◌, length, map, Option, unwrap_or, option_map, codes}
 use Rattle.std.specs.List.{filter_map}
 use Rattle.jm_json.specs.Tree.{Tree}
 use Rattle.jm_json.specs.Find.{as_object}
@@ -17,16 +17,28 @@ pub record Update : Type 0 where
   pub id : List ℕ
   pub patch : Tree
 
--- The arguments of every set in byte order, in which they are checked. A value of `update` may be
--- any: it is the patch of one object, and is rejected with that object.
-abbrev pub set_forms : List Form
-set_forms =
+-- the arguments of every set in byte order, but for `update`
+abbrev pub first_forms : List Form
+first_forms =
     record { name = codes "accountId"; presence = Required; shape = String }
     ∷ record { name = codes "create"; presence = Nullable; shape = Objects }
     ∷ record { name = codes "destroy"; presence = Nullable; shape = Strings }
     ∷ record { name = codes "ifInState"; presence = Nullable; shape = String }
-    ∷ record { name = codes "update"; presence = Nullable; shape = Object }
     ∷ []
+
+-- The form of `update`. A value of it may be any: it is the patch of one object, and is rejected
+-- with that object.
+abbrev pub update_form : Form
+update_form = record { name = codes "update"; presence = Nullable; shape = Object }
+
+-- The arguments of a set in byte order, in which they are checked, with those that only sets of its
+-- kind have.
+abbrev pub set_forms_with : List Form → List Form
+set_forms_with own = first_forms ++ (own ++ update_form ∷ [])
+
+-- the arguments of a set whose kind has none of its own
+abbrev pub set_forms : List Form
+set_forms = set_forms_with []
 
 -- the id of the account
 abbrev pub account_in : List (List ℕ × Tree) → List ℕ

@@ -2,7 +2,10 @@ pub mod CreationIds
 pub mod Names
 pub mod SetErrors
 pub mod Arguments
+pub mod Creates
 pub mod Steps
 pub mod Responses
 pub mod Outcomes
+pub mod Plans
 pub mod Views
+pub mod CreatesViews

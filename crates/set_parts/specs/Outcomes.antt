@@ -21,14 +21,16 @@ use Rattle.set_parts.specs.Arguments.{if_in_state}
 abbrev pub ground_of : Content → Notes → Ground
 ground_of c l = record { content = c; floor = l.floor; floors = l.floors; ids = ids_in l.notes }
 
--- a plan: the arguments of its response, its edits, and what it creates
+-- A plan: the arguments of its response, its edits, what it creates, and the bytes of the blobs
+-- that it brings, in order. These are numbered on from the blobs of the account.
 pub record Plan : Type 0 where
   pub reply : Tree
   pub edits : List Edit
   pub made : List Created
+  pub blobs : List (List ℕ)
 
 abbrev pub plan_of : SetPlan → Plan
-plan_of p = record { reply = tree_of p.reply; edits = p.edits; made = p.made }
+plan_of p = record { reply = tree_of p.reply; edits = p.edits; made = p.made; blobs = p.blobs }
 
 -- the outcome of a call
 pub data Outcome : Type 0 where

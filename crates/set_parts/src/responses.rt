@@ -11,7 +11,7 @@ ghost use Rattle.state_log.specs.Logs.{log_end};
 use crate::reported::Reported;
 use jm_base::{Kind, NoMemory, Text, state_text};
 use jm_json::{Items, Json, Members};
-use mail_counts::state_after;
+use mail_counts::find_state_after;
 use mail_records::Edit;
 use state_log::Log;
 use std::alloc::Global;
@@ -23,7 +23,7 @@ pub fn find_new_state(log: &Log, kind: Kind, edits: &[Edit]) -> u64
     ensures { (c : Content) → result ≡ state_after kind (ground_of c log.now) edits.now }
 {
     let before = log.state_of(kind);
-    state_after(kind, before, log.end(), edits)
+    find_state_after(kind, before, log.end(), edits)
 }
 
 /// Returns an object with these members, or null if there are none.

@@ -1,6 +1,10 @@
-use Rattle.std.proofs.Common.{◌∙◌, ◌+◌, refl, ap}
+use Rattle.std.proofs.Common.{◌∙◌, ◌+◌, ◌++◌, refl, ap, subst}
 use Rattle.mail_records.specs.Contents.{Content}
 use Rattle.mail_records.specs.declared.records.Email.{Email}
+use Rattle.set_parts.specs.Creates.{Creating, after_create, blobs_brought}
+use Rattle.set_parts.specs.CreatesViews.{KeepUp}
+use Rattle.set_parts.specs.declared.creates.CreateStep.TheVariants.{Done}
+use Rattle.set_parts.specs.declared.creates.NewRecord.{NewRecord}
 use Rattle.mail_import.specs.Imports.{Progress, next_after}
 use Rattle.mail_import.specs.Views.{Follows}
 use Rattle.mail_import.specs.declared.planner.Planner.{Planner}
@@ -15,20 +19,18 @@ returns-clause-follows c =
     let q : Planner = record p {
       next_email = p.next_email + 1;
       next_thread = c.count_thread-planner.result;
-      new_emails = c.note_email.new.new_emails;
-      ids = c.note_email.new.ids;
-      fresh = c.note_email.new.fresh;
-      edits = c.push.new.self;
-      created = c.note_email.new.created;
+      new_emails = c.add_new_email.new.new_emails;
+      creates = c.enter_create.new.creates;
     } in
-    let adds : Adds base p q c.args.creation.now item = record {
+    let adds : Adds base p q c.args.creation.now item c.args.brought = record {
       next_email = refl;
       next_thread = c.count_thread-planner.ensures ∙ ap (λ o. next_after o p.next_thread) (joined ∙ f.threads item.summary);
-      threads = c.in_ok-note_email.ensures.threads;
-      ids = c.in_ok-note_email.ensures.ids;
-      fresh = c.in_ok-note_email.ensures.fresh;
-      edits = c.in_ok-push.ensures.items;
-      created = c.in_ok-note_email.ensures.created;
-      not_created = refl;
+      threads = c.in_ok-add_new_email.ensures.threads;
+      creates = λ (t : Creating) k.
+          subst (λ (x : NewRecord). KeepUp c.enter_create.new.creates (after_create c.args.creation.now t (Done x))) c.in_ok-made.ensures
+          (c.in_ok-enter_create.ensures.follows t k);
     } in
-    Follows-made base p q s c.args.creation.now item adds f number
+    Follows-made base p q s c.args.creation.now item c.args.brought adds f number
+
+pub returns-clause-blobs : goal.returns-clause-blobs
+returns-clause-blobs c = c.in_ok-enter_create.ensures.blobs ∙ ap (λ (x : NewRecord). c.args.planner.now.creates.blobs ++ blobs_brought x.blob) c.in_ok-made.ensures

@@ -10,15 +10,15 @@ use Rattle.mail_import.proofs.import.perform_import.Goals as goal
 pub returns-in-Some-clause-follows : goal.returns-in-Some-clause-follows
 returns-in-Some-clause-follows c =
     let base = c.args.setting.now.content.now.content in
-    on_ok c.reject_import.result _ _
+    on_ok c.reject_email.result _ _
     (λ k (s : Progress) (f : Follows base c.args.planner.now s).
-    subst (Follows base c.reject_import.new.planner)
+    subst (Follows base c.reject_email.new.planner)
     (sym (import_step c.args.setting.now.blobs.now.blobs c.args.setting.now.moment s (create_of c.args.import.now) base (sent_of c.in_ok-sent.sent) c.count_emails-emails.result (Some c.in-Some.error)
-    f.mailboxes (c.in_ok-sent.ensures s.made f.ids)
-    (f.count ∙ (ap (λ (es : List Edit). length base.emails + length es) (sym c.as_slice.ensures.value) ∙ sym c.count_emails-emails.ensures))
+    f.mailboxes (c.in_ok-sent.ensures s.creating.made f.creates.ids)
+    (f.count ∙ (ap (λ (es : List Edit). length base.emails + length es) (sym c.as_slice.ensures) ∙ sym c.count_emails-emails.ensures))
     (sym c.in_ok-error.ensures ∙ c.in-Some.is)))
     (k base s f))
-    c.reject_import.ensures.follows
+    c.reject_email.ensures.follows
 
 pub returns-in-None-clause-follows : goal.returns-in-None-clause-follows
 returns-in-None-clause-follows c =
@@ -27,8 +27,8 @@ returns-in-None-clause-follows c =
     (λ k (s : Progress) (f : Follows base c.args.planner.now s).
     subst (Follows base c.import_email.new.planner)
     (sym (import_step c.args.setting.now.blobs.now.blobs c.args.setting.now.moment s (create_of c.args.import.now) base (sent_of c.in_ok-sent.sent) c.count_emails-emails.result None
-    f.mailboxes (c.in_ok-sent.ensures s.made f.ids)
-    (f.count ∙ (ap (λ (es : List Edit). length base.emails + length es) (sym c.as_slice.ensures.value) ∙ sym c.count_emails-emails.ensures))
+    f.mailboxes (c.in_ok-sent.ensures s.creating.made f.creates.ids)
+    (f.count ∙ (ap (λ (es : List Edit). length base.emails + length es) (sym c.as_slice.ensures) ∙ sym c.count_emails-emails.ensures))
     (sym c.in_ok-error.ensures ∙ c.in-None.is)))
     (k s f))
     c.import_email.ensures.follows

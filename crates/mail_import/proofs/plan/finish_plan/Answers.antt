@@ -1,4 +1,4 @@
-use Rattle.std.proofs.Common.{ap, ◌++◌, ◌∙◌}
+use Rattle.std.proofs.Common.{ap, ◌∙◌}
 use Rattle.jm_json.specs.Json.{tree_of}
 use Rattle.jm_base.specs.declared.identifiers.Kind.TheVariants.{Email as OfEmail}
 use Rattle.mail_counts.specs.DerivedEdits.{derived_edits}
@@ -13,10 +13,11 @@ pub returns : goal.returns
 returns c =
     λ (s : Progress) (f : Follows c.args.content.now.content c.args.planner s).
     let content = c.args.content.now.content in
-    plan_from_parts (ground_of content c.args.log.now) c.args.account.now s c.state_of-before.result c.find_new_state-after.result c.args.planner.created c.args.planner.not_created (tree_of c.in_ok-reply.reply)
-    c.args.planner.edits.items c.in_ok-more.more c.append.new.self c.from_vec.result c.in_ok-reply.ensures c.state_of-before.ensures.state
+    let p = c.args.planner.creates in
+    plan_from_parts (ground_of content c.args.log.now) c.args.account.now s c.state_of-before.result c.find_new_state-after.result p.created p.not_created (tree_of c.in_ok-reply.reply)
+    p.edits c.in_ok-more.more c.append.new.self p.fresh p.blobs c.in_ok-reply.ensures c.state_of-before.ensures.state
     (c.find_new_state-after.ensures content ∙ ap (state_after OfEmail (ground_of content c.args.log.now)) c.as_slice-2.ensures)
-    f.created f.not_created f.edits
-    (c.in_ok-more.ensures.more ∙ ap (derived_edits content) c.as_slice.ensures.value)
-    (c.in_ok-append.ensures.ok ∙ ap (λ es. es ++ c.in_ok-more.more) c.from_vec-edits.ensures)
-    (c.from_vec.ensures ∙ f.fresh)
+    f.creates.created f.creates.not_created f.creates.edits
+    (c.in_ok-more.ensures.more ∙ ap (derived_edits content) c.as_slice.ensures)
+    c.in_ok-append.ensures.ok
+    f.creates.fresh f.creates.blobs

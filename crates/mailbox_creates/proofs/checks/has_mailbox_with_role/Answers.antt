@@ -2,14 +2,14 @@ use Rattle.std.proofs.Common.{◌||◌, not, sym, ap, ◌∙◌}
 use Rattle.std.specs.List.{list_any}
 use Rattle.mail_records.specs.declared.entries.Roled.{Roled}
 use Rattle.mailbox_creates.specs.Views.{Follows, has_role, is_new, is_other}
-use Rattle.mailbox_creates.specs.Creates.{Progress}
+use Rattle.set_parts.specs.Creates.{Creating}
 use Rattle.mailbox_creates.proofs.NewNumbers.{any_parts}
 use Rattle.mail_counts.proofs.Lookups.{roles_found}
 use Rattle.mailbox_creates.proofs.checks.has_mailbox_with_role.Goals as goal
 
 pub returns-then-has_text : goal.returns-then-has_text
 returns-then-has_text c =
-    λ (s : Progress) (f : Follows c.args.planner.now s).
+    λ (s : Creating) (f : Follows c.args.planner.now s).
     let base = c.args.planner.now.content.now.content in
     let n = c.args.planner.now.next in
     let test = has_role c.args.role.now in
@@ -19,7 +19,7 @@ returns-then-has_text c =
 
 pub returns : goal.returns
 returns c =
-    λ (s : Progress) (f : Follows c.args.planner.now s).
+    λ (s : Creating) (f : Follows c.args.planner.now s).
     let base = c.args.planner.now.content.now.content in
     let n = c.args.planner.now.next in
     let role = c.args.role.now in

@@ -3,14 +3,14 @@ use Rattle.std.specs.List.{list_any}
 use Rattle.mail_counts.specs.Tidy.{is_sibling}
 use Rattle.mail_records.specs.declared.entries.Named.{Named}
 use Rattle.mailbox_creates.specs.Views.{Follows, is_new, is_other}
-use Rattle.mailbox_creates.specs.Creates.{Progress}
+use Rattle.set_parts.specs.Creates.{Creating}
 use Rattle.mailbox_creates.proofs.NewNumbers.{any_parts}
 use Rattle.mail_counts.proofs.Lookups.{siblings_found}
 use Rattle.mailbox_creates.proofs.checks.has_sibling_named.Goals as goal
 
 pub returns-then-has_text : goal.returns-then-has_text
 returns-then-has_text c =
-    λ (s : Progress) (f : Follows c.args.planner.now s).
+    λ (s : Creating) (f : Follows c.args.planner.now s).
     let base = c.args.planner.now.content.now.content in
     let n = c.args.planner.now.next in
     let test = is_sibling c.args.parent c.args.name.now in
@@ -20,7 +20,7 @@ returns-then-has_text c =
 
 pub returns : goal.returns
 returns c =
-    λ (s : Progress) (f : Follows c.args.planner.now s).
+    λ (s : Creating) (f : Follows c.args.planner.now s).
     let base = c.args.planner.now.content.now.content in
     let n = c.args.planner.now.next in
     let name = c.args.name.now in

@@ -1,5 +1,6 @@
 use Rattle.std.proofs.Common.{◌≡◌, sym, ◌∙◌, subst}
-use Rattle.mailbox_creates.specs.Creates.{Progress, after_create, after_made, mailbox_of}
+use Rattle.set_parts.specs.Creates.{Creating}
+use Rattle.mailbox_creates.specs.Creates.{after_create, after_made, mailbox_of}
 use Rattle.set_parts.specs.Arguments.{Create}
 use Rattle.mailbox_creates.specs.Views.{Follows, properties_of}
 use Rattle.set_parts.specs.Views.{create_of}
@@ -12,7 +13,7 @@ returns-then-is_empty c =
     record {
       follows =
           on_ok c.create_mailbox.result _ _
-          (λ k (s : Progress) (f : Follows c.args.planner.now s).
+          (λ k (s : Creating) (f : Follows c.args.planner.now s).
           let same : after_create s x ≡ after_made s x (mailbox_of s.content.next_mailbox (properties_of c.read_properties-properties.result)) =
           checks_made s x (properties_of c.read_properties-properties.result) c.check_properties-faults.result c.in_ok-given.given c.in_ok-bad.bad c.args.planner.now.next
           (c.read_properties-properties.ensures s f) (c.check_properties-faults.ensures s f) f.next c.in_ok-given.ensures c.in_ok-bad.ensures
@@ -25,11 +26,11 @@ returns-then-is_empty c =
 pub returns-clause-follows : goal.returns-clause-follows
 returns-clause-follows c =
     let x : Create = create_of c.args.draft.now in
-    on_ok c.refuse_create.result _ _
-    (λ k (s : Progress) (f : Follows c.args.planner.now s).
+    on_ok c.reject_create.result _ _
+    (λ k (s : Creating) (f : Follows c.args.planner.now s).
     let same : after_create s x ≡ _ =
     checks_made s x (properties_of c.read_properties-properties.result) c.check_properties-faults.result c.in_ok-given.given c.in_ok-bad.bad c.args.planner.now.next
     (c.read_properties-properties.ensures s f) (c.check_properties-faults.ensures s f) f.next c.in_ok-given.ensures c.in_ok-bad.ensures
     ∙ some_bad s x (mailbox_of s.content.next_mailbox (properties_of c.read_properties-properties.result)) c.as_slice.result.now c.in_ok-bad.bad c.as_slice.ensures.value (sym c.is_empty.ensures ∙ c.if-is_empty.false) in
-    subst (Follows c.refuse_create.new.planner) (sym same) (k s f))
-    c.refuse_create.ensures.follows
+    subst (Follows c.reject_create.new.planner) (sym same) (k s f))
+    c.reject_create.ensures.follows

@@ -22,9 +22,5 @@ returns-clause-follows c =
       names = λ g t. c.new_set-names.ensures g t ∙ sym (none_created first n (is_sibling g t) content.mailboxes c.next-next.ensures);
       roles = λ t. c.new_set-roles.ensures None t ∙ sym (none_created first n (has_role t) content.mailboxes c.next-next.ensures);
       others = λ test. refl;
-      ids = c.in_ok-ids.ensures;
-      fresh = c.new.ensures.items;
-      edits = c.new-2.ensures.items;
-      created = c.new-3.ensures;
-      refused = c.new-4.ensures;
+      creates = c.in_ok-creates.ensures content;
     }

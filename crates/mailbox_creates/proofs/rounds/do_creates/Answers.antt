@@ -1,7 +1,8 @@
 use Rattle.std.proofs.Common.{◌≡◌, ◌<◌, ℕ, suc, List, Some, None, map, length, sym, ap, ◌∙◌, subst, arith}
 use Rattle.std.proofs.lemmas.List.{length-map}
 use Rattle.std.specs.List.{remove}
-use Rattle.mailbox_creates.specs.Creates.{Progress, after_create}
+use Rattle.set_parts.specs.Creates.{Creating}
+use Rattle.mailbox_creates.specs.Creates.{after_create}
 use Rattle.mailbox_creates.specs.Views.{Follows, IsFirst}
 use Rattle.set_parts.specs.Views.{create_of}
 use Rattle.mailbox_creates.specs.Rounds.{after_each, in_rounds, stands, taken_out}
@@ -14,7 +15,7 @@ pub rounds-init : goal.rounds-init
 rounds-init c =
     record {
       room = c.requires;
-      follows = λ (s : Progress) f. (s, f, ap (λ n. in_rounds n s (map create_of c.args.drafts.items)) (sym (length-map c.args.drafts.items create_of)));
+      follows = λ (s : Creating) f. (s, f, ap (λ n. in_rounds n s (map create_of c.args.drafts.items)) (sym (length-map c.args.drafts.items create_of)));
     }
 
 pub rounds-preserved : goal.rounds-preserved
@@ -28,7 +29,7 @@ rounds-preserved c =
     let same : length c.remove-draft.new.self.items ≡ length (remove items at) = ap length c.remove-draft.ensures.items in
     record {
       room = omega arith;
-      follows = λ (s : Progress) f.
+      follows = λ (s : Creating) f.
           let was = c.rounds.invariant.follows s f in
           let first : IsFirst (stands was.0.made) items (Some at) = subst (λ ds. IsFirst (stands was.0.made) ds (Some at)) c.as_slice.ensures.value (c.in-Some.ensures.first was.0 was.1) in (
             after_create was.0 (create_of c.remove-draft.result),
@@ -49,7 +50,7 @@ rounds-smaller c =
 pub returns : goal.returns
 returns c =
     on_ok c.do_each.result _ _
-    (λ k (s : Progress) f.
+    (λ k (s : Creating) f.
     let items : List SentCreate = c.rounds.rest.items in
     let was = c.rounds.invariant.follows s f in
     let none : taken_out (stands was.0.made) (map create_of items) ≡ None = subst (λ (ds : List SentCreate). taken_out (stands was.0.made) (map create_of ds) ≡ None) c.as_slice.ensures.value (c.in_default.ensures.first was.0 was.1) in
