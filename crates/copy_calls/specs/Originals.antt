@@ -1,5 +1,6 @@
 -- The Email/set that destroys the originals of copies (RFC 8620, 5.4: onSuccessDestroyOriginal).
-use Rattle.std.specs.Prelude.{ℕ, List, [], ◌∷◌, map, filter_map, Bool, false, Option, Some, None, is_some, option_and_then, unwrap_or, if◌then◌else◌, codes}
+use Rattle.std.specs.Prelude.{ℕ, List, [], ◌∷◌, map, filter_map, Bool, false, Option, Some, None, is_some, option_and_then, option_map, unwrap_or, if◌then◌else◌, bytes_eq, codes}
+use Rattle.jm_json.specs.Call.{Call}
 use Rattle.jm_json.specs.Tree.{Tree, null, text, list, object, trees_of, fields_of}
 use Rattle.jm_json.specs.Find.{as_object, find}
 use Rattle.mail_view.specs.Records.{first_mentions}
@@ -57,3 +58,18 @@ set_by reply (Some ms) =
 -- if nothing was copied.
 abbrev pub set_of_originals : Tree → Tree → Option Tree
 set_of_originals args reply = set_by reply (as_object args)
+
+-- the Email/set with these arguments, under the client's id of the copy
+abbrev pub set_call : List ℕ → Tree → Call
+set_call id args = record { name = codes "Email/set"; args = args; id = id }
+
+-- The call that follows a copy, to which the account of the copies responded with this: the
+-- Email/set of the originals. None if the response is an error, and none after another method than
+-- Email/copy.
+abbrev pub originals_call : Call → Call → Option Call
+originals_call c response =
+    if bytes_eq c.name (codes "Email/copy")
+    then (if bytes_eq response.name (codes "error")
+    then None
+    else option_map (set_call c.id) (set_of_originals c.args response.args))
+    else None

@@ -105,8 +105,8 @@ fn read_bytes(
     }
 }
 
-// Returns the bytes that an identifier names.
-fn read_named(
+// Returns the bytes that an identifier names, once it is read.
+fn read_by_id(
     alloc: Global,
     blobs: &BlobList,
     id: Option<BlobId>,
@@ -117,6 +117,15 @@ fn read_named(
         Some(id) => read_bytes(alloc, blob_with(blobs, id.blob), id.leaf),
         None => Ok(None),
     }
+}
+
+/// Returns the bytes that a string names: those of a blob, or the decoded bytes of a leaf of the
+/// message that a blob holds (RFC 8620, section 6.2; RFC 8621, section 4.1.4: blobId). None if it
+/// names neither.
+pub fn read_named(alloc: Global, blobs: &BlobList, id: &str) -> Result<Option<Bytes>, NoMemory>
+    ensures { IfOk result (λ b. b ≡ bytes_named blobs.now.blobs id.now) }
+{
+    read_by_id(alloc, blobs, read_blob_id(id.as_bytes()))
 }
 
 // Adds bytes to what is carried, or null if there are none.
@@ -145,7 +154,7 @@ fn carry_blobs(alloc: Global, blobs: &BlobList, ids: &[&str]) -> Result<Carried,
         blobs: Blobs::new(alloc),
     };
     for id in ids {
-        let bytes = read_named(alloc, blobs, read_blob_id(id.as_bytes()))?;
+        let bytes = read_named(alloc, blobs, id)?;
         carry_bytes(alloc, &mut carried, bytes)?;
     }
     Ok(carried)

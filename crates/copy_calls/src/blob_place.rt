@@ -21,7 +21,7 @@ use blob_ids::{BlobId, write_blob_id};
 use blob_store::BlobList;
 use jm_base::{Blobs, Bytes, NoMemory, Text};
 use jm_json::{Json, Members};
-use mail_copies::{Delivery, collect_deliveries, delivery_at, has_room, read_from_account};
+use mail_copies::{Delivery, collect_deliveries, has_room, pick_delivery, read_from_account};
 use mail_counts::SetFault;
 use set_parts::{SetError, build_error, read_account_id, wrap_object};
 use std::alloc::Global;
@@ -162,7 +162,7 @@ fn copy_all<'a>(
             blobs,
             &mut planner,
             ids[i],
-            delivery_at(deliveries, i),
+            pick_delivery(deliveries, i),
         )?;
     }
     Ok(planner)

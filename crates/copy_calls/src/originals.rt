@@ -1,15 +1,16 @@
 // The Email/set that destroys the originals of copies (RFC 8620, section 5.4:
 // onSuccessDestroyOriginal).
 ghost use Rattle.std.specs.Prelude.{◌≡◌, IfOk, codes, filter_map, map, option_map};
+ghost use Rattle.jm_json.specs.Invocations.{call_of};
 ghost use Rattle.jm_json.specs.Json.{tree_of};
 ghost use Rattle.jm_json.specs.Tree.{fields_of, object, text as text_tree};
 ghost use Rattle.mail_view.specs.Records.{first_mentions};
 ghost use Rattle.method_args.specs.Arguments.{text_in};
 ghost use Rattle.set_parts.specs.Views.{create_of};
-ghost use Rattle.copy_calls.specs.Originals.{copied_id, copied_ids, created_in, destroys_originals, is_created, set_members, set_of_originals, state_tree};
+ghost use Rattle.copy_calls.specs.Originals.{copied_id, copied_ids, created_in, destroys_originals, is_created, originals_call, set_call, set_members, set_of_originals, state_tree};
 
 use jm_base::{NoMemory, Text};
-use jm_json::{Items, Json, Members};
+use jm_json::{Invocation, Items, Json, Members};
 use mail_copies::read_from_account;
 use method_args::{read_flag, read_text};
 use set_parts::{SentCreate, read_creates};
@@ -161,4 +162,44 @@ pub fn build_originals_set(
         },
         None => Ok(None),
     }
+}
+
+// Builds the call of the set under the client's id of the copy.
+fn build_set_call(
+    alloc: Global,
+    call: &Invocation,
+    reply: &Json,
+) -> Result<Option<Invocation>, NoMemory>
+    ensures { IfOk result (λ o. option_map call_of o ≡ option_map (set_call call.now.id)
+        (set_of_originals (tree_of call.now.args) (tree_of reply.now))) }
+{
+    match build_originals_set(alloc, &call.args, reply)? {
+        Some(args) => Ok(Some(Invocation {
+            name: Text::from_str(alloc, "Email/set")?,
+            args,
+            id: call.id.copy()?,
+        })),
+        None => Ok(None),
+    }
+}
+
+/// Builds the call that follows a copy, to which the account of the copies gave this response: the
+/// Email/set with the arguments of [`build_originals_set`], under the copy's client id, for the
+/// account of the originals. None if the response is an error, if `onSuccessDestroyOriginal` is not
+/// true, or if the copy is of another method than Email/copy (RFC 8620, section 5.4).
+pub fn build_originals_call(
+    alloc: Global,
+    call: &Invocation,
+    response: &Invocation,
+) -> Result<Option<Invocation>, NoMemory>
+    ensures { IfOk result (λ o. option_map call_of o
+        ≡ originals_call (call_of call.now) (call_of response.now)) }
+{
+    if call.name.as_str() == "Email/copy" {
+        if response.name.as_str() == "error" {
+            return Ok(None);
+        }
+        return build_set_call(alloc, call, &response.args);
+    }
+    Ok(None)
 }

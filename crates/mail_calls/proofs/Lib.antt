@@ -1,4 +1,5 @@
 pub mod Sets
+pub mod CopyPlans
 pub mod Rooms
 pub mod Changes
 pub mod Queries

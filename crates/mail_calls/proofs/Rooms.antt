@@ -1,12 +1,11 @@
--- Room for one more blob, and the bytes that identifiers name.
-use Rattle.std.proofs.Common.{◌≡◌, ◌↔◌, ℕ, ◌+◌, ◌<◌, ◌≤◌, Bool, true, false, not, ◌&&◌, nat_lt, nat_le, List, length, Option, IsTrue, refl, sym, ap, ap₂, ◌∙◌, subst, arith, ltb-true, leb-true}
+-- Room for one more blob, and the bytes that an identifier names.
+use Rattle.std.proofs.Common.{◌≡◌, ◌↔◌, ℕ, ◌+◌, ◌<◌, ◌≤◌, Bool, true, false, not, ◌&&◌, nat_lt, nat_le, List, length, IsTrue, refl, sym, ap, ap₂, ◌∙◌, subst, arith, ltb-true, leb-true}
 use Rattle.std.proofs.lemmas.Bool.{false≢true, ltb-false, leb-false}
 use Rattle.mail_records.specs.Histories.{History, blobs_of}
-use Rattle.blob_ids.specs.BlobIds.{blob_id_in}
-use Rattle.blob_ids.specs.declared.ids.BlobId.{BlobId}
 use Rattle.blob_store.specs.declared.limits.TheConstants.{MAX_BLOB_BYTES_PER_ACCOUNT, MAX_BLOBS_PER_ACCOUNT}
 use Rattle.blob_store.specs.Blobs.{HasRoomFor, byte_count}
-use Rattle.mail_calls.specs.BlobPlans.{bytes_by, bytes_named, has_room, upload_if, upload_plan}
+use Rattle.copy_calls.specs.BlobCopies.{bytes_named}
+use Rattle.mail_calls.specs.BlobPlans.{has_room, upload_if, upload_plan}
 
 -- what a list of blobs says of its room
 pub room_is : (full : Bool) (size : ℕ) (blobs : List (List ℕ)) → (IsTrue full ↔ ¬ (HasRoomFor size blobs)) → not full ≡ has_room size blobs
@@ -38,5 +37,5 @@ upload_is h bytes blobs size number room told sized numbered are =
     ap₂ (λ (b : Bool) (n : ℕ). upload_if b n bytes) (told ∙ ap₂ has_room sized are) (numbered ∙ ap (λ (bs : List (List ℕ)). length bs + 1) are)
 
 -- the bytes that a text names among the blobs of an account
-pub bytes_are : (h : History) (blobs : List (List ℕ)) (name : List ℕ) (id : Option BlobId) → id ≡ blob_id_in name → blobs ≡ blobs_of h → bytes_by blobs id ≡ bytes_named (blobs_of h) name
-bytes_are h blobs name id told are = ap₂ bytes_by are told
+pub bytes_are : (h : History) (blobs : List (List ℕ)) (name : List ℕ) → blobs ≡ blobs_of h → bytes_named blobs name ≡ bytes_named (blobs_of h) name
+bytes_are h blobs name are = ap (λ (bs : List (List ℕ)). bytes_named bs name) are

@@ -17,7 +17,7 @@ use Rattle.set_parts.specs.Outcomes.{ExplainsSet, Outcome, ground_of, plan_of}
 use Rattle.set_parts.specs.Outcomes as sets
 use Rattle.account_book.specs.declared.plans.Out.TheVariants.{Replies}
 use Rattle.account_book.specs.declared.plans.Plan.{Plan}
-use Rattle.mail_calls.specs.Plans.{IsOutcomeOf, refused, response_to, set_plan, ground_in}
+use Rattle.mail_calls.specs.Plans.{IsOutcomeOf, planned_with, refused, response_to, set_plan, ground_in, unless_rejected}
 
 same_ground : (c d : Content) (m n : ℕ) (e f : Floors) (x y : List Id) → c ≡ d → m ≡ n → e ≡ f → x ≡ y
     → (let g : Ground = record { content = c; floor = m; floors = e; ids = x } in g) ≡ record { content = d; floor = n; floors = f; ids = y }
@@ -41,22 +41,26 @@ answer_to (Ok p) c returned o told all = all o told
 answer_to (Err e) c returned o told all = tt
 
 abbrev with_response : SetPlan → Invocation → Plan
-with_response x response = record { out = Replies (record { responses = response ∷ []; made = x.made }); blobs = []; edits = x.edits }
+with_response x response = record { out = Replies (record { responses = response ∷ []; made = x.made }); blobs = x.blobs; edits = x.edits }
 
 -- a set that is planned is answered by its one response
 pub planned_set : (r : Result Plan NoMemory) (c : Invocation) (returned : Result SetPlan SetFault) (x : SetPlan) (response : Invocation) → returned ≡ Ok x → response ≡ response_to c (tree_of x.reply)
-    → IfOk r (λ p. p ≡ record { out = Replies (record { responses = response ∷ []; made = x.made }); blobs = []; edits = x.edits }) → IfOk r (λ p. (o : Outcome) → IsOutcomeOf returned o → p ≡ set_plan c o)
+    → IfOk r (λ p. p ≡ record { out = Replies (record { responses = response ∷ []; made = x.made }); blobs = x.blobs; edits = x.edits }) → IfOk r (λ p. (o : Outcome) → IsOutcomeOf returned o → p ≡ set_plan c o)
 planned_set (Ok p) c returned x response is same h = λ o told.
     h ∙ (ap (with_response x) same ∙ sym (ap (set_plan c) (subst (λ (y : Result SetPlan SetFault). IsOutcomeOf y o) is told)))
 planned_set (Err e) c returned x response is same h = tt
 
+-- what answers a fault whatever is made of a plan
+abbrev pub AnswersFault : Result Plan NoMemory → Invocation → SetFault → Type 0
+AnswersFault r c fault = IfOk r (λ p. (make : sets.Plan → Plan) (o : Outcome) → ExplainsSet fault o → p ≡ unless_rejected c make o)
+
 -- a set that is rejected is answered by its error
-pub refused_set : (r : Result Plan NoMemory) (c : Invocation) (returned : Result SetPlan SetFault) (e : SetFault) → returned ≡ Err e → IfOk r (λ p. (o : Outcome) → ExplainsSet e o → p ≡ set_plan c o)
+pub refused_set : (r : Result Plan NoMemory) (c : Invocation) (returned : Result SetPlan SetFault) (e : SetFault) → returned ≡ Err e → AnswersFault r c e
     → IfOk r (λ p. (o : Outcome) → IsOutcomeOf returned o → p ≡ set_plan c o)
-refused_set (Ok p) c returned e is all = λ o told. all o (subst (λ (y : Result SetPlan SetFault). IsOutcomeOf y o) is told)
+refused_set (Ok p) c returned e is all = λ o told. all (planned_with c) o (subst (λ (y : Result SetPlan SetFault). IsOutcomeOf y o) is told)
 refused_set (Err x) c returned e is all = tt
 
-pub rejected_set : (r : Result Plan NoMemory) (c : Invocation) (fault e : SetFault) (kind : List ℕ) → fault ≡ e → ((o : Outcome) → ExplainsSet e o → set_plan c o ≡ refused c kind) → IfOk r (λ p. p ≡ refused c kind)
-    → IfOk r (λ p. (o : Outcome) → ExplainsSet fault o → p ≡ set_plan c o)
-rejected_set (Ok p) c fault e kind is tells h = λ o told. h ∙ sym (tells o (subst (λ (y : SetFault). ExplainsSet y o) is told))
+pub rejected_set : (r : Result Plan NoMemory) (c : Invocation) (fault e : SetFault) (kind : List ℕ) → fault ≡ e
+    → ((make : sets.Plan → Plan) (o : Outcome) → ExplainsSet e o → unless_rejected c make o ≡ refused c kind) → IfOk r (λ p. p ≡ refused c kind) → AnswersFault r c fault
+rejected_set (Ok p) c fault e kind is tells h = λ make o told. h ∙ sym (tells make o (subst (λ (y : SetFault). ExplainsSet y o) is told))
 rejected_set (Err x) c fault e kind is tells h = tt

@@ -1,16 +1,10 @@
--- What is planned for an upload, and which bytes an identifier names (RFC 8620, 6.1 and 6.2; RFC
--- 8621, 4.1.4: blobId).
-use Rattle.std.specs.Prelude.{ℕ, ◌+◌, nat_lt, nat_le, Bool, true, false, ◌&&◌, List, [], ◌∷◌, length, Option, Some, None}
-use Rattle.blob_ids.specs.BlobIds.{blob_id_in}
-use Rattle.blob_ids.specs.declared.ids.BlobId.{BlobId}
-use Rattle.blob_store.specs.Blobs.{blob_numbered, byte_count}
+-- What is planned for an upload (RFC 8620, 6.1).
+use Rattle.std.specs.Prelude.{ℕ, ◌+◌, nat_lt, nat_le, Bool, true, false, ◌&&◌, List, [], ◌∷◌, length}
+use Rattle.blob_store.specs.Blobs.{byte_count}
 use Rattle.blob_store.specs.declared.limits.TheConstants.{MAX_BLOB_BYTES_PER_ACCOUNT, MAX_BLOBS_PER_ACCOUNT}
 use Rattle.mail_records.specs.Histories.{History, blobs_of}
-use Rattle.mail_summary.specs.Leaves.{part_bytes_of}
 use Rattle.account_book.specs.declared.plans.Out.TheVariants.{Uploaded, Full}
 use Rattle.account_book.specs.declared.plans.Plan.{Plan}
-
--- ---- uploads
 
 -- one more blob of this many bytes is within the limits of an account
 abbrev pub has_room : ℕ → List (List ℕ) → Bool
@@ -34,20 +28,3 @@ upload_if false number bytes = full
 abbrev pub upload_plan : History → List ℕ → Plan
 upload_plan h bytes =
     upload_if (has_room (length bytes) (blobs_of h)) (length (blobs_of h) + 1) bytes
-
--- ---- bytes by an identifier
-
--- the bytes of a blob, or of the leaf with this number of the message that the blob holds
-abbrev pub bytes_in : Option (List ℕ) → Option ℕ → Option (List ℕ)
-bytes_in None leaf = None
-bytes_in (Some blob) None = Some blob
-bytes_in (Some blob) (Some number) = part_bytes_of blob number
-
-abbrev pub bytes_by : List (List ℕ) → Option BlobId → Option (List ℕ)
-bytes_by blobs None = None
-bytes_by blobs (Some id) = bytes_in (blob_numbered id.blob blobs) id.leaf
-
--- The bytes that an identifier names: those of a blob, or the decoded bytes of a leaf of the
--- message that a blob holds. None if it names neither.
-abbrev pub bytes_named : List (List ℕ) → List ℕ → Option (List ℕ)
-bytes_named blobs name = bytes_by blobs (blob_id_in name)

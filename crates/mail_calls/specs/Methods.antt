@@ -1,6 +1,8 @@
 -- The names of the methods of mail (RFC 8621): one line a method that is built.
 use Rattle.std.specs.Prelude.{ℕ, List, codes, bytes_eq, if◌then◌else◌, Option, Some, None}
 use Rattle.jm_base.specs.declared.identifiers.Kind.TheVariants.{Mailbox, Email, Thread}
+use Rattle.mail_calls.specs.declared.methods.CopyMethod.{CopyMethod}
+use Rattle.mail_calls.specs.declared.methods.CopyMethod.TheVariants.{Emails, Blobs}
 use Rattle.mail_calls.specs.declared.methods.Method.{Method}
 use Rattle.mail_calls.specs.declared.methods.Method.TheVariants.{Get, Changes, MailboxSet, EmailSet, EmailImport, EmailParse, Query, QueryChanges}
 
@@ -22,3 +24,10 @@ method_named name =
     else (if bytes_eq name (codes "Email/import") then Some EmailImport
     else (if bytes_eq name (codes "Email/parse") then Some EmailParse
     else None)))))))))))))
+
+-- the method of a name that copies from one account to another (RFC 8620, 6.3; RFC 8621, 4.7)
+abbrev pub copy_method_named : List ℕ → Option CopyMethod
+copy_method_named name =
+    if bytes_eq name (codes "Email/copy") then Some Emails
+    else (if bytes_eq name (codes "Blob/copy") then Some Blobs
+    else None)

@@ -1,6 +1,6 @@
--- What calls on a mail account plan (RFC 8620, 6; RFC 8621). Of the methods the /get and /changes
--- of each kind, the /query and /queryChanges of mailboxes and emails, Mailbox/set, Email/set
--- without creates, Email/import and Email/parse are built.
+-- What calls on a mail account plan (RFC 8620, 5.4 and 6; RFC 8621). Of the methods the /get and
+-- /changes of each kind, the /query and /queryChanges of mailboxes and emails, Mailbox/set,
+-- Email/set without creates, Email/import, Email/parse, Email/copy and Blob/copy are built.
 use Rattle.std.specs.Prelude.{◌≡◌, ℕ, List, [], ◌∷◌, Bool, codes, Option, Some, None, Result, MatchResult}
 use Rattle.jm_json.specs.Call.{Call as Invocation, error_of}
 use Rattle.jm_json.specs.Invocations.{call_of}
@@ -30,18 +30,20 @@ use Rattle.query_changes.specs.Responses.{query_changes_outcome}
 use Rattle.account_book.specs.declared.asks.Ask.{Ask}
 use Rattle.account_book.specs.declared.asks.Ask.TheVariants.{Method, Upload, Blob, Fetch, Place, States}
 use Rattle.account_book.specs.declared.asks.Call.{Call}
+use Rattle.account_book.specs.declared.asks.Carried.{Carried}
 use Rattle.account_book.specs.declared.plans.Out.{Out}
 use Rattle.account_book.specs.declared.plans.Out.TheVariants.{Replies}
 use Rattle.account_book.specs.declared.plans.Out.TheVariants as out
 use Rattle.account_book.specs.declared.plans.Plan.{Plan}
-use Rattle.mail_calls.specs.BlobPlans.{bytes_named, upload_plan}
-use Rattle.mail_calls.specs.Methods.{method_named}
+use Rattle.mail_calls.specs.BlobPlans.{upload_plan}
+use Rattle.mail_copies.specs.Plans.{place_in}
+use Rattle.copy_calls.specs.BlobCopies.{BlobPlan, blob_plan_in, blob_rejection, blobs_fetched_in, bytes_named}
+use Rattle.copy_calls.specs.Fetches.{fetch_rejection, fetched_in}
+use Rattle.mail_calls.specs.Methods.{copy_method_named, method_named}
+use Rattle.mail_calls.specs.declared.methods.CopyMethod.{CopyMethod}
+use Rattle.mail_calls.specs.declared.methods.CopyMethod.TheVariants.{Emails, Blobs}
 use Rattle.mail_calls.specs.declared.methods.Method.{Method as MailMethod}
 use Rattle.mail_calls.specs.declared.methods.Method.TheVariants.{Get, Changes, MailboxSet, EmailSet, EmailImport, EmailParse, Query, QueryChanges}
-
--- nothing is answered, and nothing changed
-abbrev pub silent : Plan
-silent = record { out = Replies (record { responses = []; made = [] }); blobs = []; edits = [] }
 
 -- this is answered, and nothing changed
 abbrev pub reading : Out → Plan
@@ -104,18 +106,26 @@ query_changes_plan c query_change.cannot_tell = refused c (codes "cannotCalculat
 query_changes_plan c query_change.too_many_changes = refused c (codes "tooManyChanges")
 query_changes_plan c (query_change.replied reply) = answered (response_to c reply)
 
--- the plan of a set or of an import
-abbrev pub set_plan : Invocation → Outcome → Plan
-set_plan c (sets.invalid name) = refused c (codes "invalidArguments")
-set_plan c sets.too_large = refused c (codes "requestTooLarge")
-set_plan c sets.state_mismatch = refused c (codes "stateMismatch")
-set_plan c (sets.planned p) = record {
+-- the plan of a call that may be rejected as a whole: the error, else what is made of its plan
+abbrev pub unless_rejected : Invocation → (sets.Plan → Plan) → Outcome → Plan
+unless_rejected c make (sets.invalid name) = refused c (codes "invalidArguments")
+unless_rejected c make sets.too_large = refused c (codes "requestTooLarge")
+unless_rejected c make sets.state_mismatch = refused c (codes "stateMismatch")
+unless_rejected c make (sets.planned p) = make p
+
+-- the response of a plan, what it creates, its blobs and its edits
+abbrev pub planned_with : Invocation → sets.Plan → Plan
+planned_with c p = record {
   out = Replies (record { responses = response_to c p.reply ∷ []; made = p.made });
-  blobs = [];
+  blobs = p.blobs;
   edits = p.edits;
 }
 
--- what the planner of a set or of an import returned tells this outcome
+-- the plan of a set, of an import, or of copies
+abbrev pub set_plan : Invocation → Outcome → Plan
+set_plan c o = unless_rejected c (planned_with c) o
+
+-- what the planner of a set, of an import or of copies returned tells this outcome
 abbrev pub IsOutcomeOf : Result SetPlan SetFault → Outcome → Type 0
 IsOutcomeOf returned o =
     MatchResult returned (λ p. o ≡ sets.planned (plan_of p)) (λ e. ExplainsSet e o)
@@ -132,8 +142,8 @@ abbrev pub email_set_plan : Invocation → List Created → Ground → Plan
 email_set_plan c made g = set_plan c (email_set_outcome g c.args made)
 
 -- The plan of a method of mail, or of a name that is none's: over an account with this history,
--- with what the request has made so far, of a user to whom the account is read-only or not, at a
--- moment.
+-- with what the request has made up to here, of a user to whom the account is read-only or not, at
+-- a moment.
 abbrev pub plan_by : History → Invocation → List Created → Bool → ℕ → Option MailMethod → Plan
 plan_by h c made read_only moment None = refused c (codes "unknownMethod")
 plan_by h c made read_only moment (Some (Get kind)) =
@@ -156,13 +166,73 @@ abbrev pub method_plan : History → Invocation → List Created → Bool → �
 method_plan h c made read_only moment =
     plan_by h c made read_only moment (method_named c.name)
 
--- The plan of what is asked. Both sides of an Email/copy are not built.
+-- ---- the two sides of a copy
+
+-- this plan, unless there is a reason to reject the call as a whole
+abbrev pub unless_for : Invocation → Plan → Option Outcome → Plan
+unless_for c p None = p
+unless_for c p (Some o) = unless_rejected c (λ q. p) o
+
+-- what an Email/copy fetches in the account of the originals
+abbrev pub originals_plan : History → Invocation → Plan
+originals_plan h c =
+    unless_for c (reading (out.Carried (fetched_in h c.args))) (fetch_rejection h c.args)
+
+-- what a Blob/copy fetches in the account of the blobs
+abbrev pub blobs_plan : History → Invocation → Plan
+blobs_plan h c =
+    unless_for c (reading (out.Carried (blobs_fetched_in h c.args))) (blob_rejection c.args)
+
+-- the plan of an Email/copy in the account of the copies
+abbrev pub copies_plan : History → Invocation → Carried → List Created → ℕ → Plan
+copies_plan h c carried made moment = set_plan c (place_in h c.args carried made moment)
+
+-- the response of the plan of a Blob/copy, with its blobs
+abbrev pub blobs_planned : Invocation → BlobPlan → Plan
+blobs_planned c p = record {
+  out = Replies (record { responses = response_to c p.reply ∷ []; made = [] });
+  blobs = p.blobs;
+  edits = [];
+}
+
+-- the plan of a Blob/copy in the account of the copies
+abbrev pub blob_copies_plan : History → Invocation → Carried → Plan
+blob_copies_plan h c carried =
+    unless_for c (blobs_planned c (blob_plan_in h c.args carried)) (blob_rejection c.args)
+
+-- What a method that copies, or a name of none, fetches: what is carried, or the error. Nothing
+-- is changed.
+abbrev pub fetch_by : History → Invocation → Option CopyMethod → Plan
+fetch_by h c None = refused c (codes "unknownMethod")
+fetch_by h c (Some Emails) = originals_plan h c
+fetch_by h c (Some Blobs) = blobs_plan h c
+
+abbrev pub fetch_plan : History → Invocation → Plan
+fetch_plan h c = fetch_by h c (copy_method_named c.name)
+
+-- The plan of what is carried to an account, whatever it is, by a method that copies, or a name of
+-- none.
+abbrev pub placement_by : History → Invocation → Carried → List Created → ℕ → Option CopyMethod
+    → Plan
+placement_by h c carried made moment None = refused c (codes "unknownMethod")
+placement_by h c carried made moment (Some Emails) = copies_plan h c carried made moment
+placement_by h c carried made moment (Some Blobs) = blob_copies_plan h c carried
+
+abbrev pub placement_plan : History → Invocation → Carried → List Created → ℕ → Plan
+placement_plan h c carried made moment =
+    placement_by h c carried made moment (copy_method_named c.name)
+
+-- ---- whatever is asked
+
+-- The plan of what is asked. A method that copies is asked of two accounts by `Fetch` and `Place`,
+-- and is no method of one.
 abbrev pub ask_plan : History → Ask → List Created → Bool → ℕ → Plan
 ask_plan h (Method c) made read_only moment = method_plan h (call_of c) made read_only moment
 ask_plan h (Upload bytes) made read_only moment = upload_plan h bytes
 ask_plan h (Blob name) made read_only moment = reading (out.Blob (bytes_named (blobs_of h) name))
-ask_plan h (Fetch c) made read_only moment = silent
-ask_plan h (Place c carried) made read_only moment = silent
+ask_plan h (Fetch c) made read_only moment = fetch_plan h (call_of c)
+ask_plan h (Place c carried) made read_only moment =
+    placement_plan h (call_of c) carried made moment
 ask_plan h States made read_only moment =
     reading (out.States (state_of h OfMailbox) (state_of h OfEmail) (state_of h OfThread))
 

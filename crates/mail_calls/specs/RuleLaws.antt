@@ -1,6 +1,8 @@
 -- What the rules of mail promise of plans, and of when an account is valid.
-use Rattle.std.proofs.Common.{◌≡◌, ◌↔◌, ℕ, ◌+◌, ◌≤◌, Bool, true, false, List, [], ◌∷◌, ◌++◌, None, length, refl, sym, ap, ap₂, ◌∙◌, subst, ◌^◌, arith, length-append, append-nil, append_assoc}
+use Rattle.std.proofs.Common.{◌≡◌, ◌↔◌, ℕ, ◌+◌, ◌≤◌, Bool, true, false, List, [], ◌∷◌, ◌++◌, Option, Some, None, length, refl, sym, ap, ap₂, ◌∙◌, subst, ◌^◌, arith, length-append, append-nil, append_assoc}
 use Rattle.std.specs.List.{AllByRecursion}
+use Rattle.jm_json.specs.Call.{Call as Invocation}
+use Rattle.jm_json.specs.Invocations.{call_of}
 use Rattle.mail_records.specs.Commits.{IsFormed, IsFormedEdit}
 use Rattle.mail_records.specs.Contents.{Content, NextAtMost}
 use Rattle.mail_records.specs.Edits.{AllFit, IsSmall, after_edits}
@@ -26,14 +28,22 @@ use Rattle.blob_store.specs.Blobs.{AreBlobsFew}
 use Rattle.account_book.specs.Accounts.{without_refusals}
 use Rattle.account_book.specs.Laws.{IsFounded-without_refusals, IsFounded-with_refusals, edits_of-without_refusals, blobs_of-without_refusals, edit_bytes-moved_up}
 use Rattle.account_book.specs.Plans.{IsPlanFor, last_moment}
-use Rattle.account_book.specs.Replies.{IsWithin, commit_of}
+use Rattle.account_book.specs.Replies.{IsIdle, IsWithin, commit_of}
 use Rattle.account_book.specs.declared.limits.TheConstants.{MAX_EDIT_BYTES}
 use Rattle.account_book.specs.declared.asks.Ask.{Ask}
 use Rattle.account_book.specs.declared.asks.Ask.TheVariants.{Method, Upload, Blob, Fetch, Place, States}
 use Rattle.account_book.specs.declared.asks.Call.{Call}
+use Rattle.account_book.specs.declared.plans.Out.TheVariants as out
 use Rattle.account_book.specs.declared.plans.Plan.{Plan}
+use Rattle.set_parts.specs.Outcomes.{Outcome}
+use Rattle.set_parts.specs.Outcomes as sets
+use Rattle.copy_calls.specs.BlobCopies.{blob_rejection, blobs_fetched_in}
+use Rattle.copy_calls.specs.Fetches.{fetch_rejection, fetched_in}
 use Rattle.mail_calls.specs.BlobPlans.{has_room, upload_if}
-use Rattle.mail_calls.specs.Plans.{call_plan, ask_plan}
+use Rattle.mail_calls.specs.Methods.{copy_method_named}
+use Rattle.mail_calls.specs.Plans.{reading, call_plan, ask_plan, unless_for, fetch_by}
+use Rattle.mail_calls.specs.declared.methods.CopyMethod.{CopyMethod}
+use Rattle.mail_calls.specs.declared.methods.CopyMethod.TheVariants.{Emails, Blobs}
 use Rattle.mail_calls.specs.ValidAccounts.{IsWhole}
 use Rattle.mail_calls.specs.ValidAfterCommits.{IsWholeMail, Keeps, grown_whole}
 use Rattle.mail_calls.specs.ValidAfterCalls.{call_keeps}
@@ -63,13 +73,32 @@ upload_reads : (b : Bool) (number : ℕ) (bytes : List ℕ) → (upload_if b num
 upload_reads true number bytes = refl
 upload_reads false number bytes = refl
 
+unless_reads : (call : Invocation) (p : Plan) → IsIdle p → (o : Option Outcome)
+    → IsIdle (unless_for call p o)
+unless_reads call p idle None = idle
+unless_reads call p idle (Some (sets.invalid name)) = (refl, refl)
+unless_reads call p idle (Some sets.too_large) = (refl, refl)
+unless_reads call p idle (Some sets.state_mismatch) = (refl, refl)
+unless_reads call p idle (Some (sets.planned q)) = idle
+
+fetch_reads : (h : History) (call : Invocation) (m : Option CopyMethod)
+    → IsIdle (fetch_by h call m)
+fetch_reads h call None = (refl, refl)
+fetch_reads h call (Some Emails) =
+    unless_reads call (reading (out.Carried (fetched_in h call.args))) (refl, refl)
+    (fetch_rejection h call.args)
+fetch_reads h call (Some Blobs) =
+    unless_reads call (reading (out.Carried (blobs_fetched_in h call.args))) (refl, refl)
+    (blob_rejection call.args)
+
 ask_reads : (h : History) (ask : Ask) (call : Call) (moment : ℕ)
     → IsPlanFor ask (ask_plan h ask call.made call.read_only moment)
 ask_reads h (Method c) call moment = tt
 ask_reads h (Upload bytes) call moment =
     upload_reads (has_room (length bytes) (blobs_of h)) (length (blobs_of h) + 1) bytes
 ask_reads h (Blob name) call moment = (refl, refl)
-ask_reads h (Fetch c) call moment = (refl, refl)
+ask_reads h (Fetch c) call moment =
+    let copy = call_of c in fetch_reads h copy (copy_method_named copy.name)
 ask_reads h (Place c carried) call moment = tt
 ask_reads h States call moment = (refl, refl)
 

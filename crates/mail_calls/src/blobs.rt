@@ -1,18 +1,17 @@
 // Plans of uploads, and the bytes that identifiers name (RFC 8620, sections 6.1 and 6.2).
-ghost use Rattle.std.specs.Prelude.{◌≡◌, ◌+◌, IfOk, option_map, length};
-ghost use Rattle.blob_store.specs.Blobs.{blob_numbered};
+ghost use Rattle.std.specs.Prelude.{◌≡◌, ◌+◌, IfOk, length};
+ghost use Rattle.copy_calls.specs.BlobCopies.{bytes_named};
 ghost use Rattle.mail_records.specs.Histories.{blobs_of};
 ghost use Rattle.mail_records.specs.States.{state_of};
 ghost use Rattle.jm_base.specs.declared.identifiers.Kind.TheVariants as kind;
-ghost use Rattle.mail_calls.specs.BlobPlans.{bytes_by, bytes_in, bytes_named, has_room, upload_if, upload_plan, uploaded};
+ghost use Rattle.mail_calls.specs.BlobPlans.{has_room, upload_if, upload_plan, uploaded};
 ghost use Rattle.mail_calls.specs.Plans.{reading};
 
 use account_book::{Account, Out, Plan};
-use blob_ids::{BlobId, read_blob_id};
 use blob_store::BlobList;
+use copy_calls::read_named;
 use jm_base::{Blobs, Bytes, Kind, NoMemory};
 use mail_records::Edits;
-use mail_summary::part_bytes;
 use std::alloc::Global;
 
 /// Returns the plan that answers this and changes nothing.
@@ -68,47 +67,6 @@ pub(crate) fn plan_upload(alloc: Global, account: &Account, bytes: &[u8]) -> Res
     plan_upload_if(alloc, room, blobs.all().len() as u64 + 1, bytes)
 }
 
-// Lends the blob of this number.
-fn blob_with(blobs: &BlobList, number: u64) -> Option<&[u8]>
-    ensures { option_map (λ b. b.now) result ≡ blob_numbered number blobs.now.blobs }
-{
-    match blobs.get(number) {
-        Ok(blob) => Some(blob),
-        Err(_) => None,
-    }
-}
-
-// Returns the bytes of a blob, or of a leaf of the message that the blob holds.
-fn read_bytes(
-    alloc: Global,
-    blob: Option<&[u8]>,
-    leaf: Option<u64>,
-) -> Result<Option<Bytes>, NoMemory>
-    ensures { IfOk result (λ b. b ≡ bytes_in (option_map (λ x. x.now) blob.entry) leaf) }
-{
-    match blob {
-        Some(bytes) => match leaf {
-            Some(number) => part_bytes(alloc, bytes, number),
-            None => Ok(Some(Bytes::from_slice(alloc, bytes)?)),
-        },
-        None => Ok(None),
-    }
-}
-
-// Returns the bytes that an identifier names.
-fn read_named(
-    alloc: Global,
-    blobs: &BlobList,
-    id: Option<BlobId>,
-) -> Result<Option<Bytes>, NoMemory>
-    ensures { IfOk result (λ b. b ≡ bytes_by blobs.now.blobs id) }
-{
-    match id {
-        Some(id) => read_bytes(alloc, blob_with(blobs, id.blob), id.leaf),
-        None => Ok(None),
-    }
-}
-
 /// Returns the plan that answers the bytes which a string names: those of a blob, or the decoded
 /// bytes of a leaf of the message that a blob holds (RFC 8620, section 6.2; RFC 8621, section
 /// 4.1.4).
@@ -117,7 +75,7 @@ pub(crate) fn plan_bytes(alloc: Global, account: &Account, name: &str) -> Result
     ensures { IfOk result
         (λ p. p ≡ reading (Out.Blob (bytes_named (blobs_of account.now.history) name.now))) }
 {
-    let bytes = read_named(alloc, account.blobs(), read_blob_id(name.as_bytes()))?;
+    let bytes = read_named(alloc, account.blobs(), name)?;
     Ok(plan_reading(alloc, Out::Blob(bytes)))
 }
 

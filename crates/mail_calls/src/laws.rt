@@ -34,7 +34,7 @@ pub fn planned_edits_keep_accounts_valid()
 {}
 
 /// From a valid account, each put of a call's plan has the flag `counts` if and only if it changes
-/// only the counts of a mailbox that is there. `updatedProperties` is told from these flags (RFC
+/// only the counts of a mailbox that is there. `updatedProperties` follows from these flags (RFC
 /// 8621, section 2.2).
 pub fn plans_say_which_puts_change_only_counts()
     ensures { (h : History) (call : Call) (moment : ℕ) → IsWholeMail h

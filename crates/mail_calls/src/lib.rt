@@ -3,6 +3,7 @@
 #![tactic(auto)]
 
 mod blobs;
+mod copies;
 mod laws;
 mod methods;
 mod plans;
@@ -13,5 +14,5 @@ pub use laws::{
     planned_edits_keep_accounts_valid, plans_say_which_puts_change_only_counts,
     states_change_at_edits_of_their_kind, summaries_can_be_kept,
 };
-pub use methods::Method;
+pub use methods::{CopyMethod, Method};
 pub use rules::MailRules;

@@ -1,6 +1,6 @@
 // The methods of mail, by their names (RFC 8621): one line a method that is built.
 ghost use Rattle.std.specs.Prelude.{◌≡◌};
-ghost use Rattle.mail_calls.specs.Methods.{method_named};
+ghost use Rattle.mail_calls.specs.Methods.{copy_method_named, method_named};
 
 use jm_base::Kind;
 
@@ -26,6 +26,16 @@ pub enum Method {
     EmailImport,
     /// `Email/parse` (RFC 8621, section 4.9).
     EmailParse,
+}
+
+/// A method that copies from one account to another. It is asked of both, with
+/// `Ask::Fetch` and `Ask::Place`, and is no method of one account.
+#[derive(Clone, Copy, Debug, PartialEq, Eq)]
+pub enum CopyMethod {
+    /// `Email/copy` (RFC 8621, section 4.7).
+    Emails,
+    /// `Blob/copy` (RFC 8620, section 6.3).
+    Blobs,
 }
 
 /// Returns the method of a name, or None if no method that is built has the name.
@@ -73,6 +83,19 @@ pub(crate) fn read_method(name: &str) -> Option<Method>
     }
     if name == "Email/parse" {
         return Some(Method::EmailParse);
+    }
+    None
+}
+
+/// Returns the method that copies and has this name, or None if none has it.
+pub(crate) fn read_copy_method(name: &str) -> Option<CopyMethod>
+    ensures { result ≡ copy_method_named name.now }
+{
+    if name == "Email/copy" {
+        return Some(CopyMethod::Emails);
+    }
+    if name == "Blob/copy" {
+        return Some(CopyMethod::Blobs);
     }
     None
 }

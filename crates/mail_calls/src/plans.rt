@@ -5,17 +5,18 @@ ghost use Rattle.jm_json.specs.Json.{tree_of};
 ghost use Rattle.mail_view.specs.Gets.{get_of_kind};
 ghost use Rattle.mail_view.specs.Parses.{parse_in};
 ghost use Rattle.mailbox_set.specs.Sets.{mailbox_set_outcome};
-ghost use Rattle.set_parts.specs.Outcomes.{ExplainsSet, Outcome};
+ghost use Rattle.set_parts.specs.Outcomes.{ExplainsSet, Outcome, Plan as SetPlanned};
 ghost use Rattle.email_set.specs.Plans.{email_set_outcome};
 ghost use Rattle.mail_import.specs.Plans.{import_in};
 ghost use Rattle.change_calls.specs.Responses.{ExplainsCall, changes_outcome, replied};
-ghost use Rattle.mail_calls.specs.Plans.{IsOutcomeOf, answered, changes_plan, get_plan, ground_in, method_plan, refused, response_to, set_plan, silent, queried, query_plan, query_changed, query_changes_plan};
+ghost use Rattle.mail_calls.specs.Plans.{IsOutcomeOf, answered, changes_plan, get_plan, ground_in, method_plan, refused, response_to, set_plan, queried, query_plan, query_changed, query_changes_plan, unless_rejected};
 ghost use Rattle.query_engine.specs.Responses as queries;
 ghost use Rattle.query_changes.specs.Responses as query_change;
 ghost use Rattle.account_book.specs.Accounts.{IsBounded};
 ghost use Rattle.account_book.specs.Plans.{last_moment};
+ghost use Rattle.account_book.specs.declared.plans.Plan.{Plan as ThePlan};
 
-use crate::blobs::{plan_reading, state_in};
+use crate::blobs::state_in;
 use crate::methods::{Method, read_method};
 use account_book::{Account, Out, Plan};
 use change_calls::{CallFault, answer_changes};
@@ -32,30 +33,18 @@ use query_changes::{QueryChangesFault, answer_query_changes};
 use query_engine::{QueryCallFault, answer_query};
 use std::alloc::Global;
 
-/// Returns the plan that answers nothing and changes nothing.
-pub(crate) fn plan_nothing(alloc: Global) -> Plan
-    ensures { result ≡ silent }
-{
-    plan_reading(
-        alloc,
-        Out::Replies(Replied {
-            responses: Invocations::new(alloc),
-            made: Made::new(alloc),
-        }),
-    )
-}
-
-// Returns the plan that answers one response, with what was created and the edits.
-fn plan_with(
+/// Returns the plan that answers one response, with what was created, the blobs and the edits.
+pub(crate) fn plan_with(
     alloc: Global,
     response: Invocation,
     made: Made,
+    blobs: Blobs,
     edits: Edits,
 ) -> Result<Plan, NoMemory>
     ensures { IfOk result (λ p. p ≡ record {
       out = Out.Replies
           (record { responses = call_of response ∷ []; made = made });
-      blobs = [];
+      blobs = blobs;
       edits = edits;
     }) }
 {
@@ -63,21 +52,29 @@ fn plan_with(
     responses.push(response)?;
     Ok(Plan {
         out: Out::Replies(Replied { responses, made }),
-        blobs: Blobs::new(alloc),
+        blobs,
         edits,
     })
 }
 
-// Returns the plan that answers an error of this type (RFC 8620, section 3.6.2).
-fn plan_error(alloc: Global, call: &Invocation, kind: &str) -> Result<Plan, NoMemory>
+// Returns the plan that answers one response, and changes nothing.
+fn plan_reply(alloc: Global, response: Invocation) -> Result<Plan, NoMemory>
+    ensures { IfOk result (λ p. p ≡ answered (call_of response)) }
+{
+    let blobs = Blobs::new(alloc);
+    plan_with(alloc, response, Made::new(alloc), blobs, Edits::new(alloc))
+}
+
+/// Returns the plan that answers an error of this type (RFC 8620, section 3.6.2).
+pub(crate) fn plan_error(alloc: Global, call: &Invocation, kind: &str) -> Result<Plan, NoMemory>
     ensures { IfOk result (λ p. p ≡ refused (call_of call.now) kind.now) }
 {
     let response = Invocation::error(alloc, kind, call.id.copy()?)?;
-    plan_with(alloc, response, Made::new(alloc), Edits::new(alloc))
+    plan_reply(alloc, response)
 }
 
-// Returns the response to a call, with these arguments (RFC 8620, section 3.4).
-fn make_response(call: &Invocation, args: Json) -> Result<Invocation, NoMemory>
+/// Returns the response to a call, with these arguments (RFC 8620, section 3.4).
+pub(crate) fn make_response(call: &Invocation, args: Json) -> Result<Invocation, NoMemory>
     ensures { IfOk result (λ c. call_of c ≡ response_to (call_of call.now) (tree_of args)) }
 {
     Ok(Invocation {
@@ -92,7 +89,7 @@ fn plan_response(alloc: Global, call: &Invocation, args: Json) -> Result<Plan, N
     ensures { IfOk result (λ p. p ≡ answered (response_to (call_of call.now) (tree_of args))) }
 {
     let response = make_response(call, args)?;
-    plan_with(alloc, response, Made::new(alloc), Edits::new(alloc))
+    plan_reply(alloc, response)
 }
 
 // Returns the plan of a get of records of a kind (RFC 8621, sections 2.1, 3.1 and 4.2).
@@ -251,10 +248,14 @@ fn plan_query_changes(
     }
 }
 
-// Returns the plan that answers a set or an import that is rejected with this fault.
-fn answer_set_fault(alloc: Global, call: &Invocation, fault: &SetFault) -> Result<Plan, NoMemory>
-    ensures { IfOk result (λ p. (o : Outcome) → ExplainsSet fault.now o
-        → p ≡ set_plan (call_of call.now) o) }
+/// Returns the plan that answers a set, an import or a copy that is rejected with this fault.
+pub(crate) fn answer_set_fault(
+    alloc: Global,
+    call: &Invocation,
+    fault: &SetFault,
+) -> Result<Plan, NoMemory>
+    ensures { IfOk result (λ p. (make : SetPlanned → ThePlan) (o : Outcome)
+        → ExplainsSet fault.now o → p ≡ unless_rejected (call_of call.now) make o) }
 {
     match fault {
         SetFault::Invalid(_) => plan_error(alloc, call, "invalidArguments"),
@@ -264,8 +265,8 @@ fn answer_set_fault(alloc: Global, call: &Invocation, fault: &SetFault) -> Resul
     }
 }
 
-// Returns the plan that answers a set or an import, whose planner returned this.
-fn answer_set(
+/// Returns the plan that answers a set, an import or copies, whose planner returned this.
+pub(crate) fn answer_set(
     alloc: Global,
     call: &Invocation,
     returned: Result<SetPlan, SetFault>,
@@ -276,7 +277,7 @@ fn answer_set(
     match returned {
         Ok(plan) => {
             let response = make_response(call, plan.reply)?;
-            plan_with(alloc, response, plan.made, plan.edits)
+            plan_with(alloc, response, plan.made, plan.blobs, plan.edits)
         }
         Err(fault) => answer_set_fault(alloc, call, &fault),
     }
@@ -329,9 +330,9 @@ fn plan_imports(
     answer_set(alloc, call, returned)
 }
 
-/// Returns the plan of a method over an account, with what the request has made so far, of a user
-/// to whom the account is read-only or not, at a moment in seconds since the beginning of 1970. A
-/// name that no method has is answered with `unknownMethod` (RFC 8620, section 3.6.2).
+/// Returns the plan of a method over an account, with what the request has made up to here, of a
+/// user to whom the account is read-only or not, at a moment in seconds since the beginning of
+/// 1970. A name that no method has is answered with `unknownMethod` (RFC 8620, section 3.6.2).
 pub(crate) fn plan_method(
     alloc: Global,
     account: &Account,

@@ -2,7 +2,8 @@
 ghost use Rattle.std.specs.Prelude.{◌≡◌};
 
 use crate::blobs::{plan_bytes, plan_states, plan_upload};
-use crate::plans::{plan_method, plan_nothing};
+use crate::copies::{plan_fetch, plan_placement};
+use crate::plans::plan_method;
 use crate::validity::is_whole;
 use account_book::{Account, Ask, Call, Plan, Rules};
 use jm_base::NoMemory;
@@ -37,7 +38,10 @@ impl Rules for MailRules {
             Ask::Upload(bytes) => plan_upload(alloc, account, bytes.as_slice()),
             Ask::Blob(name) => plan_bytes(alloc, account, name.as_str()),
             Ask::States => Ok(plan_states(alloc, account)),
-            Ask::Fetch(_) | Ask::Place(_, _) => Ok(plan_nothing(alloc)),
+            Ask::Fetch(copy) => plan_fetch(alloc, account, copy),
+            Ask::Place(copy, carried) => {
+                plan_placement(alloc, account, copy, carried, &call.made, moment)
+            }
         }
     }
 

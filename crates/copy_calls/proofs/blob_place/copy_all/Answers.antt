@@ -45,8 +45,8 @@ loop-i-preserved c =
     let grown = ap first_mentions more ∙ mentions_grow ts s new in
     let was : BlobCopying = after_blobs blobs f no_blobs (first_mentions ts) in
     let here = delivered_here ids ds i (record { ref_ptr = (0, 0); now = [] }) c.loop-i-test.true new in
-    let is : after_blobs blobs f no_blobs (first_mentions (map (λ t. t.now) (take (i + 1) ids))) ≡ after_blob blobs was s (option_map delivery_of c.delivery_at.result) =
-    ap (after_blobs blobs f no_blobs) grown ∙ (after_push blobs f (first_mentions ts) no_blobs s ∙ ap (after_blob blobs was s) (here ∙ sym c.delivery_at.ensures)) in
+    let is : after_blobs blobs f no_blobs (first_mentions (map (λ t. t.now) (take (i + 1) ids))) ≡ after_blob blobs was s (option_map delivery_of c.pick_delivery.result) =
+    ap (after_blobs blobs f no_blobs) grown ∙ (after_push blobs f (first_mentions ts) no_blobs s ∙ ap (after_blob blobs was s) (here ∙ sym c.pick_delivery.ensures)) in
     record {
       counted = c.in_ok-copy_blob.ensures.counted;
       seen = λ q.

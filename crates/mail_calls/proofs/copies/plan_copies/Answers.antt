@@ -1,0 +1,13 @@
+use Rattle.std.proofs.Common.{◌≡◌, IfOk, IfErr}
+use Rattle.jm_json.specs.Invocations.{call_of}
+use Rattle.jm_json.specs.Json.{tree_of}
+use Rattle.mail_copies.specs.Plans.{place_in}
+use Rattle.mail_calls.proofs.Sets.{answer_to, outcome_told}
+use Rattle.mail_calls.proofs.copies.plan_copies.Goals as goal
+
+pub returns : goal.returns
+returns c =
+    let outcome = place_in c.args.account.now.history (tree_of c.args.call.now.args) c.args.carried.now c.args.made.now c.args.moment in
+    answer_to c.answer_set.result (call_of c.args.call.now) c.plan_place-returned.result outcome
+    (outcome_told c.plan_place-returned.result outcome c.plan_place-returned.ensures.outcome c.plan_place-returned.ensures.fault)
+    c.answer_set.ensures
