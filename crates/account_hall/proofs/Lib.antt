@@ -2,7 +2,13 @@ pub mod Gains
 pub mod Turns
 pub mod Orders
 pub mod Fronts
-pub mod Building
 pub mod Steps
 pub mod Splitting
+pub mod Building
 pub mod Counted
+pub mod Places
+pub mod Mapped
+pub mod Pairs
+pub mod Parts
+pub mod Between
+pub mod Grips

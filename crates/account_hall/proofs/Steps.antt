@@ -13,6 +13,7 @@ use Rattle.account_book.specs.declared.plans.Point.{Point}
 use Rattle.account_lock.specs.Entries.{StartsWith, under}
 use Rattle.account_lock.specs.Views.{PassFacts}
 use Rattle.account_hall.specs.Calls.{HasLooked, IsCalled, point_at}
+use Rattle.account_hall.specs.Copies.{IsNextCall}
 use Rattle.account_hall.specs.Histories.{GainsAtMostOne, count_with, history_with, seen_count, stamp_from}
 use Rattle.account_hall.specs.Sessions.{IsCall, IsFree, IsInOrder, IsLook, IsSession, SessionView}
 use Rattle.account_hall.proofs.Fronts.{all_at, all_set, at_set, set_same}
@@ -86,6 +87,11 @@ module _ (plan : History → Call → ℕ → Plan) (s : SessionView) (account :
         reply = subst (λ n. IsReply plan edit_bytes (history_with k'.opening k'.seen) point call (stamp_from k'.opening k'.name n) out) (sym count)
             (subst (λ (x : PassFacts). IsReply plan edit_bytes (history_with x.opening k'.seen) point call (stamp_from x.opening x.name serial) out) (sym c.same) (c.performed.reply account));
       }
+
+  -- the call is the next one, if it begins with what was seen
+  pub is_next : before ≡ seen_count k → IsNextCall plan account call moment s (after_call s account k' point) out
+  unfolding is_call
+  is_next next = record { call_is = is_call; next = next }
 
 module _ (s : SessionView) (account : ℕ) (k k' : PassFacts) (order : IsSession s) (there : slice_get s.passes account ≡ Some k) (l : HasLooked k k') where
   pub session_looked : IsSession (after_look s account k')

@@ -8,7 +8,7 @@ use Rattle.account_book.specs.Passes.{numbered_since}
 use Rattle.account_lock.specs.Entries.{StartsWith}
 use Rattle.account_lock.specs.Passes.{HasEndedAll, HasNoOthers, KeepsEnded, root_of, split_off, taken_in}
 use Rattle.account_lock.specs.Views.{LockFacts, PassFacts}
-use Rattle.account_hall.specs.declared.limits.TheConstants.{MAX_SESSIONS}
+use Rattle.jm_base.specs.declared.limits.TheConstants.{MAX_SESSIONS}
 
 -- an account behind its lock
 pub record RoomFacts (B : Type 0) : Type 0 where

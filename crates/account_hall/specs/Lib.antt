@@ -3,3 +3,5 @@ pub mod Calls
 pub mod Sessions
 pub mod Halls
 pub mod Building
+pub mod Copies
+pub mod Held

@@ -19,6 +19,10 @@ pub record SessionView : Type 0 where
   pub passes : List PassFacts
   pub trail : List Point
 
+-- the session with these passes and this trail
+abbrev pub session_of : List PassFacts → List Point → SessionView
+session_of passes trail = record { passes = passes; trail = trail }
+
 -- the point is one of this account at which the history gained an entry
 abbrev pub is_entered : ℕ → Point → Bool
 is_entered account p = (p.account == account) && (p.after == p.before + 1)

@@ -17,7 +17,7 @@ use std::alloc::Global;
 use std::sync::Wait;
 
 // Performs a call on a book, under the pass of this number.
-fn perform_under<K: Keeper, R: Rules>(
+pub(crate) fn perform_under<K: Keeper, R: Rules>(
     alloc: Global,
     book: &mut Box<Book<K, R>>,
     number: u64,

@@ -6,14 +6,13 @@ ghost use Rattle.account_lock.specs.declared.limits.TheConstants.{MAX_NAMES as T
 ghost use Rattle.account_hall.specs.Halls.{AreOf, IsFrontPass, all_taken_in, HaveHeard, lock_of_pass, one_given, room_view};
 ghost use Rattle.account_hall.specs.Sessions.{IsFree};
 ghost use Rattle.account_hall.specs.declared.front.AdmitFault.TheVariants as TheFault;
-ghost use Rattle.account_hall.specs.declared.limits.TheConstants.{MAX_SESSIONS as TheMaxSessions};
+ghost use Rattle.jm_base.specs.declared.limits.TheConstants.{MAX_SESSIONS as TheMaxSessions};
 
-use crate::MAX_SESSIONS;
 use crate::hall::{Hall, Room};
 use crate::passes::{Passes, Trail};
 use account_book::Rules;
 use account_lock::{AccountLock, AccountView, Pass};
-use jm_base::Sequence;
+use jm_base::{MAX_SESSIONS, Sequence};
 use keep_port::Keeper;
 use std::alloc::Global;
 use std::collections::VecDeque;

@@ -9,15 +9,18 @@
 
 mod build;
 mod calls;
+mod copies;
+mod copying;
 mod front;
 mod hall;
-mod limits;
+mod held;
 mod named;
 mod passes;
+mod taking;
 
 pub use build::build_hall;
+pub use copies::{CopyCall, Originals};
 pub use front::{AdmitFault, Front};
 pub use hall::Hall;
-pub use limits::MAX_SESSIONS;
 pub use named::Named;
 pub use passes::{Passes, Trail};

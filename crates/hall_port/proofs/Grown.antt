@@ -13,7 +13,9 @@ use Rattle.account_book.specs.declared.plans.Point.{Point}
 use Rattle.account_lock.specs.Entries.{StartsWith}
 use Rattle.account_lock.specs.Views.{PassFacts}
 use Rattle.account_hall.specs.Halls.{RoomView}
+use Rattle.account_hall.specs.Copies.{HasBegunCopy, HasTaken, IsCopy, IsNextCall, copy_steps}
 use Rattle.account_hall.specs.Sessions.{IsCall, IsLook, SessionView}
+use Rattle.account_hall.specs.declared.copies.CopyCall.{CopyCall}
 use Rattle.batch_lines.specs.Input.{Seen}
 use Rattle.batch_lines.specs.declared.fault.LinesFault.{LinesFault}
 use Rattle.batch_lines.specs.declared.upload.Uploaded.{Uploaded}
@@ -22,14 +24,16 @@ use Rattle.jmap_http.specs.declared.port.Stored.{Stored}
 use Rattle.jmap_http.specs.declared.served.Served.{Served}
 use Rattle.server_users.specs.Configuration.{Configuration}
 use Rattle.server_users.specs.declared.users.UserAccount.{UserAccount}
+use Rattle.copy_calls.specs.Originals.{originals_call}
 use Rattle.hall_port.specs.Growing.{HasGrown}
 use Rattle.hall_port.specs.Lines.{AnswersLines, HaltsAt, UploadsTo, first_changeable, line_halts, line_uploads}
 use Rattle.hall_port.specs.Serving.{ServesHall, hall_steps, port_over}
-use Rattle.hall_port.specs.Steps.{AnswersBy, HasStopped, IsAsked, IsRead, IsUploaded, StopsBy, begins, calls_by, has_account, hall_answers, hall_halts, hall_reads, hall_stops, hall_uploads}
-use Rattle.hall_port.specs.Targets.{accounts_of, target_of}
+use Rattle.hall_port.specs.Steps.{AnswersBy, AnswersFrom, HasBegunTo, HasStopped, IsAsked, IsRead, IsUploaded, StopsBy, StopsFrom, begins, calls_by, has_account, hall_answers, hall_halts, hall_reads, hall_stops, hall_uploads}
+use Rattle.hall_port.specs.Targets.{accounts_of, source_of, target_of}
 use Rattle.hall_port.specs.Views.{PortView}
 use Rattle.hall_port.proofs.ThroughLines.{IsKeptByLines, through_lines}
 use Rattle.hall_port.proofs.Through.{IsKeptBySteps, by_cond, through}
+use Rattle.hall_port.proofs.ThroughCopies.{through_begun, through_copy}
 
 starts_with_itself : (es : List Entry) → StartsWith es es
 starts_with_itself es = ([], sym (append-nil es))
@@ -79,21 +83,6 @@ stopped : (account : ℕ) (s s' : PortView) → HasStopped account s s' → HasG
 stopped account s s' (inl is) = same_port s s' is
 stopped account s s' (inr (look, rest)) = looked account s.session s'.session look
 
-answered : {R : Type 0} (plan_of : R → History → Call → ℕ → Plan) (t : Result UserAccount (List ℕ)) (s s' : PortView) (c : Invocation) (made : List Created) (r : Replied) → AnswersBy (calls_by plan_of) t s c made r s' → HasGrown s.session s'.session
-answered plan_of (Ok a) s s' c made r did = asked plan_of s s' _ _ _ did.asked
-answered plan_of (Err kind) s s' c made r (is, shown) = same_port s s' is
-
-stops : (t : Result UserAccount (List ℕ)) (s s' : PortView) → StopsBy t s s' → HasGrown s.session s'.session
-stops (Ok a) s s' did = stopped a.number s s' did
-stops (Err kind) s s' is = same_port s s' is
-
-read : {R : Type 0} (plan_of : R → History → Call → ℕ → Plan) (s s' : PortView) (account : ℕ) (blob : List ℕ) (bytes : Option (List ℕ))
-    → (IsUtf8 blob × IsRead (calls_by plan_of) s account blob bytes s') ⊎ (¬ IsUtf8 blob × (s' ≡ s) × (bytes ≡ None)) → HasGrown s.session s'.session
-read plan_of s s' account blob bytes (inl (utf8, did)) = asked plan_of s s' _ _ _ did.asked
-read plan_of s s' account blob bytes (inr (others, is, none)) = same_port s s' is
-
--- ---- the whole connection
-
 seen_further : (log seen more : List Entry) → StartsWith more log → StartsWith log seen → StartsWith more seen
 seen_further log seen more (rest, is) (others, was) = (others ++ rest, is ∙ (ap (λ (es : List Entry). es ++ rest) was ∙ append_assoc seen others rest))
 
@@ -104,16 +93,63 @@ further s m s' one two = record {
   seen = λ account k there. let first = one.seen account k there in let second = two.seen account first.0 first.1 in (second.0, second.1, seen_further first.0.seen k.seen second.0.seen second.2 first.2);
 }
 
+-- ---- copies
+
+taken : (from to : ℕ) (s s' : SessionView) → HasTaken from to s s' → HasGrown s s'
+taken from to s s' w = further s w.between s' (looked from s w.between w.first) (looked to w.between s' w.second)
+
+next : {R : Type 0} (plan_of : R → History → Call → ℕ → Plan) (account : ℕ) (call : Call) (time : ℕ) (s s' : SessionView) (out : Out) → (rules : R) × IsNextCall (plan_of rules) account call time s s' out → HasGrown s s'
+next plan_of account call time s s' out (rules, w) = called (plan_of rules) account call time s s' out w.call_is
+
+copied : {R : Type 0} (plan_of : R → History → Call → ℕ → Plan) (set_of : Invocation → Invocation → Option Invocation) (copy : CopyCall) (time : ℕ) (s s' : SessionView) (out : Out) → IsCopy plan_of set_of copy time s s' out → HasGrown s s'
+copied plan_of set_of copy time s s' out w =
+    further s w.taken s' (taken copy.from copy.to s w.taken w.took)
+    (through_copy (copy_steps plan_of set_of copy time) HasGrown unchanged further
+    (λ call m m' o did. next plan_of copy.from call time m m' o did) (λ call m m' o did. next plan_of copy.to call time m m' o did) w.taken s' out w.copied)
+
+begun : {R : Type 0} (plan_of : R → History → Call → ℕ → Plan) (set_of : Invocation → Invocation → Option Invocation) (copy : CopyCall) (time : ℕ) (s s' : SessionView) → HasBegunCopy plan_of set_of copy time s s' → HasGrown s s'
+begun plan_of set_of copy time s s' w =
+    further s w.taken s' (taken copy.from copy.to s w.taken w.took)
+    (through_begun (copy_steps plan_of set_of copy time) HasGrown unchanged further
+    (λ call m m' o did. next plan_of copy.from call time m m' o did) (λ call m m' o did. next plan_of copy.to call time m m' o did) w.taken s' w.begun)
+
+-- ---- a step of the port
+
+answered_from : {R : Type 0} (plan_of : R → History → Call → ℕ → Plan) (from : Option UserAccount) (a : UserAccount) (s s' : PortView) (c : Invocation) (made : List Created) (r : Replied) → AnswersFrom (calls_by plan_of) from a s c made r s' → HasGrown s.session s'.session
+answered_from plan_of None a s s' c made r did = asked plan_of s s' _ _ _ did.asked
+answered_from plan_of (Some from) a s s' c made r did = copied plan_of originals_call _ s.time s.session s'.session did.answer did.next
+
+answered : {R : Type 0} (plan_of : R → History → Call → ℕ → Plan) (t : Result UserAccount (List ℕ)) (from : Option UserAccount) (s s' : PortView) (c : Invocation) (made : List Created) (r : Replied) → AnswersBy (calls_by plan_of) t from s c made r s' → HasGrown s.session s'.session
+answered plan_of (Ok a) from s s' c made r did = answered_from plan_of from a s s' c made r did
+answered plan_of (Err kind) from s s' c made r (is, shown) = same_port s s' is
+
+begun_to : {R : Type 0} (plan_of : R → History → Call → ℕ → Plan) (from a : UserAccount) (s s' : PortView) (c : Invocation) (made : List Created) → (s' ≡ s) ⊎ HasBegunTo (calls_by plan_of) s from a c made s' → HasGrown s.session s'.session
+begun_to plan_of from a s s' c made (inl is) = same_port s s' is
+begun_to plan_of from a s s' c made (inr w) = begun plan_of originals_call _ s.time s.session s'.session w.begun
+
+stops_from : {R : Type 0} (plan_of : R → History → Call → ℕ → Plan) (from : Option UserAccount) (a : UserAccount) (s s' : PortView) (c : Invocation) (made : List Created) → StopsFrom (calls_by plan_of) from a s c made s' → HasGrown s.session s'.session
+stops_from plan_of None a s s' c made did = stopped a.number s s' did
+stops_from plan_of (Some from) a s s' c made did = begun_to plan_of from a s s' c made did
+
+stops : {R : Type 0} (plan_of : R → History → Call → ℕ → Plan) (t : Result UserAccount (List ℕ)) (from : Option UserAccount) (s s' : PortView) (c : Invocation) (made : List Created) → StopsBy (calls_by plan_of) t from s c made s' → HasGrown s.session s'.session
+stops plan_of (Ok a) from s s' c made did = stops_from plan_of from a s s' c made did
+stops plan_of (Err kind) from s s' c made is = same_port s s' is
+
+read : {R : Type 0} (plan_of : R → History → Call → ℕ → Plan) (s s' : PortView) (account : ℕ) (blob : List ℕ) (bytes : Option (List ℕ))
+    → (IsUtf8 blob × IsRead (calls_by plan_of) s account blob bytes s') ⊎ (¬ IsUtf8 blob × (s' ≡ s) × (bytes ≡ None)) → HasGrown s.session s'.session
+read plan_of s s' account blob bytes (inl (utf8, did)) = asked plan_of s s' _ _ _ did.asked
+read plan_of s s' account blob bytes (inr (others, is, none)) = same_port s s' is
+
 -- ---- the clauses
 
 pub grown_begun : (s s' : PortView) (user time : ℕ) → begins s user time s' → HasGrown s.session s'.session
 grown_begun s s' user time is = same s.session s'.session (ap (λ (p : PortView). p.session) is)
 
 pub grown_answered : {R : Type 0} (plan_of : R → History → Call → ℕ → Plan) (s s' : PortView) (c : Invocation) (made : List Created) (r : Replied) → hall_answers (calls_by plan_of) s c made r s' → HasGrown s.session s'.session
-grown_answered plan_of s s' c made r did = answered plan_of (target_of (accounts_of s.users s.user) c) s s' c made r did
+grown_answered plan_of s s' c made r did = answered plan_of (target_of (accounts_of s.users s.user) c) (source_of (accounts_of s.users s.user) c) s s' c made r did
 
-pub grown_stopped : (s s' : PortView) (c : Invocation) (made : List Created) → hall_stops s c made s' → HasGrown s.session s'.session
-grown_stopped s s' c made did = stops (target_of (accounts_of s.users s.user) c) s s' did
+pub grown_stopped : {R : Type 0} (plan_of : R → History → Call → ℕ → Plan) (s s' : PortView) (c : Invocation) (made : List Created) → hall_stops (calls_by plan_of) s c made s' → HasGrown s.session s'.session
+grown_stopped plan_of s s' c made did = stops plan_of (target_of (accounts_of s.users s.user) c) (source_of (accounts_of s.users s.user) c) s s' c made did
 
 pub grown_uploaded : {R : Type 0} (plan_of : R → History → Call → ℕ → Plan) (s s' : PortView) (account : ℕ) (bytes : List ℕ) (stored : Stored) → hall_uploads (calls_by plan_of) s account bytes stored s' → HasGrown s.session s'.session
 grown_uploaded plan_of s s' account bytes stored did = by_cond (has_account s account) _ _ _ (λ (u : IsUploaded (calls_by plan_of) s account bytes stored s'). asked plan_of s s' _ _ _ u.asked) (λ u. same_port s s' u.0) did
@@ -133,7 +169,7 @@ grows plan_of = record {
   go = λ s m s' one two. further s.session m.session s'.session one two;
   begins = λ s user time s' is. grown_begun s s' user time is;
   answers = λ s c made r s' did. grown_answered plan_of s s' c made r did;
-  stops = λ s c made s' did. grown_stopped s s' c made did;
+  stops = λ s c made s' did. grown_stopped plan_of s s' c made did;
   uploads = λ s account bytes stored s' did. grown_uploaded plan_of s s' account bytes stored did;
   upload_stops = λ s account bytes s' did. grown_halted s s' account did;
   reads = λ s account blob bytes s' did. grown_read plan_of s s' account blob bytes did;

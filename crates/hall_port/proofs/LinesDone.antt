@@ -15,12 +15,12 @@ pub answered_from : (calls : Calls) (rooms : List RoomView) (users : Configurati
     → s ≡ port_over rooms users session
     → OnOk outcome (HasAnsweredInput (hall_answers calls) (line_uploads calls) s after v)
     → IfErr outcome (λ f. ExplainsFault (hall_answers calls) (line_uploads calls) s after f v)
-    → HasBegunInput (hall_answers calls) (line_uploads calls) hall_stops line_halts s after v
+    → HasBegunInput (hall_answers calls) (line_uploads calls) (hall_stops calls) line_halts s after v
     → session' ≡ after.session → AnswersLines calls rooms users session session' outcome v
 answered_from calls rooms users session session' outcome v s after is ok cause begun same = record {
   after = after;
   ok = subst (λ (x : PortView). OnOk outcome (HasAnsweredInput (hall_answers calls) (line_uploads calls) x after v)) is ok;
   cause = subst (λ (x : PortView). IfErr outcome (λ f. ExplainsFault (hall_answers calls) (line_uploads calls) x after f v)) is cause;
-  begun = subst (λ (x : PortView). HasBegunInput (hall_answers calls) (line_uploads calls) hall_stops line_halts x after v) is begun;
+  begun = subst (λ (x : PortView). HasBegunInput (hall_answers calls) (line_uploads calls) (hall_stops calls) line_halts x after v) is begun;
   session_is = same;
 }

@@ -66,6 +66,6 @@ pub record AnswersLines (calls : Calls) (rooms : List RoomView) (users : Configu
         (port_over rooms users session) after v)
     pub cause : IfErr outcome (λ f. ExplainsFault (hall_answers calls) (line_uploads calls)
         (port_over rooms users session) after f v)
-    pub begun : HasBegunInput (hall_answers calls) (line_uploads calls) hall_stops line_halts
-        (port_over rooms users session) after v
+    pub begun : HasBegunInput (hall_answers calls) (line_uploads calls) (hall_stops calls)
+        line_halts (port_over rooms users session) after v
     pub session_is : session' ≡ after.session

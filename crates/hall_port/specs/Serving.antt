@@ -14,7 +14,7 @@ abbrev pub hall_steps : Calls → UserSteps PortView
 hall_steps calls = record {
   begins = begins;
   answers = hall_answers calls;
-  stops = hall_stops;
+  stops = hall_stops calls;
   uploads = hall_uploads calls;
   upload_stops = λ s account bytes s'. hall_halts s account s';
   reads = hall_reads calls;

@@ -1,5 +1,5 @@
 -- The steps of a port over a hall: how it goes from a state to another.
-use Rattle.std.specs.Prelude.{◌≡◌, ℕ, nat_lt, ◌⊎◌, refl, length, List, [], ◌∷◌, Bool, false, Option, None, Result, Ok, Err, cond, IsUtf8}
+use Rattle.std.specs.Prelude.{◌≡◌, ℕ, nat_lt, ◌⊎◌, refl, length, List, [], ◌∷◌, Bool, false, Option, None, Some, Result, Ok, Err, cond, IsUtf8}
 use Rattle.std.proofs.Common.{inl}
 use Rattle.jm_json.specs.Call.{Call as Invocation, error_of}
 use Rattle.jm_json.specs.Invocations.{call_of}
@@ -12,22 +12,33 @@ use Rattle.account_book.specs.declared.asks.Call.{Call}
 use Rattle.account_book.specs.declared.plans.Out.{Out}
 use Rattle.account_book.specs.declared.plans.Out.TheVariants as out
 use Rattle.account_book.specs.declared.plans.Plan.{Plan}
+use Rattle.account_hall.specs.Copies.{HasBegunCopy, IsCopy}
 use Rattle.account_hall.specs.Sessions.{IsCall, IsLook, SessionView}
+use Rattle.account_hall.specs.declared.copies.CopyCall.{CopyCall}
+use Rattle.copy_calls.specs.Originals.{originals_call}
 use Rattle.jmap_http.specs.declared.port.Stored.{Stored}
 use Rattle.jmap_http.specs.declared.port.Stored.TheVariants.{Kept, Full, Failed}
 use Rattle.server_users.specs.declared.users.UserAccount.{UserAccount}
-use Rattle.hall_port.specs.Targets.{accounts_of, target_of}
+use Rattle.hall_port.specs.Targets.{accounts_of, source_of, target_of}
 use Rattle.hall_port.specs.Views.{PortView}
 
--- What a session's next call may be: on the account with this number this call, at this timestamp,
--- takes the session from a state to another, and is answered so.
-abbrev pub Calls : Type 1
-Calls = ℕ → Call → ℕ → SessionView → SessionView → Out → Type 0
+-- What a session's next call, or copy, may be: on the account with this number this call, at this
+-- timestamp, takes the session from a state to another, and is answered so; so does this copy; and
+-- this copy, which ends out of memory, takes it from a state to another.
+pub record Calls : Type 1 where
+  pub calls : ℕ → Call → ℕ → SessionView → SessionView → Out → Type 0
+  pub copies : CopyCall → ℕ → SessionView → SessionView → Out → Type 0
+  pub copy_stops : CopyCall → ℕ → SessionView → SessionView → Type 0
 
--- the calls that a hall performs, by some rules with these plans
+-- The calls and copies that a hall performs, by some rules with these plans. A copy of emails is
+-- followed by the set that destroys their originals, if it asks for that (RFC 8620, 5.4).
 abbrev pub calls_by : {R : Type 0} → (R → History → Call → ℕ → Plan) → Calls
-calls_by {R} plan_of account call time old new answer =
-    (rules : R) × IsCall (plan_of rules) account call time old new answer
+calls_by {R} plan_of = record {
+  calls = λ account call time old new answer.
+      (rules : R) × IsCall (plan_of rules) account call time old new answer;
+  copies = IsCopy plan_of originals_call;
+  copy_stops = HasBegunCopy plan_of originals_call;
+}
 
 -- ---- a request begins
 
@@ -48,7 +59,7 @@ with_session s session = record s { session = session }
 -- the session's next call. Nothing else of the port changed.
 pub record IsAsked (calls : Calls) (s : PortView) (account : ℕ) (call : Call) (answer : Out)
     (s' : PortView) : Type 0 where
-  pub next : calls account call s.time s.session s'.session answer
+  pub next : calls.calls account call s.time s.session s'.session answer
   pub rest : s' ≡ with_session s s'.session
 
 -- A call on the account ended out of memory: the port is as it was, or its session has seen more of
@@ -81,31 +92,84 @@ pub record IsPerformed (calls : Calls) (s : PortView) (a : UserAccount)
   pub asked : IsAsked calls s a.number (method_call call made a.read_only) answer s'
   pub shown : r ≡ replied_of answer
 
-abbrev pub AnswersBy : Calls → Result UserAccount (List ℕ) → PortView → Invocation
-    → List Created → Replied → PortView → Type 0
-AnswersBy calls (Ok a) s c made r s' = IsPerformed calls s a c made r s'
-AnswersBy calls (Err kind) s c made r s' = (s' ≡ s) × (r ≡ error_alone kind c)
+-- the copy that a method call is, from an account of the user to another
+abbrev pub copy_call : UserAccount → UserAccount → TheInvocation → List Created → CopyCall
+copy_call from to c made = record {
+  from = from.number;
+  to = to.number;
+  from_read_only = from.read_only;
+  call = c;
+  made = made;
+}
 
--- A call is answered by the error of the accounts that it names, and any other call is performed on
--- the account that it names.
+-- A copy was performed between two accounts of the user, and is replied so, at the timestamp of the
+-- request: it is what the session did next. Nothing else of the port changed.
+pub record IsCopied (calls : Calls) (s : PortView) (from to : UserAccount) (c : Invocation)
+    (made : List Created) (r : Replied) (s' : PortView) : Type 0 where
+  pub call : TheInvocation
+  pub answer : Out
+  pub same : call_of call ≡ c
+  pub next : calls.copies (copy_call from to call made) s.time s.session s'.session answer
+  pub rest : s' ≡ with_session s s'.session
+  pub shown : r ≡ replied_of answer
+
+-- such a copy ended out of memory, and what was done before that stands
+pub record HasBegunTo (calls : Calls) (s : PortView) (from to : UserAccount) (c : Invocation)
+    (made : List Created) (s' : PortView) : Type 0 where
+  pub call : TheInvocation
+  pub same : call_of call ≡ c
+  pub begun : calls.copy_stops (copy_call from to call made) s.time s.session s'.session
+  pub rest : s' ≡ with_session s s'.session
+
+-- what a call does to the account on which it is performed, where a copy is from this one
+abbrev pub AnswersFrom : Calls → Option UserAccount → UserAccount → PortView → Invocation
+    → List Created → Replied → PortView → Type 0
+AnswersFrom calls None a s c made r s' = IsPerformed calls s a c made r s'
+AnswersFrom calls (Some from) a s c made r s' = IsCopied calls s from a c made r s'
+
+abbrev pub AnswersBy : Calls → Result UserAccount (List ℕ) → Option UserAccount → PortView
+    → Invocation → List Created → Replied → PortView → Type 0
+AnswersBy calls (Ok a) from s c made r s' = AnswersFrom calls from a s c made r s'
+AnswersBy calls (Err kind) from s c made r s' = (s' ≡ s) × (r ≡ error_alone kind c)
+
+-- A call is answered by the error of the accounts that it names. Any other copy is performed
+-- between the two accounts that it names, and any other call on the account that it names.
 abbrev pub hall_answers : Calls → PortView → Invocation → List Created → Replied
     → PortView → Type 0
 hall_answers calls s c made r s' =
-    AnswersBy calls (target_of (accounts_of s.users s.user) c) s c made r s'
+    AnswersBy calls (target_of (accounts_of s.users s.user) c)
+    (source_of (accounts_of s.users s.user) c) s c made r s'
 
-abbrev pub StopsBy : Result UserAccount (List ℕ) → PortView → PortView → Type 0
-StopsBy (Ok a) s s' = HasStopped a.number s s'
-StopsBy (Err kind) s s' = s' ≡ s
+abbrev pub StopsFrom : Calls → Option UserAccount → UserAccount → PortView → Invocation
+    → List Created → PortView → Type 0
+StopsFrom calls None a s c made s' = HasStopped a.number s s'
+StopsFrom calls (Some from) a s c made s' = (s' ≡ s) ⊎ HasBegunTo calls s from a c made s'
 
-abbrev pub hall_stops : PortView → Invocation → List Created → PortView → Type 0
-hall_stops s c made s' = StopsBy (target_of (accounts_of s.users s.user) c) s s'
+abbrev pub StopsBy : Calls → Result UserAccount (List ℕ) → Option UserAccount → PortView
+    → Invocation → List Created → PortView → Type 0
+StopsBy calls (Ok a) from s c made s' = StopsFrom calls from a s c made s'
+StopsBy calls (Err kind) from s c made s' = s' ≡ s
 
-stays_by : (t : Result UserAccount (List ℕ)) (s : PortView) → StopsBy t s s
-stays_by (Ok a) s = inl refl
-stays_by (Err kind) s = refl
+abbrev pub hall_stops : Calls → PortView → Invocation → List Created → PortView → Type 0
+hall_stops calls s c made s' =
+    StopsBy calls (target_of (accounts_of s.users s.user) c)
+    (source_of (accounts_of s.users s.user) c) s c made s'
 
-pub hall_stays : (s : PortView) (c : Invocation) (made : List Created) → hall_stops s c made s
-hall_stays s c made = stays_by (target_of (accounts_of s.users s.user) c) s
+stays_from : (calls : Calls) (from : Option UserAccount) (a : UserAccount) (s : PortView)
+    (c : Invocation) (made : List Created) → StopsFrom calls from a s c made s
+stays_from calls None a s c made = inl refl
+stays_from calls (Some from) a s c made = inl refl
+
+stays_by : (calls : Calls) (t : Result UserAccount (List ℕ)) (from : Option UserAccount)
+    (s : PortView) (c : Invocation) (made : List Created) → StopsBy calls t from s c made s
+stays_by calls (Ok a) from s c made = stays_from calls from a s c made
+stays_by calls (Err kind) from s c made = refl
+
+pub hall_stays : (calls : Calls) (s : PortView) (c : Invocation) (made : List Created)
+    → hall_stops calls s c made s
+hall_stays calls s c made =
+    stays_by calls (target_of (accounts_of s.users s.user) c)
+    (source_of (accounts_of s.users s.user) c) s c made
 
 -- ---- uploads and downloads
 

@@ -33,6 +33,13 @@ is_change name =
     || bytes_eq name (codes "Email/set")
     || bytes_eq name (codes "Email/import")
 
+-- the account from which a copy is made; None if the call is no copy
+abbrev pub source_of : List UserAccount → Call → Option UserAccount
+source_of accounts c =
+    cond (is_copy c.name)
+    (option_and_then (λ id. account_with id accounts) (text_in (codes "fromAccountId") c.args))
+    None
+
 -- Each definition below is the account on which a call is performed, or the type of its error.
 
 -- a copy to an account, from one that is found or not

@@ -1,17 +1,17 @@
 // A port over a hall of accounts, with a session of the hall.
-ghost use Rattle.std.specs.Prelude.{◌≡◌, ◌<◌, ◌≤◌, ◌∷◌, [], IfOk, OnErr, length, option_map};
+ghost use Rattle.std.specs.Prelude.{◌≡◌, ◌≢◌, ◌⊎◌, ◌<◌, ◌≤◌, ◌∷◌, [], IfOk, OnErr, length, option_map};
 ghost use Rattle.jm_base.specs.declared.utc_dates.TheConstants.{LAST_TIMESTAMP};
 ghost use Rattle.jm_json.specs.Invocations.{call_of};
 ghost use Rattle.account_hall.specs.Halls.{AreOf};
 ghost use Rattle.server_users.specs.declared.users.UserAccount.{UserAccount as TheAccount};
-ghost use Rattle.hall_port.specs.Steps.{HasStopped, IsAsked, IsPerformed, IsRead, IsUploaded};
+ghost use Rattle.hall_port.specs.Steps.{HasBegunTo, HasStopped, IsAsked, IsCopied, IsPerformed, IsRead, IsUploaded};
 
 use crate::asking::Asks;
 use crate::lines::{find_changeable, uploaded_as};
 use crate::replies::{bytes_of, copy_made, copy_text, error_reply, replied_of, stored_of};
-use crate::targets::{accounts_of, find_target};
+use crate::targets::{accounts_of, find_source, find_target};
 use account_book::{Ask, Call, Out};
-use account_hall::Passes;
+use account_hall::{CopyCall, Passes};
 use batch_lines::{UploadPort, Uploaded};
 use jm_base::{Bytes, NoMemory, Text};
 use jm_json::{Invocation, Made, Replied};
@@ -125,6 +125,36 @@ impl<'a, A: Asks> HallPort<'a, A> {
         }
     }
 
+    // Performs a copy from an account to another.
+    fn copy_to(
+        &mut self,
+        alloc: Global,
+        from: &UserAccount,
+        to: &UserAccount,
+        call: Invocation,
+        made: Made,
+    ) -> Result<Replied, NoMemory>
+        requires from { from.now.number < length self.old.users.account_ids }
+        requires to { to.now.number < length self.old.users.account_ids }
+        requires apart { from.now.number ≢ to.now.number }
+        ensures copied { IfOk result (λ r. IsCopied A.calls self.old from.now to.now (call_of call)
+            made r self.new) }
+        ensures begun { OnErr result (HasBegunTo A.calls self.old from.now to.now (call_of call)
+            made self.new) }
+    {
+        let copy = CopyCall {
+            from: from.number,
+            to: to.number,
+            from_read_only: from.read_only,
+            call,
+            made,
+        };
+        match self.asker.copy(alloc, &mut self.passes, copy, self.time) {
+            Ok(out) => Ok(replied_of(alloc, out)),
+            Err(refused) => Err(refused),
+        }
+    }
+
     // Uploads bytes to an account.
     fn keep(&mut self, alloc: Global, account: u64, bytes: Bytes) -> Result<Stored, NoMemory>
         requires account { account < length self.old.users.account_ids }
@@ -171,18 +201,22 @@ impl<'a, A: Asks> Port for HallPort<'a, A> {
 
     ghost answers = { hall_answers A.calls };
 
-    ghost stops = { hall_stops };
+    ghost stops = { hall_stops A.calls };
 
-    ghost stays = { hall_stays };
+    ghost stays = { hall_stays A.calls };
 
     fn call(&mut self, alloc: Global, call: &Invocation, made: &Made) -> Result<Replied, NoMemory> {
         let users = self.users;
-        match find_target(accounts_of(users, self.user), call) {
+        let accounts = accounts_of(users, self.user);
+        match find_target(accounts, call) {
             Err(kind) => error_reply(alloc, kind, call),
             Ok(to) => {
                 let copy = call.copy(alloc)?;
                 let made = copy_made(alloc, made)?;
-                self.perform(alloc, to, copy, made)
+                match find_source(accounts, call) {
+                    None => self.perform(alloc, to, copy, made),
+                    Some(from) => self.copy_to(alloc, from, to, copy, made),
+                }
             }
         }
     }

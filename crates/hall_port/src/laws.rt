@@ -27,8 +27,8 @@ pub fn sessions_only_grow<R: Rules>(rules: &R)
         → HasGrown s.session s'.session }
     ensures calls { (s s' : PortView) (c : Call) (made : List Created) (r : Replied)
         → hall_answers (calls_by R.plan_of) s c made r s' → HasGrown s.session s'.session }
-    ensures stops { (s s' : PortView) (c : Call) (made : List Created) → hall_stops s c made s'
-        → HasGrown s.session s'.session }
+    ensures stops { (s s' : PortView) (c : Call) (made : List Created)
+        → hall_stops (calls_by R.plan_of) s c made s' → HasGrown s.session s'.session }
     ensures uploads { (s s' : PortView) (account : ℕ) (bytes : List ℕ) (stored : TheStored)
         → hall_uploads (calls_by R.plan_of) s account bytes stored s'
         → HasGrown s.session s'.session }

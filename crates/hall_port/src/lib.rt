@@ -12,6 +12,7 @@ mod asking;
 mod hall_port;
 mod laws;
 mod lines;
+mod originals;
 mod replies;
 mod serving;
 mod targets;

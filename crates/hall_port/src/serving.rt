@@ -1,16 +1,19 @@
 // Serving a connection over a hall.
 ghost use Rattle.std.specs.Prelude.{◌≡◌, ◌<◌, ◌≤◌, IfOk, OnErr, length};
 ghost use Rattle.jm_base.specs.declared.utc_dates.TheConstants.{LAST_TIMESTAMP};
+ghost use Rattle.account_hall.specs.Copies.{HasBegunCopy, IsCopy};
 ghost use Rattle.account_hall.specs.Halls.{AreOf};
 ghost use Rattle.account_hall.specs.Sessions.{IsLook};
-ghost use Rattle.hall_port.specs.Asking.{MayAsk};
+ghost use Rattle.copy_calls.specs.Originals.{originals_call};
+ghost use Rattle.hall_port.specs.Asking.{MayAsk, MayCopy};
 ghost use Rattle.hall_port.specs.Serving.{ServesHall};
 ghost use Rattle.hall_port.specs.Steps.{calls_by};
 
 use crate::asking::{Asker, Asks};
 use crate::hall_port::HallPort;
+use crate::originals::MailOriginals;
 use account_book::{Call, Out, Rules};
-use account_hall::{Hall, Passes};
+use account_hall::{CopyCall, Hall, Passes};
 use jm_base::NoMemory;
 use jm_edge::{Clock, Gate, Link};
 use jmap_http::{Served, serve_requests};
@@ -69,13 +72,24 @@ pub fn serve_hall<W: Wait, K: Keeper, R: Rules, L: Link, C: Clock, G: Gate>(
         NoMemory,
     >
         requires { MayAsk hall.now passes.old account time }
-        ensures asked { IfOk result (λ out. calls_by R.plan_of account call.now time passes.old
-            passes.new out) }
+        ensures asked { IfOk result (λ out. (calls_by R.plan_of).calls account call.now time
+            passes.old passes.new out) }
         ensures stopped { OnErr result (IsLook account passes.old passes.new) }
         ensures hall { AreOf hall.entry.now passes.new.passes }
     { hall.call(rt, alloc, passes, account, call, time) };
+    let copy = |alloc: Global, passes: &mut Passes, copy: CopyCall, time: u64| -> Result<
+        Out,
+        NoMemory,
+    >
+        requires { MayCopy hall.now passes.old copy time }
+        ensures copied { IfOk result (λ out. IsCopy R.plan_of originals_call copy time passes.old
+            passes.new out) }
+        ensures stopped { OnErr result (HasBegunCopy R.plan_of originals_call copy time passes.old
+            passes.new) }
+        ensures hall { AreOf hall.entry.now passes.new.passes }
+    { hall.copy(rt, alloc, passes, &MailOriginals, copy, time) };
     serve_by(
-        Asker { hall, call },
+        Asker { hall, call, copy },
         alloc,
         users,
         passes,

@@ -5,7 +5,7 @@ ghost use Rattle.jm_json.specs.Json.{tree_of};
 ghost use Rattle.jm_json.specs.Invocations.{call_of};
 ghost use Rattle.jmap_http.specs.Targets.{account_with};
 ghost use Rattle.server_users.specs.Configuration.{IsNumbered};
-ghost use Rattle.hall_port.specs.Targets.{accounts_of, from_found, from_named, is_change, is_copy, target_of, text_in, to_found, to_named};
+ghost use Rattle.hall_port.specs.Targets.{accounts_of, from_found, from_named, is_change, is_copy, source_of, target_of, text_in, to_found, to_named};
 
 use jm_json::{Invocation, Json};
 use server_users::{UserAccount, Users};
@@ -155,4 +155,20 @@ pub(crate) fn find_target<'a>(
     let to = text_in(&call.args, "accountId");
     let name = call.name.as_str();
     check_named(accounts, is_copy(name), is_change(name), from, to)
+}
+
+/// Returns the account from which a copy is made, or None if the call is no copy.
+pub(crate) fn find_source<'a>(
+    accounts: &'a [UserAccount],
+    call: &Invocation,
+) -> Option<&'a UserAccount>
+    ensures { option_map (λ a. a.now) result ≡ source_of accounts.now (call_of call.now) }
+{
+    if !is_copy(call.name.as_str()) {
+        return None;
+    }
+    match text_in(&call.args, "fromAccountId") {
+        Some(id) => find_account(accounts, id),
+        None => None,
+    }
 }

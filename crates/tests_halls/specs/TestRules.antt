@@ -1,16 +1,19 @@
 -- The rules by which the tests of halls perform calls: a method adds a mailbox without a name, and is
--- answered with its number. No rules of the product use them.
+-- answered with its number; a copy carries nothing, and adds such a mailbox where it is placed. No
+-- rules of the product use them.
 use Rattle.std.specs.Prelude.{ℕ, ◌≤◌, false, List, [], ◌∷◌, None}
 use Rattle.blob_store.specs.Blobs.{AreBlobsFew}
+use Rattle.jm_json.specs.Invocations.{call_of}
+use Rattle.jm_json.specs.declared.invocation.Invocation.{Invocation}
 use Rattle.mail_records.specs.Histories.{History, IsFounded, IsSound, blobs_of, edits_of, content_of}
 use Rattle.mail_records.specs.declared.records.Mailbox.{Mailbox}
 use Rattle.mail_records.specs.declared.edits.Edit.TheVariants.{PutMailbox}
 use Rattle.record_codec.specs.Sizes.{edit_bytes}
 use Rattle.account_book.specs.declared.limits.TheConstants.{MAX_EDIT_BYTES}
 use Rattle.account_book.specs.declared.asks.Ask.{Ask}
-use Rattle.account_book.specs.declared.asks.Ask.TheVariants.{Method}
+use Rattle.account_book.specs.declared.asks.Ask.TheVariants.{Method, Upload, Blob, Fetch, Place, States}
 use Rattle.account_book.specs.declared.asks.Call.{Call}
-use Rattle.account_book.specs.declared.plans.Out.TheVariants.{Uploaded, Full}
+use Rattle.account_book.specs.declared.plans.Out.TheVariants.{Uploaded, Full, Carried, Replies}
 use Rattle.account_book.specs.declared.plans.Plan.{Plan}
 
 -- the mailbox of a number
@@ -36,6 +39,18 @@ add n = record {
   edits = PutMailbox (added n) false false ∷ [];
 }
 
+-- the plan that adds it where a copy is placed, with that call as the response
+abbrev pub placed : Invocation → ℕ → Plan
+placed c n = record {
+  out = Replies (record { responses = call_of c ∷ []; made = [] });
+  blobs = [];
+  edits = PutMailbox (added n) false false ∷ [];
+}
+
+-- the plan by which a copy carries nothing
+abbrev pub fetched : Plan
+fetched = record { out = Carried (record { emails = []; blobs = [] }); blobs = []; edits = [] }
+
 -- the plan that changes nothing
 abbrev pub idle : Plan
 idle = record { out = Full; blobs = []; edits = [] }
@@ -43,7 +58,11 @@ idle = record { out = Full; blobs = []; edits = [] }
 -- what is planned for what is asked, where the next mailbox has this number
 abbrev pub plan_with : Ask → ℕ → Plan
 plan_with (Method call) n = add n
-plan_with _ n = idle
+plan_with (Place call carried) n = placed call n
+plan_with (Fetch call) n = fetched
+plan_with (Upload bytes) n = idle
+plan_with (Blob name) n = idle
+plan_with States n = idle
 
 abbrev pub adding_plan : History → Call → Plan
 adding_plan h call = plan_with call.ask (content_of h).next_mailbox

@@ -10,6 +10,7 @@ use Rattle.mail_records.specs.Edits.{AllFit, AllKeepThread, IsSmall, after_edits
 use Rattle.mail_records.specs.FloorMoves.{moved_up}
 use Rattle.mail_records.specs.Histories.{History, Entry, Committed, IsFounded, IsSound, NamesThread, blobs_of, edits_of, end_after, content_of, grown, empty_history, max_floor}
 use Rattle.mail_records.specs.declared.records.Email.{Email}
+use Rattle.mail_records.specs.declared.edits.Commit.{Commit}
 use Rattle.mail_records.specs.declared.edits.Edit.{Edit}
 use Rattle.mail_records.specs.declared.edits.Stamp.{Stamp}
 use Rattle.mail_records.proofs.Growth.{AreNumbered-after_edits}
@@ -22,11 +23,10 @@ use Rattle.account_book.specs.Accounts.{without_refusals}
 use Rattle.account_book.specs.Plans.{IsPlanFor}
 use Rattle.account_book.specs.Replies.{IsWithin, commit_of}
 use Rattle.account_book.specs.Laws.{IsFounded-without_refusals, IsFounded-with_refusals, edits_of-without_refusals, blobs_of-without_refusals, edit_bytes-moved_up}
-use Rattle.tests_halls.specs.TestRules.{IsAdded, adding_plan, plan_with, add, idle}
+use Rattle.tests_halls.specs.TestRules.{IsAdded, adding_plan, plan_with, add}
 use Rattle.account_book.specs.declared.asks.Ask.{Ask}
 use Rattle.account_book.specs.declared.asks.Ask.TheVariants.{Method, Upload, Blob, Fetch, Place, States}
 use Rattle.account_book.specs.declared.asks.Call.{Call}
-use Rattle.account_book.specs.declared.plans.Plan.{Plan}
 
 -- a number above all others names nothing
 unused : {R : Type 0} (number : R → ℕ) (n : ℕ) (xs : List R) → AllByRecursion (λ r. number r < n) xs
@@ -37,13 +37,14 @@ unused number n (x ∷ xs) all =
     let t : eqb (number x) n ≡ false = ne_eqb (number x) n (λ e. absurd (omega (arith, e, low))) in
     rw t (unused number n xs all.1)
 
--- what holds of the plan that adds and of the one that does nothing holds of each
-by_plan : (P : Plan → Type 0) (ask : Ask) (n : ℕ) → P (add n) → P idle → P (plan_with ask n)
+-- what holds of an added mailbox and of no change holds of each plan
+by_plan : (P : List (List ℕ) → List Edit → Type 0) (ask : Ask) (n : ℕ) → P [] (add n).edits
+    → P [] [] → P (plan_with ask n).blobs (plan_with ask n).edits
 by_plan P (Method call) n a i = a
 by_plan P (Upload bytes) n a i = i
 by_plan P (Blob name) n a i = i
 by_plan P (Fetch call) n a i = i
-by_plan P (Place call carried) n a i = i
+by_plan P (Place call carried) n a i = a
 by_plan P States n a i = i
 
 AllFit-add : (c : Content) → AreNumbered c → AllFit c (add c.next_mailbox).edits
@@ -57,17 +58,20 @@ numbered_now h whole = AreNumbered-after_edits (edits_of h) h.base whole.sound.f
 
 pub adding_fits : (h : History) (call : Call) → IsAdded h
     → AllFit (content_of h) (adding_plan h call).edits
-adding_fits h call whole = by_plan (λ p. AllFit (content_of h) p.edits) call.ask
+adding_fits h call whole = by_plan (λ blobs edits. AllFit (content_of h) edits) call.ask
     (content_of h).next_mailbox (AllFit-add (content_of h) (numbered_now h whole)) tt
 
 pub adding_small : (h : History) (call : Call) → AllByRecursion IsSmall (adding_plan h call).edits
-adding_small h call = by_plan (λ p. AllByRecursion IsSmall p.edits) call.ask
+adding_small h call = by_plan (λ blobs edits. AllByRecursion IsSmall edits) call.ask
     (content_of h).next_mailbox (tt, tt) tt
+
+abbrev commit_with : List (List ℕ) → List Edit → Stamp → Commit
+commit_with blobs edits stamp = record { blobs = blobs; edits = edits; stamp = stamp }
 
 pub adding_formed : (h : History) (call : Call) (stamp : Stamp)
     → IsFormed (commit_of (adding_plan h call) stamp)
-adding_formed h call stamp = by_plan (λ p. IsFormed (commit_of p stamp)) call.ask
-    (content_of h).next_mailbox (tt, tt) tt
+adding_formed h call stamp = by_plan (λ blobs edits. IsFormed (commit_with blobs edits stamp))
+    call.ask (content_of h).next_mailbox (tt, tt) tt
 
 pub adding_reads : (h : History) (call : Call) → IsPlanFor call.ask (adding_plan h call)
 adding_reads h call = each call.ask
@@ -82,11 +86,11 @@ adding_reads h call = each call.ask
 
 adding_threads : (h : History) (call : Call) → AllKeepThread (content_of h)
     (adding_plan h call).edits
-adding_threads h call = by_plan (λ p. AllKeepThread (content_of h) p.edits) call.ask
+adding_threads h call = by_plan (λ blobs edits. AllKeepThread (content_of h) edits) call.ask
     (content_of h).next_mailbox (tt, tt) tt
 
 adding_blobs : (h : History) (call : Call) → (adding_plan h call).blobs ≡ []
-adding_blobs h call = by_plan (λ p. p.blobs ≡ []) call.ask
+adding_blobs h call = by_plan (λ blobs edits. blobs ≡ []) call.ask
     (content_of h).next_mailbox refl refl
 
 pub adding_keeps : (h : History) (call : Call) (stamp : Stamp) → IsAdded h

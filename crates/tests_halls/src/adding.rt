@@ -1,20 +1,21 @@
-// Rules by which each method adds a mailbox.
-ghost use Rattle.std.specs.Prelude.{◌≡◌, ◌↔◌, IfOk, IsTrue};
-ghost use Rattle.tests_halls.specs.TestRules.{IsAdded, add, idle};
+// Rules by which each method, and each copy, adds a mailbox.
+ghost use Rattle.std.specs.Prelude.{◌≡◌, ◌↔◌, ◌∷◌, [], false, IfOk, IsTrue};
+ghost use Rattle.mail_records.specs.declared.edits.Edit.TheVariants.{PutMailbox as ThePutMailbox};
+ghost use Rattle.tests_halls.specs.TestRules.{IsAdded, add, added, fetched, idle, placed};
 
-use account_book::{Account, Ask, Call, Out, Plan, Rules};
+use account_book::{Account, Ask, Call, Carried, Out, Plan, Rules};
 use jm_base::{Blobs, Kind, NoMemory, Text};
-use jm_json::{Invocation, Json, Made};
+use jm_json::{Invocation, Invocations, Items, Json, Made, Replied};
 use mail_records::{Edit, Edits, Mailbox};
 use std::alloc::Global;
 
-// A method adds a mailbox without a name, and is answered with its number. Nothing else changes
-// anything.
+// A method adds a mailbox without a name, and is answered with its number. A copy adds one where it
+// is placed. Nothing else changes anything.
 #[derive(Drop)]
 pub(crate) struct Adding;
 
-fn add(alloc: Global, number: u64) -> Result<Plan, NoMemory>
-    ensures { IfOk result (λ p. p ≡ add number) }
+fn add_mailbox(alloc: Global, number: u64) -> Result<Edits, NoMemory>
+    ensures { IfOk result (λ es. es ≡ ThePutMailbox (added number) false false ∷ []) }
 {
     let item = Mailbox {
         number,
@@ -34,11 +35,47 @@ fn add(alloc: Global, number: u64) -> Result<Plan, NoMemory>
         was: false,
         counts: false,
     })?;
+    Ok(edits)
+}
+
+fn add(alloc: Global, number: u64) -> Result<Plan, NoMemory>
+    ensures { IfOk result (λ p. p ≡ add number) }
+{
+    let edits = add_mailbox(alloc, number)?;
     Ok(Plan {
         out: Out::Uploaded(number),
         blobs: Blobs::new(alloc),
         edits,
     })
+}
+
+fn place(alloc: Global, call: &Invocation, number: u64) -> Result<Plan, NoMemory>
+    ensures { IfOk result (λ p. p ≡ placed call.now number) }
+{
+    let mut responses = Invocations::new(alloc);
+    responses.push(call.copy(alloc)?)?;
+    let edits = add_mailbox(alloc, number)?;
+    Ok(Plan {
+        out: Out::Replies(Replied {
+            responses,
+            made: Made::new(alloc),
+        }),
+        blobs: Blobs::new(alloc),
+        edits,
+    })
+}
+
+fn fetch(alloc: Global) -> Plan
+    ensures { result ≡ fetched }
+{
+    Plan {
+        out: Out::Carried(Carried {
+            emails: Items::new(alloc),
+            blobs: Blobs::new(alloc),
+        }),
+        blobs: Blobs::new(alloc),
+        edits: Edits::new(alloc),
+    }
 }
 
 fn idle(alloc: Global) -> Plan
@@ -79,7 +116,9 @@ impl Rules for Adding {
         let number = account.content().next(Kind::Mailbox);
         match &call.ask {
             Ask::Method(_) => add(alloc, number),
-            _ => Ok(idle(alloc)),
+            Ask::Place(call, _) => place(alloc, call, number),
+            Ask::Fetch(_) => Ok(fetch(alloc)),
+            Ask::Upload(_) | Ask::Blob(_) | Ask::States => Ok(idle(alloc)),
         }
     }
 
@@ -112,14 +151,19 @@ impl Rules for Adding {
     ghost empty = { λ r. adding_empty };
 }
 
+// An invocation; which one plays no part.
+pub(crate) fn invocation(alloc: Global) -> Result<Invocation, NoMemory> {
+    Ok(Invocation {
+        name: Text::from_str(alloc, "a")?,
+        args: Json::Null,
+        id: Text::from_str(alloc, "0")?,
+    })
+}
+
 // A call that adds a mailbox.
 pub(crate) fn adding_call(alloc: Global) -> Result<Call, NoMemory> {
     Ok(Call {
-        ask: Ask::Method(Invocation {
-            name: Text::from_str(alloc, "a")?,
-            args: Json::Null,
-            id: Text::from_str(alloc, "0")?,
-        }),
+        ask: Ask::Method(invocation(alloc)?),
         made: Made::new(alloc),
         read_only: false,
     })

@@ -2,6 +2,8 @@
 #![tactic(auto)]
 
 #[cfg(test)]
+mod account_hall_copy_tests;
+#[cfg(test)]
 mod account_hall_held_tests;
 #[cfg(test)]
 mod account_hall_history_tests;
@@ -9,6 +11,10 @@ mod account_hall_history_tests;
 mod account_hall_room_tests;
 #[cfg(test)]
 mod adding;
+#[cfg(test)]
+mod copying;
+#[cfg(test)]
+mod hall_port_copy_tests;
 #[cfg(test)]
 mod holding;
 #[cfg(test)]

@@ -88,6 +88,27 @@ pub(crate) fn one_account<A: Abort, K: Keeper>(
     built(rt, alloc, accounts)
 }
 
+// A hall of two accounts over these keepers.
+pub(crate) fn two_accounts<A: Abort, K: Keeper>(
+    rt: &A,
+    alloc: Global,
+    first: K,
+    second: K,
+) -> (Hall<K, Adding>, Front)
+    ensures hall { AreOf result.0 result.1.roots }
+    ensures count { length result.0 ≡ 2 }
+    ensures inside { (result.1.inside ≡ 0) × (result.1.admitted ≡ 0) }
+{
+    let mut accounts = Vec::new(alloc);
+    let Ok(()) = accounts.push(account(rt, alloc, first)) else {
+        stop(rt);
+    };
+    let Ok(()) = accounts.push(account(rt, alloc, second)) else {
+        stop(rt);
+    };
+    built(rt, alloc, accounts)
+}
+
 // Lets a session in.
 pub(crate) fn enter<A: Abort, K: Keeper, R: Rules>(
     rt: &A,

@@ -8,7 +8,7 @@ pub returns-clause-calls : goal.returns-clause-calls
 returns-clause-calls g c = grown_answered g.R.Rules.plan_of
 
 pub returns-clause-stops : goal.returns-clause-stops
-returns-clause-stops g c = grown_stopped
+returns-clause-stops g c = grown_stopped g.R.Rules.plan_of
 
 pub returns-clause-uploads : goal.returns-clause-uploads
 returns-clause-uploads g c = grown_uploaded g.R.Rules.plan_of
