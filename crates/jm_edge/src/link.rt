@@ -46,6 +46,14 @@ pub trait Link: Drop + Send {
         ensures left { left self.new ≡ left self.old }
         ensures read_faults { read_faults self.new ≡ read_faults self.old };
 
+    /// Tells the other side that nothing more will be written. What contracts see of the link stays
+    /// as it is, and a fault is not counted.
+    fn finish(&mut self)
+        ensures left { left self.new ≡ left self.old }
+        ensures held { held self.new ≡ held self.old }
+        ensures read_faults { read_faults self.new ≡ read_faults self.old }
+        ensures put_faults { put_faults self.new ≡ put_faults self.old };
+
     /// Turns the connection into a WebSocket connection, after the handshake was written (RFC 6455,
     /// section 4.2.2). The early bytes were read past the request, and come before those that are
     /// still to be read. The socket's counts of faults are 0. If memory runs out, the connection is

@@ -138,6 +138,16 @@ impl Link for MemoryLink {
         self.output.put(piece)
     }
 
+    fn finish(&mut self)
+        ensures left { Some self.new.input.left ≡ Some self.old.input.left }
+        ensures held { Some self.new.output.held ≡ Some self.old.output.held }
+        ensures read_faults { self.new.input.faults ≡ self.old.input.faults }
+        ensures put_faults { self.new.output.faults ≡ self.old.output.faults }
+
+        // It does nothing.
+        ensures same { self.new ≡ self.old }
+    {}
+
     fn upgrade(self, alloc: Global, early: Bytes) -> Result<MemorySocket, NoMemory>
         ensures reads { IfOk result (λ s. s.looks.faults ≡ 0) }
         ensures sends { IfOk result (λ s. s.sends.faults ≡ 0) }

@@ -5,7 +5,7 @@ use crate::{Failed, Link, TcpSocket};
 use jm_base::{Bytes, NoMemory};
 use std::alloc::Global;
 use std::io::{Read, Write};
-use std::net::TcpStream;
+use std::net::{Shutdown, TcpStream};
 
 /// A TCP connection, with its faults counted. A write that takes nothing of a piece that is not
 /// empty has failed.
@@ -71,6 +71,10 @@ impl Link for TcpLink {
                 Err(Failed)
             }
         }
+    }
+
+    fn finish(&mut self) {
+        let _ = self.stream.shutdown(Shutdown::Write);
     }
 
     fn upgrade(self, alloc: Global, early: Bytes) -> Result<TcpSocket, NoMemory> {

@@ -1,5 +1,5 @@
 -- What lines are served by sessions of a hall.
-use Rattle.std.specs.Prelude.{◌≡◌, ◌⊎◌, ℕ, zero, suc, List, [], ◌∷◌, ◌++◌, Option, length, ◌<◌, Result, Ok, Err}
+use Rattle.std.specs.Prelude.{◌≡◌, ◌⊎◌, ℕ, zero, suc, ◌+◌, List, [], ◌∷◌, ◌++◌, Option, length, ◌<◌, Result, Ok, Err}
 use Rattle.keep_port.specs.declared.kept.Kept.{Kept}
 use Rattle.server_users.specs.Configuration.{Configuration}
 use Rattle.mail_records.specs.Histories.{History}
@@ -7,6 +7,7 @@ use Rattle.account_book.specs.declared.asks.Call.{Call}
 use Rattle.account_book.specs.declared.plans.Plan.{Plan}
 use Rattle.account_hall.specs.Halls.{RoomView}
 use Rattle.account_hall.specs.Sessions.{IsSession, SessionView}
+use Rattle.jm_base.specs.declared.limits.TheConstants.{MAX_SESSIONS}
 use Rattle.hall_port.specs.Serving.{ServesHall}
 use Rattle.hall_port.specs.Steps.{calls_by}
 use Rattle.jmap_http.specs.declared.served.Served.TheVariants.{NoMemory}
@@ -74,40 +75,94 @@ IsLineServed sight plan_of rooms users line clock finished =
 
 -- ---- lines
 
--- a line was taken, with a clock and a gate, and came back
-abbrev pub line_deeds : {K L C : Type 0} → L → C → Finished L → List (Deed K L C)
-line_deeds line clock finished =
-    GaveLine line ∷ GaveClock clock ∷ GaveGate ∷ GotLine finished ∷ []
-
--- One line more was served after these deeds.
-pub record IsNextLine {K R L C : Type 0} (sight : Sight K L C) (plan_of : Plans R)
-    (rooms : List RoomView) (users : Configuration) (before did : List (Deed K L C)) : Type 0 where
+-- A line that was taken, and the clock that was taken for it.
+pub record Taken (L C : Type 0) : Type 0 where
   pub line : L
   pub clock : C
-  pub finished : Finished L
-  pub served : IsLineServed sight plan_of rooms users line clock finished
-  pub did_is : did ≡ before ++ line_deeds line clock finished
 
--- so many lines were served, one after the other
+abbrev pub taken_of : {L C : Type 0} → L → C → Taken L C
+taken_of line clock = record { line = line; clock = clock }
+
+-- a line is taken: it is given, with a clock and a gate
+abbrev pub taking : {K L C : Type 0} → Taken L C → List (Deed K L C)
+taking t = GaveLine t.line ∷ GaveClock t.clock ∷ GaveGate ∷ []
+
+-- A line was taken after these deeds, while fewer than 64 were out. It is the last of those that
+-- are out now.
+pub record HasTaken {K L C : Type 0} (out out' : List (Taken L C)) (before did : List (Deed K L C))
+    : Type 0 where
+  pub next : Taken L C
+  pub few : length out < MAX_SESSIONS
+  pub out_is : out' ≡ out ++ next ∷ []
+  pub did_is : did ≡ before ++ taking next
+
+-- One of the lines that were out was served, and came back after these deeds.
+pub record HasReturned {K R L C : Type 0} (sight : Sight K L C) (plan_of : Plans R)
+    (rooms : List RoomView) (users : Configuration) (out out' : List (Taken L C))
+    (before did : List (Deed K L C)) : Type 0 where
+  pub earlier : List (Taken L C)
+  pub one : Taken L C
+  pub later : List (Taken L C)
+  pub finished : Finished L
+  pub out_is : out ≡ earlier ++ one ∷ later
+  pub rest_is : out' ≡ earlier ++ later
+  pub served : IsLineServed sight plan_of rooms users one.line one.clock finished
+  pub did_is : did ≡ before ++ GotLine finished ∷ []
+
+-- In so many steps so many lines were taken. Those that are out have not come back yet, in the
+-- order in which they were taken. Each other one came back, once.
+abbrev pub AreOutAfter : {K R L C : Type 0} → Sight K L C → Plans R → List RoomView
+    → Configuration → (steps taken : ℕ) → List (Taken L C) → List (Deed K L C) → Type 0
+AreOutAfter sight plan_of rooms users zero taken out did =
+    (taken ≡ 0) × (out ≡ []) × (did ≡ [])
+AreOutAfter {K} {R} {L} {C} sight plan_of rooms users (suc steps) taken out did =
+    ((n : ℕ) × (prior : List (Taken L C)) × (before : List (Deed K L C))
+    × AreOutAfter sight plan_of rooms users steps n prior before × (taken ≡ n + 1)
+    × HasTaken prior out before did)
+    ⊎ ((prior : List (Taken L C)) × (before : List (Deed K L C))
+    × AreOutAfter sight plan_of rooms users steps taken prior before
+    × HasReturned sight plan_of rooms users prior out before did)
+
+abbrev pub AreOut : {K R L C : Type 0} → Sight K L C → Plans R → List RoomView
+    → Configuration → ℕ → List (Taken L C) → List (Deed K L C) → Type 0
+AreOut sight plan_of rooms users taken out did =
+    (steps : ℕ) × AreOutAfter sight plan_of rooms users steps taken out did
+
+-- so many lines were taken, and each came back once
 abbrev pub AreLinesServed : {K R L C : Type 0} → Sight K L C → Plans R → List RoomView
     → Configuration → ℕ → List (Deed K L C) → Type 0
-AreLinesServed sight plan_of rooms users zero did = did ≡ []
-AreLinesServed {K} {R} {L} {C} sight plan_of rooms users (suc n) did =
-    (before : List (Deed K L C)) × AreLinesServed sight plan_of rooms users n before
-    × IsNextLine sight plan_of rooms users before did
+AreLinesServed sight plan_of rooms users taken did =
+    AreOut sight plan_of rooms users taken [] did
 
--- ---- what the loop over lines did
+-- ---- what calls did while lines are served
 
--- one line was served; or none, because the world failed or memory ran out
-abbrev pub HasServedNext : {K R L C T E : Type 0} → Sight K L C → Plans R → List RoomView
-    → Configuration → List (Deed K L C) → Result T E → Type 0
-HasServedNext sight plan_of rooms users did (Ok x) = IsNextLine sight plan_of rooms users [] did
-HasServedNext sight plan_of rooms users did (Err fault) = did ≡ []
+-- Whatever was done before: so many lines more are taken after it, and out are no more those lines
+-- but these.
+abbrev pub Goes : {K R L C : Type 0} → Sight K L C → Plans R → List RoomView → Configuration
+    → ℕ → (out out' : List (Taken L C)) → List (Deed K L C) → Type 0
+Goes {K} {R} {L} {C} sight plan_of rooms users more out out' did =
+    (taken : ℕ) (before : List (Deed K L C)) → AreOut sight plan_of rooms users taken out before
+    → AreOut sight plan_of rooms users (taken + more) out' (before ++ did)
 
--- all lines were served, or fewer
-abbrev pub AreEnough : {T E : Type 0} → (served count : ℕ) → Result T E → Type 0
-AreEnough served count (Ok x) = served ≡ count
-AreEnough served count (Err fault) = served < count
+-- the next line was taken; or none, because the world failed or memory ran out
+abbrev pub HasTakenNext : {K R L C T E : Type 0} → Sight K L C → Plans R → List RoomView
+    → Configuration → (out out' : List (Taken L C)) → List (Deed K L C) → Result T E → Type 0
+HasTakenNext sight plan_of rooms users out out' did (Ok x) =
+    Goes sight plan_of rooms users 1 out out' did
+HasTakenNext sight plan_of rooms users out out' did (Err fault) = (did ≡ []) × (out' ≡ out)
+
+-- all lines were taken, or fewer
+abbrev pub AreEnough : {T E : Type 0} → (taken count : ℕ) → Result T E → Type 0
+AreEnough taken count (Ok x) = taken ≡ count
+AreEnough taken count (Err fault) = taken < count
+
+-- so many lines were taken, and these are out
+pub record HaveGone {K R L C T E : Type 0} (sight : Sight K L C) (plan_of : Plans R)
+    (rooms : List RoomView) (users : Configuration) (out out' : List (Taken L C)) (count : ℕ)
+    (did : List (Deed K L C)) (result : Result T E) : Type 0 where
+  pub taken : ℕ
+  pub goes : Goes sight plan_of rooms users taken out out' did
+  pub enough : AreEnough taken count result
 
 -- so many lines were served
 pub record HasServedLines {K R L C T E : Type 0} (sight : Sight K L C) (plan_of : Plans R)

@@ -1,134 +1,354 @@
-// Lines are served, one after the other.
-ghost use Rattle.std.specs.Prelude.{◌≡◌, ◌+◌, ◌-◌, ◌<◌, ◌≤◌, [], List, length};
+// Lines are served, each by a worker.
+ghost use Rattle.std.specs.Prelude.{◌≡◌, ◌+◌, ◌-◌, ◌<◌, ◌≤◌, [], List, length, map, vec_capacity, vec_len};
+ghost use Rattle.std.specs.List.{AllByRecursion};
 ghost use Rattle.account_hall.specs.Halls.{AreOf};
+ghost use Rattle.jm_base.specs.declared.limits.TheConstants.{MAX_SESSIONS as TheMaxSessions};
 ghost use Rattle.account_lock.specs.declared.limits.TheConstants.{MAX_NAMES as TheMaxNames};
 ghost use Rattle.jm_edge.specs.Causes.{IsCounted};
 ghost use Rattle.jmap_server.specs.Deeds.{Deed, IsTold};
-ghost use Rattle.jmap_server.specs.Lines.{HasServedLines, HasServedNext, IsLineServed, IsServed, IsUnread, sight_of};
+ghost use Rattle.jmap_server.specs.Lines.{Goes, HasServedLines, HasTakenNext, HaveGone, sight_of};
+ghost use Rattle.jmap_server.specs.Workers.{IsHandedOver, IsWorker, taken_by};
 
+use crate::ends::Ends;
 use crate::finished::Finished;
+use crate::served_line::{leave_unread, let_out};
+use crate::worker::{LineWorker, Worker, free_bit, join_worker, next_to_join, start_worker};
 use crate::world::World;
 use account_book::Rules;
 use account_hall::{Front, Hall, Passes};
-use hall_port::serve_hall;
-use jm_base::Sequence;
+use jm_base::MAX_SESSIONS;
 use jm_edge::{Clock, EdgeFault, Gate, Link};
-use jmap_http::Served;
 use keep_port::Keeper;
 use server_users::Users;
 use std::alloc::Global;
 use std::sync::Wait;
+use std::thread::{Scope, Threads, scope, scope_env};
 
-// Serves a line by a session, which then leaves.
-fn serve_admitted<H: Wait, K: Keeper, R: Rules, L: Link, C: Clock, G: Gate>(
-    rt: &H,
+// Lets a worker serve a line by a session. If no thread can be made, it is served here, and
+// returned.
+fn hand_over<
+    's,
+    E: 's,
+    H: Wait + Sync,
+    K: Keeper,
+    R: Rules,
+    L: Link + 's,
+    C: Clock + 's,
+    G: Gate + 's,
+>(
+    scope: &Scope<'s, E>,
+    rt: &'s H,
     alloc: Global,
-    users: &Users,
-    hall: &Hall<K, R>,
+    users: &'s Users,
+    hall: &'s Hall<K, R>,
+    ends: &'s Ends,
     front: &mut Front,
+    workers: &mut Vec<LineWorker<K, R, L, C>>,
     passes: Passes,
     line: L,
-    clock: &mut C,
-    gate: &G,
-) -> Finished<L>
+    clock: C,
+    gate: G,
+) -> Option<Finished<L>>
     requires front { AreOf hall.now front.old.roots }
     requires hall { AreOf hall.now passes.passes }
     requires fresh { passes.trail ≡ [] }
     requires accounts { length users.now.account_ids ≤ length hall.now }
-    ensures served { IsServed (sight_of L.left L.held L.read_faults L.put_faults C.times K.kept)
-        R.plan_of hall.now users.now line clock.old result }
+    requires room { vec_len workers.old < vec_capacity workers.old }
+    requires inside { front.old.inside ≡ vec_len workers.old + 1 }
+    ensures handed { IsHandedOver (sight_of L.left L.held L.read_faults L.put_faults C.times
+        K.kept) R.plan_of hall.now users.now line clock workers.old.items workers.new.items
+        result }
+    ensures capacity { vec_capacity workers.new ≡ vec_capacity workers.old }
     ensures front { AreOf hall.now front.new.roots }
-    ensures inside { front.new.inside ≡ front.old.inside - 1 }
+    ensures inside { front.new.inside ≡ vec_len workers.new }
     ensures admitted { front.new.admitted ≡ front.old.admitted }
 {
-    let mut line = line;
-    let (served, passes) = serve_hall(rt, alloc, hall, users, passes, &mut line, clock, gate);
-    passes.is_in_order();
-    let trail = front.leave(hall, passes);
-    Finished {
-        line,
-        served,
-        http_points: trail.len() as u64,
-        trail,
+    let bit = free_bit(workers);
+    match start_worker(
+        scope, rt, alloc, users, hall, ends, bit, passes, line, clock, gate,
+    ) {
+        Ok(handle) => {
+            workers.push_reserved(Worker { bit, handle });
+            None
+        }
+        Err(done) => Some(let_out(hall, front, done)),
     }
 }
 
-// Gives back a line unread, because memory ran out.
-fn leave_unread<L: Link>(alloc: Global, line: L) -> Finished<L>
-    ensures { IsUnread line result }
-{
-    Finished {
-        line,
-        served: Served::NoMemory,
-        http_points: 0,
-        trail: Sequence::new(alloc),
-    }
-}
-
-// Serves a line, in a hall in which no other session is.
-fn serve_line<H: Wait, K: Keeper, R: Rules, L: Link, C: Clock, G: Gate>(
-    rt: &H,
+// Lets a session in, and a worker serve a line by it. The line is returned if it is back already.
+fn serve_line<
+    's,
+    E: 's,
+    H: Wait + Sync,
+    K: Keeper,
+    R: Rules,
+    L: Link + 's,
+    C: Clock + 's,
+    G: Gate + 's,
+>(
+    scope: &Scope<'s, E>,
+    rt: &'s H,
     alloc: Global,
-    users: &Users,
-    hall: &Hall<K, R>,
+    users: &'s Users,
+    hall: &'s Hall<K, R>,
+    ends: &'s Ends,
     front: &mut Front,
+    workers: &mut Vec<LineWorker<K, R, L, C>>,
     line: L,
-    clock: &mut C,
-    gate: &G,
-) -> Finished<L>
+    clock: C,
+    gate: G,
+) -> Option<Finished<L>>
     requires front { AreOf hall.now front.old.roots }
-    requires none_in { front.old.inside ≡ 0 }
-    requires names { front.old.admitted < TheMaxNames }
     requires accounts { length users.now.account_ids ≤ length hall.now }
-    ensures served { IsLineServed (sight_of L.left L.held L.read_faults L.put_faults C.times K.kept)
-        R.plan_of hall.now users.now line clock.old result }
+    requires room { vec_len workers.old < vec_capacity workers.old }
+    requires inside { front.old.inside ≡ vec_len workers.old }
+    requires names { front.old.admitted < TheMaxNames }
+    ensures handed { IsHandedOver (sight_of L.left L.held L.read_faults L.put_faults C.times
+        K.kept) R.plan_of hall.now users.now line clock workers.old.items workers.new.items
+        result }
+    ensures capacity { vec_capacity workers.new ≡ vec_capacity workers.old }
     ensures front { AreOf hall.now front.new.roots }
-    ensures none_in { front.new.inside ≡ 0 }
+    ensures inside { front.new.inside ≡ vec_len workers.new }
     ensures admitted { front.new.admitted ≤ front.old.admitted + 1 }
 {
     match front.admit(alloc, hall) {
-        Ok(passes) => serve_admitted(rt, alloc, users, hall, front, passes, line, clock, gate),
-        Err(_) => leave_unread(alloc, line),
+        Ok(passes) => hand_over(
+            scope, rt, alloc, users, hall, ends, front, workers, passes, line, clock, gate,
+        ),
+        Err(_) => Some(leave_unread(alloc, line)),
     }
 }
 
-// Takes the next line from the world, serves it, and gives it back.
-fn serve_next<H: Wait, W: World, R: Rules>(
-    rt: &H,
+// Takes the next line from the world, and lets a worker serve it. If it is back already, it is
+// given back to the world.
+fn take_line<'s, E: 's, H: Wait + Sync, W: World, R: Rules>(
+    scope: &Scope<'s, E>,
+    rt: &'s H,
     alloc: Global,
     world: &mut W,
-    users: &Users,
-    hall: &Hall<W::Keep, R>,
+    users: &'s Users,
+    hall: &'s Hall<W::Keep, R>,
+    ends: &'s Ends,
     front: &mut Front,
+    workers: &mut Vec<LineWorker<W::Keep, R, W::Line, W::Time>>,
 ) -> Result<(), EdgeFault>
+where
+    W::Line: 's,
+    W::Time: 's,
+    W::Hold: 's,
     requires front { AreOf hall.now front.old.roots }
-    requires none_in { front.old.inside ≡ 0 }
-    requires names { front.old.admitted < TheMaxNames }
     requires accounts { length users.now.account_ids ≤ length hall.now }
+    requires room { vec_len workers.old < vec_capacity workers.old }
+    requires few { vec_len workers.old < TheMaxSessions }
+    requires inside { front.old.inside ≡ vec_len workers.old }
+    requires names { front.old.admitted < TheMaxNames }
+    requires workers { AllByRecursion (IsWorker hall.now users.now) workers.old.items }
     ensures told { (did : List (Deed W.Keep W.Line W.Time)) × IsTold (W.told world.old)
-        (W.told world.new) did × HasServedNext (sight_of W.Line.left W.Line.held W.Line.read_faults
-        W.Line.put_faults W.Time.times W.Keep.kept) R.plan_of hall.now users.now did result }
+        (W.told world.new) did × HasTakenNext (sight_of W.Line.left W.Line.held
+        W.Line.read_faults W.Line.put_faults W.Time.times W.Keep.kept) R.plan_of hall.now
+        users.now (map taken_by workers.old.items) (map taken_by workers.new.items) did result }
     ensures cause { IsCounted (W.faults world.old) (W.faults world.new) result }
     ensures later { W.faults world.old ≤ W.faults world.new }
     ensures load_count { W.load_faults world.new ≡ W.load_faults world.old }
+    ensures workers { AllByRecursion (IsWorker hall.now users.now) workers.new.items }
+    ensures capacity { vec_capacity workers.new ≡ vec_capacity workers.old }
     ensures front { AreOf hall.now front.new.roots }
-    ensures none_in { front.new.inside ≡ 0 }
+    ensures inside { front.new.inside ≡ vec_len workers.new }
     ensures admitted { front.new.admitted ≤ front.old.admitted + 1 }
 {
     match world.line(alloc) {
         Ok(line) => {
-            let mut clock = world.clock();
+            let clock = world.clock();
             let gate = world.gate();
-            let finished = serve_line(rt, alloc, users, hall, front, line, &mut clock, &gate);
-            world.return_line(finished);
-            Ok(())
+            match serve_line(
+                scope, rt, alloc, users, hall, ends, front, workers, line, clock, gate,
+            ) {
+                Some(finished) => {
+                    world.return_line(finished);
+                    Ok(())
+                }
+                None => Ok(()),
+            }
         }
         Err(fault) => Err(fault),
     }
 }
 
-/// Serves so many lines of the world, one after the other.
-pub(crate) fn serve_lines<H: Wait, W: World, R: Rules>(
+// Waits for the line that a worker serves, and gives it back to the world once its session has
+// left.
+fn return_one<H: Threads, W: World, R: Rules>(
+    rt: &H,
+    world: &mut W,
+    users: &Users,
+    hall: &Hall<W::Keep, R>,
+    ends: &Ends,
+    front: &mut Front,
+    workers: &mut Vec<LineWorker<W::Keep, R, W::Line, W::Time>>,
+    i: usize,
+)
+    requires place { i < vec_len workers.old }
+    requires front { AreOf hall.now front.old.roots }
+    requires inside { front.old.inside ≡ vec_len workers.old }
+    requires workers { AllByRecursion (IsWorker hall.now users.now) workers.old.items }
+    ensures told { (did : List (Deed W.Keep W.Line W.Time)) × IsTold (W.told world.old)
+        (W.told world.new) did × Goes (sight_of W.Line.left W.Line.held W.Line.read_faults
+        W.Line.put_faults W.Time.times W.Keep.kept) R.plan_of hall.now users.now 0
+        (map taken_by workers.old.items) (map taken_by workers.new.items) did }
+    ensures count { W.faults world.new ≡ W.faults world.old }
+    ensures load_count { W.load_faults world.new ≡ W.load_faults world.old }
+    ensures workers { AllByRecursion (IsWorker hall.now users.now) workers.new.items }
+    ensures len { vec_len workers.new + 1 ≡ vec_len workers.old }
+    ensures capacity { vec_capacity workers.new ≡ vec_capacity workers.old }
+    ensures front { AreOf hall.now front.new.roots }
+    ensures inside { front.new.inside ≡ vec_len workers.new }
+    ensures admitted { front.new.admitted ≡ front.old.admitted }
+{
+    let _users = users;
+    let done = join_worker(rt, ends, workers, i);
+    let finished = let_out(hall, front, done);
+    world.return_line(finished);
+}
+
+// Gives the lines of workers that have ended back to the world, and waits for others to end while
+// more than so many are at work.
+fn return_lines<H: Threads + Wait, W: World, R: Rules>(
+    rt: &H,
+    world: &mut W,
+    users: &Users,
+    hall: &Hall<W::Keep, R>,
+    ends: &Ends,
+    front: &mut Front,
+    workers: &mut Vec<LineWorker<W::Keep, R, W::Line, W::Time>>,
+    most: usize,
+)
+    requires front { AreOf hall.now front.old.roots }
+    requires inside { front.old.inside ≡ vec_len workers.old }
+    requires workers { AllByRecursion (IsWorker hall.now users.now) workers.old.items }
+    ensures few { vec_len workers.new ≤ most }
+    ensures told { (did : List (Deed W.Keep W.Line W.Time)) × IsTold (W.told world.old)
+        (W.told world.new) did × Goes (sight_of W.Line.left W.Line.held W.Line.read_faults
+        W.Line.put_faults W.Time.times W.Keep.kept) R.plan_of hall.now users.now 0
+        (map taken_by workers.old.items) (map taken_by workers.new.items) did }
+    ensures count { W.faults world.new ≡ W.faults world.old }
+    ensures load_count { W.load_faults world.new ≡ W.load_faults world.old }
+    ensures workers { AllByRecursion (IsWorker hall.now users.now) workers.new.items }
+    ensures capacity { vec_capacity workers.new ≡ vec_capacity workers.old }
+    ensures front { AreOf hall.now front.new.roots }
+    ensures inside { front.new.inside ≡ vec_len workers.new }
+    ensures admitted { front.new.admitted ≡ front.old.admitted }
+{
+    'worker: while let Some(i) = next_to_join(rt, ends, workers, most) {
+        return_one(rt, world, users, hall, ends, front, workers, i);
+    }
+}
+
+// Takes so many lines of the world, each served by a worker, of which 64 at most are at work.
+fn take_lines<'s, E: 's, H: Threads + Wait + Sync, W: World, R: Rules>(
+    scope: &Scope<'s, E>,
+    rt: &'s H,
+    alloc: Global,
+    world: &mut W,
+    users: &'s Users,
+    hall: &'s Hall<W::Keep, R>,
+    ends: &'s Ends,
+    front: &mut Front,
+    workers: &mut Vec<LineWorker<W::Keep, R, W::Line, W::Time>>,
+    count: u64,
+) -> Result<(), EdgeFault>
+where
+    W::Line: 's,
+    W::Time: 's,
+    W::Hold: 's,
+    requires front { AreOf hall.now front.old.roots }
+    requires accounts { length users.now.account_ids ≤ length hall.now }
+    requires room { vec_capacity workers.old ≡ TheMaxSessions }
+    requires inside { front.old.inside ≡ vec_len workers.old }
+    requires names { front.old.admitted + count ≤ TheMaxNames }
+    requires workers { AllByRecursion (IsWorker hall.now users.now) workers.old.items }
+    ensures told { (did : List (Deed W.Keep W.Line W.Time)) × IsTold (W.told world.old)
+        (W.told world.new) did × HaveGone (sight_of W.Line.left W.Line.held W.Line.read_faults
+        W.Line.put_faults W.Time.times W.Keep.kept) R.plan_of hall.now users.now
+        (map taken_by workers.old.items) (map taken_by workers.new.items) count did result }
+    ensures cause { IsCounted (W.faults world.old) (W.faults world.new) result }
+    ensures later { W.faults world.old ≤ W.faults world.new }
+    ensures load_count { W.load_faults world.new ≡ W.load_faults world.old }
+    ensures workers { AllByRecursion (IsWorker hall.now users.now) workers.new.items }
+    ensures front { AreOf hall.now front.new.roots }
+    ensures inside { front.new.inside ≡ vec_len workers.new }
+{
+    let mut taken = 0u64;
+    'line: while taken < count {
+        return_lines(rt, world, users, hall, ends, front, workers, 63);
+        match take_line(scope, rt, alloc, world, users, hall, ends, front, workers) {
+            Ok(()) => {}
+            Err(fault) => return Err(fault),
+        }
+        taken += 1;
+    }
+    Ok(())
+}
+
+// Serves so many lines of the world in a scope, and waits for all that were taken.
+fn serve_scoped<'s, E: 's, H: Threads + Wait + Sync, W: World, R: Rules>(
+    scope: &Scope<'s, E>,
+    rt: &'s H,
+    alloc: Global,
+    world: &mut W,
+    users: &'s Users,
+    hall: &'s Hall<W::Keep, R>,
+    ends: &'s Ends,
+    front: &mut Front,
+    count: u64,
+) -> Result<(), EdgeFault>
+where
+    W::Line: 's,
+    W::Time: 's,
+    W::Hold: 's,
+    requires front { AreOf hall.now front.old.roots }
+    requires none_in { front.old.inside ≡ 0 }
+    requires names { front.old.admitted + count ≤ TheMaxNames }
+    requires accounts { length users.now.account_ids ≤ length hall.now }
+    ensures told { (did : List (Deed W.Keep W.Line W.Time)) × IsTold (W.told world.old)
+        (W.told world.new) did × HasServedLines (sight_of W.Line.left W.Line.held
+        W.Line.read_faults W.Line.put_faults W.Time.times W.Keep.kept) R.plan_of hall.now users.now
+        count did result }
+    ensures cause { IsCounted (W.faults world.old) (W.faults world.new) result }
+    ensures later { W.faults world.old ≤ W.faults world.new }
+    ensures load_count { W.load_faults world.new ≡ W.load_faults world.old }
+    ensures front { AreOf hall.now front.new.roots }
+    ensures none_in { front.new.inside ≡ 0 }
+{
+    if count == 0 {
+        return Ok(());
+    }
+    let Ok(mut workers) = Vec::with_capacity(alloc, MAX_SESSIONS as usize) else {
+        return Err(EdgeFault::NoMemory);
+    };
+    let done = take_lines(
+        scope,
+        rt,
+        alloc,
+        world,
+        users,
+        hall,
+        ends,
+        front,
+        &mut workers,
+        count,
+    );
+    return_lines(rt, world, users, hall, ends, front, &mut workers, 0);
+    done
+}
+
+// Does nothing. By this use of a reference that was returned, what is behind it is known to be
+// what the one that was lent for it ends with.
+fn take_back<T>(x: &mut T)
+    ensures { x.new ≡ x.old }
+{}
+
+/// Serves so many lines of the world, each in a thread of its own, or here if none can be made. Up
+/// to 64 are served at once.
+pub(crate) fn serve_lines<H: Threads + Wait + Sync, W: World, R: Rules>(
     rt: &H,
     alloc: Global,
     world: &mut W,
@@ -151,13 +371,34 @@ pub(crate) fn serve_lines<H: Wait, W: World, R: Rules>(
     ensures front { AreOf hall.now front.new.roots }
     ensures none_in { front.new.inside ≡ 0 }
 {
-    let mut served = 0u64;
-    'line: while served < count {
-        match serve_next(rt, alloc, world, users, hall, front) {
-            Ok(()) => {}
-            Err(fault) => return Err(fault),
-        }
-        served += 1;
-    }
-    Ok(())
+    let ends = Ends::new();
+    let ends = &ends;
+    let (world, front, done) = scope(
+        scope_env(),
+        rt,
+        move |scope| -> (&mut W, &mut Front, Result<(), EdgeFault>)
+            requires { AreOf hall.now front.now.roots × (front.now.inside ≡ 0)
+                × (front.now.admitted + count ≤ TheMaxNames)
+                × (length users.now.account_ids ≤ length hall.now) }
+            ensures world { result.0.ghost_name ≡ world.entry.ghost_name }
+            ensures front { result.1.ghost_name ≡ front.entry.ghost_name }
+            ensures told { (did : List (Deed W.Keep W.Line W.Time)) × IsTold
+                (W.told world.entry.now) (W.told result.0.now) did × HasServedLines
+                (sight_of W.Line.left W.Line.held W.Line.read_faults W.Line.put_faults
+                W.Time.times W.Keep.kept) R.plan_of hall.entry.now users.entry.now count did
+                result.2 }
+            ensures cause { IsCounted (W.faults world.entry.now) (W.faults result.0.now)
+                result.2 }
+            ensures later { W.faults world.entry.now ≤ W.faults result.0.now }
+            ensures load_count { W.load_faults result.0.now ≡ W.load_faults world.entry.now }
+            ensures none_in { AreOf hall.entry.now result.1.now.roots
+                × (result.1.now.inside ≡ 0) }
+        {
+            let done = serve_scoped(scope, rt, alloc, world, users, hall, ends, front, count);
+            (world, front, done)
+        },
+    );
+    take_back(world);
+    take_back(front);
+    done
 }

@@ -21,9 +21,10 @@ use jm_edge::EdgeFault;
 use server_users::{ConfigFault, Users, read_users};
 use std::alloc::Global;
 use std::sync::Wait;
+use std::thread::Threads;
 
 // Listens on a port, and serves so many lines.
-fn serve_port<H: Wait, W: World, R: Rules>(
+fn serve_port<H: Threads + Wait + Sync, W: World, R: Rules>(
     rt: &H,
     alloc: Global,
     world: &mut W,
@@ -54,7 +55,7 @@ fn serve_port<H: Wait, W: World, R: Rules>(
 }
 
 // Serves so many lines over a hall, and takes it apart.
-fn serve_hall<H: Wait, W: World, R: Rules>(
+fn serve_hall<H: Threads + Wait + Sync, W: World, R: Rules>(
     rt: &H,
     alloc: Global,
     world: &mut W,
@@ -94,7 +95,7 @@ fn end_of(done: Result<(), EdgeFault>) -> Result<(), ServeFault>
 }
 
 // Serves so many lines over these accounts, and closes them.
-fn serve_accounts<H: Wait, W: World, R: Rules>(
+fn serve_accounts<H: Threads + Wait + Sync, W: World, R: Rules>(
     rt: &H,
     alloc: Global,
     world: &mut W,
@@ -125,7 +126,7 @@ fn serve_accounts<H: Wait, W: World, R: Rules>(
 }
 
 // Opens the accounts of the users, and serves so many lines.
-fn serve_users<H: Wait, W: World, F: RulesSource>(
+fn serve_users<H: Threads + Wait + Sync, W: World, F: RulesSource>(
     rt: &H,
     alloc: Global,
     world: &mut W,
@@ -151,13 +152,15 @@ fn serve_users<H: Wait, W: World, F: RulesSource>(
     }
 }
 
-/// Serves so many connections of a port, one after the other, over the accounts of a
-/// configuration, whose keepers are in a folder.
+/// Serves so many connections of a port over the accounts of a configuration, whose keepers are in
+/// a folder. Up to 64 connections are served at once, each in a thread of its own; a connection for
+/// which no thread can be made is served before the next one is taken.
 ///
 /// The accounts are opened in the order of their numbers, and the first that is refused ends the
 /// server. Only then it listens. Whatever ends it, each line and each keeper that the world gave
-/// comes back to it, once. What each line was served is in `specs/Lines.antt`. A line whose
-/// connection fails does not end the server.
+/// comes back to it, once: a line once its session has left, and the keepers once all lines are
+/// back. What each line was served is in `specs/Lines.antt`. A line whose connection fails does not
+/// end the server.
 ///
 /// Fails with `BadConfig` if and only if the bytes of the configuration are not of the form, and
 /// with `Damaged` if and only if what a keeper loaded is no valid account, as [`Book::start`] says.
@@ -165,7 +168,7 @@ fn serve_users<H: Wait, W: World, F: RulesSource>(
 /// keeper's count of faults of `load` rose, and with `NoMemory` if memory runs out.
 ///
 /// [`Book::start`]: account_book::Book::start
-pub fn serve<H: Wait, W: World, F: RulesSource>(
+pub fn serve<H: Threads + Wait + Sync, W: World, F: RulesSource>(
     rt: &H,
     alloc: Global,
     world: &mut W,
