@@ -1,21 +1,13 @@
-//! The program `jmap`: a JMAP mail server and a synchronising client.
+//! The program `jmap`: a JMAP mail server and a synchronising client. It does what `run` of
+//! jmap_commands does, over standard input, the two outputs and the world of the host.
 #![tactic(auto)]
 
-mod account_port;
-mod arguments;
-mod ending;
-mod laws;
-mod memory_book;
-mod message_line;
-mod read;
-mod run;
-#[cfg(test)]
-mod tests;
-
-use crate::ending::Ending;
-use crate::run::{NoWorld, run};
-use jm_edge::{Reading, Writing};
+use host_world::{HostFiles, HostWorld, MakesKeepers};
+use jm_edge::{Reading, Sink, Source, Writing};
+use jmap_commands::{Ending, Status, run};
 use std::process::ExitCode;
+use std::sync::Wait;
+use std::thread::Threads;
 use std::{env, io};
 
 fn main(rt: HostRuntime) -> ExitCode {
@@ -24,19 +16,33 @@ fn main(rt: HostRuntime) -> ExitCode {
         Ok(words) => {
             let mut source = Reading::new(rt.stdin());
             let mut out = Writing::new(rt.stdout());
-            let status = run(
+            let status = run_on_host(
                 &rt,
-                rt.alloc(),
+                &rt,
                 words.as_slice(),
                 &mut source,
                 &mut out,
                 &mut err,
-                &mut NoWorld,
+                HostFiles { rt },
             );
             status.exit_code()
         }
         Err(refused) => refused.say(&mut err).exit_code(),
     }
+}
+
+// Does what the arguments say, over the world of the host. The two first arguments are the same.
+fn run_on_host<S: Source, O: Sink, E: Sink, M: MakesKeepers>(
+    rt: &(impl Threads + Wait + Sync),
+    host: &HostRuntime,
+    words: &[String],
+    source: &mut S,
+    out: &mut O,
+    err: &mut E,
+    files: M,
+) -> Status {
+    let mut world = HostWorld::new(host, files);
+    run(rt, host.alloc(), words, source, out, err, &mut world)
 }
 
 // Returns the arguments after the program's name. Arguments that are not UTF-8 name no command.

@@ -1,0 +1,237 @@
+// The outside of `serve` on a host: files, SQLite databases, TCP on the loopback address, and the
+// system's clock. Its content is not exposed to contracts.
+ghost use Rattle.std.specs.Prelude.{◌≡◌, ◌≤◌};
+ghost use Rattle.jm_edge.specs.Causes.{Rose};
+
+use crate::counted_keeper::CountedKeeper;
+use jm_base::{Bytes, LAST_TIMESTAMP, Text};
+use jm_edge::{Clock, EdgeFault, Failed, NoGate, TcpLink};
+use jmap_server::{Finished, World};
+use keep_sqlite::{AtPath, Opens, SqliteKeeper};
+use sqlite::{Alter, File, FileStore};
+use std::alloc::{AllocError, Global};
+use std::io::Write;
+use std::net::{Ipv4Addr, TcpListener};
+use std::time::{SystemTime, UNIX_EPOCH};
+use std::{fs, io};
+
+/// Makes the keeper of an account that is kept in the database of a file.
+pub trait MakesKeepers: Drop {
+    /// What the databases are kept in.
+    type Store: Alter + Drop + Send;
+
+    /// What opens a database.
+    type Opener: Opens<Self::Store> + Send;
+
+    /// Returns the keeper of the database at a path. It opens nothing.
+    fn make(&self, path: Text) -> SqliteKeeper<Self::Store, Self::Opener>;
+}
+
+/// Makes keepers of the files of the host.
+#[derive(Drop)]
+pub struct HostFiles {
+    /// The host.
+    pub rt: HostRuntime,
+}
+
+impl MakesKeepers for HostFiles {
+    type Store = FileStore<File>;
+
+    type Opener = AtPath;
+
+    fn make(&self, path: Text) -> SqliteKeeper<FileStore<File>, AtPath> {
+        SqliteKeeper::open_later(&self.rt, path)
+    }
+}
+
+/// The clock of the host. Where it can't be read, or is set before 1970, it shows 0.
+#[derive(Drop)]
+pub struct HostClock {
+    rt: HostRuntime,
+}
+
+impl Clock for HostClock {
+    ghost use Rattle.std.specs.Prelude.{None};
+
+    ghost times = { λ _. None };
+
+    fn now(&mut self) -> u64 {
+        match SystemTime::now(&self.rt) {
+            Ok(time) => match time.duration_since(UNIX_EPOCH) {
+                Ok(since) => since.as_secs().min(LAST_TIMESTAMP),
+                Err(_) => 0,
+            },
+            Err(_) => 0,
+        }
+    }
+}
+
+// What is listened on, and how often the host and the keepers that came back have failed.
+#[derive(Drop)]
+struct Desk {
+    listener: Option<TcpListener>,
+    faults: u64,
+    load_faults: u64,
+}
+
+impl Desk {
+    // Counts a fault of the host.
+    fn fail(&mut self)
+        ensures rose { Rose self.old.faults self.new.faults }
+        ensures later { self.old.faults ≤ self.new.faults }
+        ensures load_count { self.new.load_faults ≡ self.old.load_faults }
+    {
+        self.faults = self.faults.saturating_add(1);
+    }
+}
+
+/// The host, with its faults counted.
+#[derive(Drop)]
+pub struct HostWorld<M: MakesKeepers> {
+    rt: HostRuntime,
+    files: M,
+    desk: Desk,
+}
+
+impl<M: MakesKeepers> HostWorld<M> {
+    /// Returns the host, which has not failed yet, with what makes the keepers of its accounts.
+    pub fn new(rt: &HostRuntime, files: M) -> HostWorld<M>
+        ensures faults { result.desk.faults ≡ 0 }
+        ensures load_faults { result.desk.load_faults ≡ 0 }
+    {
+        HostWorld {
+            rt: *rt,
+            files,
+            desk: Desk {
+                listener: None,
+                faults: 0,
+                load_faults: 0,
+            },
+        }
+    }
+}
+
+// Says on the standard error output that the host listens. It is no fault if that fails.
+fn say_where(rt: &HostRuntime, port: u16) {
+    let _ = writeln!(rt.stderr(), "listening on 127.0.0.1:{port}");
+}
+
+// Returns whether memory ran out.
+fn is_memory(error: &io::Error) -> bool {
+    error.kind() == io::ErrorKind::OutOfMemory
+}
+
+// Waits for a connection. Fails if there is no listener, if it fails, or if the connection can't be
+// told to send at once what is written.
+fn accept_link(listener: &Option<TcpListener>) -> Result<TcpLink, Failed> {
+    match listener {
+        Some(listener) => match listener.accept() {
+            Ok((stream, _)) => TcpLink::new(stream),
+            Err(_) => Err(Failed),
+        },
+        None => Err(Failed),
+    }
+}
+
+// Returns the path of the database of an account in a folder.
+fn path_of(alloc: Global, folder: &str, account: &str) -> Result<Text, AllocError> {
+    Ok(Text::from_string(format!(in alloc; "{folder}/{account}.sqlite")?))
+}
+
+impl<M: MakesKeepers> World for HostWorld<M> {
+    ghost use Rattle.std.specs.Prelude.{None, ◌≡◌, ◌∷◌, []};
+    ghost use Rattle.jmap_server.specs.Deeds.{GotLine, IsTold};
+
+    type Keep = CountedKeeper<SqliteKeeper<M::Store, M::Opener>>;
+
+    type Line = TcpLink;
+
+    type Time = HostClock;
+
+    type Hold = NoGate;
+
+    ghost told = { λ _. None };
+
+    ghost faults = { λ w. w.desk.faults };
+
+    ghost load_faults = { λ w. w.desk.load_faults };
+
+    fn text(&mut self, _alloc: Global, name: &Text) -> Result<Bytes, EdgeFault> {
+        match fs::read(&self.rt, name.as_str()) {
+            Ok(bytes) => Ok(Bytes::from_vec(bytes)),
+            Err(error) => {
+                if is_memory(&error) {
+                    return Err(EdgeFault::NoMemory);
+                }
+                self.desk.fail();
+                Err(EdgeFault::Failed)
+            }
+        }
+    }
+
+    fn keeper(
+        &mut self,
+        alloc: Global,
+        folder: &Text,
+        account: &Text,
+    ) -> Result<CountedKeeper<SqliteKeeper<M::Store, M::Opener>>, EdgeFault> {
+        match path_of(alloc, folder.as_str(), account.as_str()) {
+            Ok(path) => Ok(CountedKeeper {
+                inner: self.files.make(path),
+                load_faults: 0,
+            }),
+            Err(_) => Err(EdgeFault::NoMemory),
+        }
+    }
+
+    fn listen(&mut self, _alloc: Global, port: u16) -> Result<(), EdgeFault> {
+        match TcpListener::bind(&self.rt, (Ipv4Addr::LOCALHOST, port)) {
+            Ok(listener) => {
+                self.desk.listener = Some(listener);
+                say_where(&self.rt, port);
+                Ok(())
+            }
+            Err(error) => {
+                if is_memory(&error) {
+                    return Err(EdgeFault::NoMemory);
+                }
+                self.desk.fail();
+                Err(EdgeFault::Failed)
+            }
+        }
+    }
+
+    fn line(&mut self, _alloc: Global) -> Result<TcpLink, EdgeFault> {
+        match accept_link(&self.desk.listener) {
+            Ok(link) => Ok(link),
+            Err(_) => {
+                self.desk.fail();
+                Err(EdgeFault::Failed)
+            }
+        }
+    }
+
+    fn clock(&mut self) -> HostClock {
+        HostClock { rt: self.rt }
+    }
+
+    fn gate(&mut self) -> NoGate {
+        NoGate
+    }
+
+    fn return_line(&mut self, finished: Finished<TcpLink>)
+        ensures told { IsTold {K = Unit {0}} {C = Unit {0}} None None (GotLine finished ∷ []) }
+        ensures count { self.new.desk.faults ≡ self.old.desk.faults }
+        ensures load_count { self.new.desk.load_faults ≡ self.old.desk.load_faults }
+    {
+        drop(finished);
+    }
+
+    fn return_keeper(
+        &mut self,
+        _account: &Text,
+        keeper: CountedKeeper<SqliteKeeper<M::Store, M::Opener>>,
+    ) {
+        self.desk.load_faults = self.desk.load_faults.saturating_add(keeper.load_faults);
+    }
+}

@@ -1,0 +1,10 @@
+pub mod Ends
+pub mod Messages
+pub mod Performed
+pub mod Unstamped
+pub mod OneOutput
+pub mod Beginning
+pub mod Unfailing
+pub mod Servings
+pub mod Numbers
+pub mod Unserved

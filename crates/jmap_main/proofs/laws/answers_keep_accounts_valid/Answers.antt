@@ -1,8 +1,0 @@
-use Rattle.jmap_main.proofs.Performed.{stays_valid, stays_valid_uploaded}
-use Rattle.jmap_main.proofs.laws.answers_keep_accounts_valid.Goals as goal
-
-pub returns-clause-calls : goal.returns-clause-calls
-returns-clause-calls c = stays_valid
-
-pub returns-clause-uploads : goal.returns-clause-uploads
-returns-clause-uploads c = stays_valid_uploaded

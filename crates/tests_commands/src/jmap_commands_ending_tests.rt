@@ -1,0 +1,338 @@
+// Input that comes in pieces, calls that fail, and when replies are put.
+use crate::no_world::NoWorld;
+use crate::running::{Faults, NO_FAULTS, run_over};
+use jm_edge::{Failed, MemorySink, Reading, Sink, Source, Writing};
+use jmap_commands::{Status, run};
+use std::cell::Cell;
+use std::test::Fail;
+
+// An echo, an empty line, a line that is no JSON, and an echo without a line feed.
+const INPUT: &str =
+    "{\"using\":[\"urn:ietf:params:jmap:core\"],\"methodCalls\":[[\"Core/echo\",{},\"a\"]]}\n\n{\"using\":[\n{\"using\":[\"urn:ietf:params:jmap:core\"],\"methodCalls\":[[\"Core/echo\",{},\"a\"]]}";
+
+const FRONT: &str =
+    "{\"methodResponses\":[[\"Core/echo\",{},\"a\"]],\"sessionState\":\"0\"}\n{\"status\":400,\"type\":\"urn:ietf:params:jmap:error:notJSON\"}\n";
+
+const ALL: &str =
+    "{\"methodResponses\":[[\"Core/echo\",{},\"a\"]],\"sessionState\":\"0\"}\n{\"status\":400,\"type\":\"urn:ietf:params:jmap:error:notJSON\"}\n{\"methodResponses\":[[\"Core/echo\",{},\"a\"]],\"sessionState\":\"0\"}\n";
+
+const USAGE: &str = "usage: jmap batch, read, serve, sync, show, compact or rehearse\n";
+
+// A run over the input, in pieces of this size, and how it ends.
+struct Row {
+    arguments: &'static str,
+    piece: usize,
+    faults: Faults,
+    status: u8,
+    out: &'static str,
+    err: &'static str,
+}
+
+const ROWS: &[Row] = &[
+    Row {
+        arguments: "batch",
+        piece: 60,
+        faults: Faults {
+            read: 1,
+            write: 0,
+            said: 0,
+        },
+        status: 3,
+        out: "",
+        err: "read fault\n",
+    },
+    Row {
+        arguments: "batch",
+        piece: 60,
+        faults: Faults {
+            read: 2,
+            write: 0,
+            said: 0,
+        },
+        status: 3,
+        out: "",
+        err: "read fault\n",
+    },
+    Row {
+        arguments: "batch",
+        piece: 60,
+        faults: Faults {
+            read: 3,
+            write: 0,
+            said: 0,
+        },
+        status: 3,
+        out: FRONT,
+        err: "read fault\n",
+    },
+    Row {
+        arguments: "batch",
+        piece: 60,
+        faults: Faults {
+            read: 4,
+            write: 0,
+            said: 0,
+        },
+        status: 3,
+        out: FRONT,
+        err: "read fault\n",
+    },
+    Row {
+        arguments: "batch",
+        piece: 60,
+        faults: Faults {
+            read: 0,
+            write: 1,
+            said: 0,
+        },
+        status: 4,
+        out: "",
+        err: "write fault\n",
+    },
+    Row {
+        arguments: "batch",
+        piece: 60,
+        faults: Faults {
+            read: 0,
+            write: 2,
+            said: 0,
+        },
+        status: 4,
+        out: FRONT,
+        err: "write fault\n",
+    },
+    Row {
+        arguments: "read",
+        piece: 60,
+        faults: Faults {
+            read: 2,
+            write: 0,
+            said: 0,
+        },
+        status: 3,
+        out: "",
+        err: "read fault\n",
+    },
+    Row {
+        arguments: "read",
+        piece: 60,
+        faults: Faults {
+            read: 0,
+            write: 1,
+            said: 0,
+        },
+        status: 4,
+        out: "",
+        err: "write fault\n",
+    },
+    Row {
+        arguments: "read x",
+        piece: 60,
+        faults: Faults {
+            read: 0,
+            write: 0,
+            said: 0,
+        },
+        status: 2,
+        out: "",
+        err: USAGE,
+    },
+    Row {
+        arguments: "batch batch",
+        piece: 60,
+        faults: Faults {
+            read: 0,
+            write: 0,
+            said: 0,
+        },
+        status: 2,
+        out: "",
+        err: USAGE,
+    },
+    Row {
+        arguments: "",
+        piece: 60,
+        faults: Faults {
+            read: 0,
+            write: 0,
+            said: 0,
+        },
+        status: 2,
+        out: "",
+        err: USAGE,
+    },
+    Row {
+        arguments: "Batch",
+        piece: 60,
+        faults: Faults {
+            read: 0,
+            write: 0,
+            said: 0,
+        },
+        status: 2,
+        out: "",
+        err: USAGE,
+    },
+    Row {
+        arguments: "",
+        piece: 60,
+        faults: Faults {
+            read: 0,
+            write: 0,
+            said: 1,
+        },
+        status: 2,
+        out: "",
+        err: "",
+    },
+    Row {
+        arguments: "batch",
+        piece: 60,
+        faults: Faults {
+            read: 1,
+            write: 0,
+            said: 1,
+        },
+        status: 3,
+        out: "",
+        err: "",
+    },
+];
+
+// The same lines in pieces of every size.
+#[test]
+fn answers_pieces_of_every_size(rt: HostRuntime) -> Result<(), Fail> {
+    for piece in 1..=INPUT.len() {
+        let input = INPUT.as_bytes().to_vec(rt.alloc())?;
+        let ran = run_over(&rt, rt.alloc(), "batch", input, piece, NO_FAULTS)?;
+        assert_eq!(rt; ran.status, Status(0));
+        assert_eq!(rt; ran.out.as_slice(), ALL.as_bytes());
+    }
+    Ok(())
+}
+
+// Each call failing in turn: the reply to each line that ended before is written.
+#[test]
+fn ends_as_the_faults_say(rt: HostRuntime) -> Result<(), Fail> {
+    for row in ROWS {
+        let input = INPUT.as_bytes().to_vec(rt.alloc())?;
+        let ran = run_over(&rt, rt.alloc(), row.arguments, input, row.piece, row.faults)?;
+        assert_eq!(rt; ran.status, Status(row.status));
+        assert_eq!(rt; ran.out.as_slice(), row.out.as_bytes());
+        assert_eq!(rt; ran.err.as_slice(), row.err.as_bytes());
+    }
+    Ok(())
+}
+
+// A source of two lines, and a sink that notes how often the source had been read when a reply came.
+#[derive(Drop)]
+struct Lines<'a> {
+    reads: &'a Cell<u64>,
+}
+
+impl Source for Lines<'_> {
+    ghost use Rattle.std.specs.Prelude.{None};
+
+    ghost left = { λ s. None };
+
+    ghost faults = { λ s. 0 };
+
+    fn read(&mut self, room: &mut [u8]) -> Result<usize, Failed> {
+        let reads = self.reads.get().saturating_add(1);
+        self.reads.set(reads);
+        if reads > 2 || room.len() < 2 {
+            return Ok(0);
+        }
+        room[0] = b'x';
+        room[1] = b'\n';
+        Ok(2)
+    }
+}
+
+#[derive(Drop)]
+struct Noted<'a> {
+    reads: &'a Cell<u64>,
+    seen: Vec<u64>,
+}
+
+impl Sink for Noted<'_> {
+    ghost use Rattle.std.specs.Prelude.{None};
+
+    ghost held = { λ s. None };
+
+    ghost faults = { λ s. 0 };
+
+    fn put(&mut self, piece: &[u8]) -> Result<usize, Failed> {
+        let _ = self.seen.push(self.reads.get());
+        Ok(piece.len())
+    }
+}
+
+#[test]
+fn puts_each_reply_before_it_reads_on(rt: HostRuntime) -> Result<(), Fail> {
+    let reads = Cell::new(0u64);
+    let mut out = Noted {
+        reads: &reads,
+        seen: Vec::new(rt.alloc()),
+    };
+    let words = vec![in rt.alloc(); String::from_str(rt.alloc(), "batch")?]?;
+    let status = run(
+        &rt,
+        rt.alloc(),
+        words.as_slice(),
+        &mut Lines { reads: &reads },
+        &mut out,
+        &mut MemorySink::new(rt.alloc()),
+        &mut NoWorld { alloc: rt.alloc() },
+    );
+    assert_eq!(rt; status, Status(0));
+    assert_eq!(rt; out.seen.as_slice(), [1, 2].as_slice());
+    Ok(())
+}
+
+// The adapters over a reader and a writer of std.
+#[test]
+fn runs_over_adapters(rt: HostRuntime) -> Result<(), Fail> {
+    let words = vec![in rt.alloc(); String::from_str(rt.alloc(), "batch")?]?;
+    let mut written = Vec::new(rt.alloc());
+    let status = run(
+        &rt,
+        rt.alloc(),
+        words.as_slice(),
+        &mut Reading::new(INPUT.as_bytes()),
+        &mut Writing::new(&mut written),
+        &mut MemorySink::new(rt.alloc()),
+        &mut NoWorld { alloc: rt.alloc() },
+    );
+    assert_eq!(rt; status, Status(0));
+    assert_eq!(rt; written.as_slice(), ALL.as_bytes());
+    Ok(())
+}
+
+// Eight calls, of ten references each to the whole of the call before.
+#[test]
+fn ends_where_references_make_too_much(rt: HostRuntime) -> Result<(), Fail> {
+    let mut line = String::from_str(
+        rt.alloc(),
+        "{\"using\":[\"urn:ietf:params:jmap:core\"],\"methodCalls\":[[\"Core/echo\",{\"a\":1},\"0\"]",
+    )?;
+    for call in 1..9u8 {
+        let before = call.saturating_sub(1);
+        let reference = format!(in rt.alloc();
+            "{{\"resultOf\":\"{before}\",\"name\":\"Core/echo\",\"path\":\"\"}}"
+        )?;
+        let arguments =
+            "\"#a\":R,\"#b\":R,\"#c\":R,\"#d\":R,\"#e\":R,\"#f\":R,\"#g\":R,\"#h\":R,\"#i\":R,\"#j\":R".replace(
+                rt.alloc(),
+                "R",
+                reference.as_str(),
+            )?;
+        let call = format!(in rt.alloc(); ",[\"Core/echo\",{{{arguments}}},\"{call}\"]")?;
+        line.push_str(call.as_str())?;
+    }
+    line.push_str("]}")?;
+    let ran = run_over(&rt, rt.alloc(), "batch", line.into_bytes(), 4096, NO_FAULTS)?;
+    assert_eq!(rt; ran.status, Status(5));
+    assert_eq!(rt; ran.err.as_slice(), b"no memory\n".as_slice());
+    Ok(())
+}

@@ -1,0 +1,177 @@
+// A world in memory.
+ghost use Rattle.std.specs.Prelude.{◌≡◌, IfOk};
+
+use jm_base::{Bytes, NoMemory, Numbers, Rows, Text};
+use jm_edge::{EdgeFault, MemoryClock, MemoryLink, NoGate};
+use jmap_server::{Finished, World};
+use keep_port::{Keeper, Kept, MemoryKeeper};
+use std::alloc::Global;
+
+// The configuration, what each connection asks, the row that the keeper of each account keeps, or none where it is
+// empty, whether the first `load` of a keeper succeeds, and whether the world listens.
+#[derive(Clone, Copy)]
+pub(crate) struct Setting {
+    pub(crate) config: &'static str,
+    pub(crate) request: &'static str,
+    pub(crate) row: &'static [u8],
+    pub(crate) loads: bool,
+    pub(crate) listens: bool,
+}
+
+// A keeper in memory that counts how often its `load` has failed. Contracts don't know what it keeps.
+#[derive(Drop)]
+pub(crate) struct RowKeeper {
+    memory: MemoryKeeper,
+    load_faults: u64,
+}
+
+impl RowKeeper {
+    // Returns a keeper of this row, or of none where it is empty.
+    fn new(alloc: Global, row: &[u8], loads: bool) -> Result<RowKeeper, NoMemory>
+        ensures { IfOk result (λ k. k.load_faults ≡ 0) }
+    {
+        let mut rows = Rows::new(alloc);
+        if !row.is_empty() {
+            rows.push(Bytes::from_slice(alloc, row)?)?;
+        }
+        let mut fails = Numbers::new(alloc);
+        if !loads {
+            fails.push(1)?;
+        }
+        let kept = Kept { base: None, rows };
+        let none = Numbers::new(alloc);
+        Ok(RowKeeper {
+            memory: MemoryKeeper::failing(alloc, kept, fails, none, Numbers::new(alloc)),
+            load_faults: 0,
+        })
+    }
+}
+
+impl Keeper for RowKeeper {
+    ghost use Rattle.std.specs.Prelude.{None};
+
+    ghost kept = { λ _. None };
+
+    ghost image = { λ _ _. ⊥ };
+
+    ghost load_faults = { λ k. k.load_faults };
+
+    ghost append_faults = { λ k. k.memory.appends.faults };
+
+    ghost replace_faults = { λ k. k.memory.replaces.faults };
+
+    fn load(&mut self, alloc: Global) -> Result<Kept, EdgeFault> {
+        match self.memory.load(alloc) {
+            Ok(kept) => Ok(kept),
+            Err(EdgeFault::Failed) => {
+                self.load_faults = self.load_faults.saturating_add(1);
+                Err(EdgeFault::Failed)
+            }
+            Err(EdgeFault::NoMemory) => Err(EdgeFault::NoMemory),
+        }
+    }
+
+    fn append(&mut self, alloc: Global, row: &[u8]) -> Result<(), EdgeFault> {
+        self.memory.append(alloc, row)
+    }
+
+    fn replace(&mut self, alloc: Global, whole: &Kept) -> Result<(), EdgeFault> {
+        self.memory.replace(alloc, whole)
+    }
+}
+
+// A world of this setting, what was written to the connections that came back, and its counts of faults.
+#[derive(Drop)]
+pub(crate) struct MemoryWorld {
+    alloc: Global,
+    setting: Setting,
+    written: Bytes,
+    faults: u64,
+    load_faults: u64,
+}
+
+impl MemoryWorld {
+    pub(crate) fn new(alloc: Global, setting: Setting) -> MemoryWorld {
+        MemoryWorld {
+            alloc,
+            setting,
+            written: Bytes::new(alloc),
+            faults: 0,
+            load_faults: 0,
+        }
+    }
+
+    // Lends what was written to the connections that came back.
+    pub(crate) fn written(&self) -> &[u8] {
+        self.written.as_slice()
+    }
+}
+
+fn line_of(alloc: Global, request: &str) -> Result<MemoryLink, NoMemory> {
+    let bytes = Bytes::from_slice(alloc, request.as_bytes())?;
+    Ok(MemoryLink::from_vec(alloc, bytes.into_vec()))
+}
+
+impl World for MemoryWorld {
+    ghost use Rattle.std.specs.Prelude.{None, ◌≡◌, ◌∷◌, []};
+    ghost use Rattle.jmap_server.specs.Deeds.{GotLine, IsTold};
+
+    type Keep = RowKeeper;
+
+    type Line = MemoryLink;
+
+    type Time = MemoryClock;
+
+    type Hold = NoGate;
+
+    ghost told = { λ _. None };
+
+    ghost faults = { λ w. w.faults };
+
+    ghost load_faults = { λ w. w.load_faults };
+
+    fn text(&mut self, alloc: Global, _name: &Text) -> Result<Bytes, EdgeFault> {
+        Ok(Bytes::from_slice(alloc, self.setting.config.as_bytes())?)
+    }
+
+    fn keeper(
+        &mut self,
+        alloc: Global,
+        _folder: &Text,
+        _account: &Text,
+    ) -> Result<RowKeeper, EdgeFault> {
+        Ok(RowKeeper::new(alloc, self.setting.row, self.setting.loads)?)
+    }
+
+    fn listen(&mut self, _alloc: Global, _port: u16) -> Result<(), EdgeFault> {
+        if self.setting.listens {
+            return Ok(());
+        }
+        self.faults = self.faults.saturating_add(1);
+        Err(EdgeFault::Failed)
+    }
+
+    fn line(&mut self, alloc: Global) -> Result<MemoryLink, EdgeFault> {
+        Ok(line_of(alloc, self.setting.request)?)
+    }
+
+    fn clock(&mut self) -> MemoryClock {
+        MemoryClock::new(Numbers::new(self.alloc), 0)
+    }
+
+    fn gate(&mut self) -> NoGate {
+        NoGate
+    }
+
+    fn return_line(&mut self, finished: Finished<MemoryLink>)
+        ensures told { IsTold {K = Unit {0}} {C = Unit {0}} None None (GotLine finished ∷ []) }
+        ensures count { self.new.faults ≡ self.old.faults }
+        ensures load_count { self.new.load_faults ≡ self.old.load_faults }
+    {
+        let _ = self.written.append(finished.line.bytes());
+    }
+
+    fn return_keeper(&mut self, _account: &Text, keeper: RowKeeper) {
+        self.load_faults = self.load_faults.saturating_add(keeper.load_faults);
+    }
+}
