@@ -69,22 +69,40 @@ fn add_messages<K: Keeper, R: Rules>(
     Ok(())
 }
 
-// Does a patch to the emails with these numbers.
-fn flag_emails<K: Keeper, R: Rules>(
+// Returns the calls that do a patch to the emails with these numbers.
+fn flag_calls(alloc: Global, first: u64, end: u64, patch: &str) -> io::Result<Vec<Call>> {
+    let mut calls = Vec::new(alloc);
+    for number in first..end {
+        calls.push(flag(alloc, number, patch)?)?;
+    }
+    Ok(calls)
+}
+
+fn perform_all<K: Keeper, R: Rules>(
     alloc: Global,
     book: &mut Book<K, R>,
-    first: u64,
-    end: u64,
-    patch: &str,
+    calls: &[Call],
 ) -> io::Result<()> {
-    for number in first..end {
-        let call = flag(alloc, number, patch)?;
-        perform(alloc, book, &call)?;
+    for call in calls {
+        perform(alloc, book, call)?;
     }
     Ok(())
 }
 
-// Does each patch to the emails with these numbers. Returns how long that takes, in nanoseconds.
+// Performs calls that are there. Returns how long that takes, in nanoseconds.
+fn timed_calls<T: Clock, K: Keeper, R: Rules>(
+    rt: &T,
+    alloc: Global,
+    book: &mut Book<K, R>,
+    calls: &[Call],
+) -> io::Result<u64> {
+    let start = Instant::now(rt)?;
+    perform_all(alloc, book, calls)?;
+    nanos_since(rt, start)
+}
+
+// Does each patch to the emails with these numbers. Returns how long that takes without the making
+// of the calls, in nanoseconds.
 fn timed_flags<T: Clock, K: Keeper, R: Rules>(
     rt: &T,
     alloc: Global,
@@ -92,11 +110,12 @@ fn timed_flags<T: Clock, K: Keeper, R: Rules>(
     first: u64,
     end: u64,
 ) -> io::Result<u64> {
-    let start = Instant::now(rt)?;
+    let mut nanos = 0u64;
     for patch in PATCHES {
-        flag_emails(alloc, book, first, end, patch)?;
+        let calls = flag_calls(alloc, first, end, patch)?;
+        nanos = nanos.saturating_add(timed_calls(rt, alloc, book, calls.as_slice())?);
     }
-    nanos_since(rt, start)
+    Ok(nanos)
 }
 
 // Makes the mailbox M1, if there is none.

@@ -31,7 +31,7 @@ fn open_store<T: Clock + Print + Eprint, S: Alter + Drop + Send, O: Opens<S> + S
 /// Measures the opening of the account that a file keeps.
 pub(crate) fn open_file(rt: &HostRuntime, file: &str) -> io::Result<()> {
     match Text::from_str(rt.alloc(), file) {
-        Ok(path) => open_store(rt, rt.alloc(), SqliteKeeper::at(rt, path)),
+        Ok(path) => open_store(rt, rt.alloc(), SqliteKeeper::open_later(rt, path)),
         Err(_) => Err(no_memory()),
     }
 }
@@ -42,6 +42,6 @@ pub(crate) fn fill_file(rt: &HostRuntime, file: &str, calls: u64) -> io::Result<
     let Ok(path) = Text::from_str(rt.alloc(), file) else {
         return Err(no_memory());
     };
-    fill_store(rt, rt.alloc(), SqliteKeeper::at(rt, path), calls)?;
+    fill_store(rt, rt.alloc(), SqliteKeeper::open_later(rt, path), calls)?;
     open_file(rt, file)
 }
