@@ -2,11 +2,10 @@
 ghost use Rattle.std.specs.Prelude.{◌≡◌, None, IfErr};
 
 use crate::database;
+use crate::opening::{CANNOT_OPEN, open_file};
 use jm_base::{Bytes, Rows, Text};
-use sqlite::{Alter, Connection, Error, ErrorCode, File, FileStore};
+use sqlite::{Alter, Connection, Error, File, FileStore};
 use std::alloc::Global;
-
-const CANNOT_OPEN: Error = Error::SqliteFailure(ErrorCode::CannotOpen);
 
 /// Opens a database over a store.
 pub trait Opens<S: Alter + Drop>: Drop {
@@ -32,7 +31,7 @@ impl AtPath {
 
 impl Opens<FileStore<File>> for AtPath {
     fn open(&self) -> Result<Connection<FileStore<File>>, Error> {
-        Connection::open(&self.rt, self.path.as_str())
+        open_file(&self.rt, self.path.as_str())
     }
 }
 

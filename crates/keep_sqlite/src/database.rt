@@ -8,7 +8,7 @@ use std::alloc::Global;
 /// Returns the rows in the order of their numbers.
 pub fn load<S: Alter>(alloc: Global, connection: &mut Connection<S>) -> Result<Rows, Error> {
     let mut tx = begin(connection)?;
-    let rows = tables::rows(alloc, &mut tx)?;
+    let rows = tables::read_rows(alloc, &mut tx)?;
     tx.commit()?;
     Ok(Rows::from_vec(rows))
 }
@@ -21,7 +21,7 @@ pub fn append<S: Alter>(
     row: &[u8],
 ) -> Result<i64, Error> {
     let mut tx = begin(connection)?;
-    let last = last_number(alloc, &mut tx, last)?;
+    let last = find_last_number(alloc, &mut tx, last)?;
     let number = tables::insert(&mut tx, last, row)?;
     tx.commit()?;
     Ok(number)
@@ -35,7 +35,7 @@ pub fn replace<S: Alter>(
     rows: &[Bytes],
 ) -> Result<i64, Error> {
     let mut tx = begin(connection)?;
-    last_number(alloc, &mut tx, last)?;
+    find_last_number(alloc, &mut tx, last)?;
     let last = tables::insert_all(&mut tx, rows)?;
     tx.commit()?;
     Ok(last)
@@ -49,13 +49,13 @@ fn begin<S: Alter>(connection: &mut Connection<S>) -> Result<Transaction<'_, S>,
 }
 
 // the tables are created or checked if the last number is not known yet
-fn last_number<S: Alter>(
+fn find_last_number<S: Alter>(
     alloc: Global,
     tx: &mut Transaction<'_, S>,
     known: Option<i64>,
 ) -> Result<i64, Error> {
     match known {
         Some(last) => Ok(last),
-        None => tables::last_of(tables::rows(alloc, tx)?.len()),
+        None => tables::convert_count(tables::read_rows(alloc, tx)?.len()),
     }
 }

@@ -38,7 +38,7 @@ pub struct SqliteKeeper<S: Alter + Drop, O: Opens<S>> {
 impl SqliteKeeper<FileStore<File>, AtPath> {
     /// Returns a keeper of the file at this path. It opens nothing: the first call opens or creates
     /// the file. A call that can't open it fails, and the next one tries again.
-    pub fn at(rt: &HostRuntime, path: Text) -> SqliteKeeper<FileStore<File>, AtPath>
+    pub fn open_later(rt: &HostRuntime, path: Text) -> SqliteKeeper<FileStore<File>, AtPath>
         ensures unopened { result.access.connection
             ≡ LazyConnection.At (record { rt = rt.now; path = path }) }
         ensures loads { result.load_faults ≡ 0 }

@@ -9,6 +9,7 @@
 mod access;
 mod database;
 mod keeper;
+mod opening;
 mod tables;
 
 pub use access::{Adopted, AtPath, Opens};

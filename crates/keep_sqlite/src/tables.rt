@@ -1,6 +1,6 @@
 // The two tables, created, read and written inside a transaction.
 use jm_base::Bytes;
-use sqlite::{Alter, Error, ErrorCode, Row, Transaction, params};
+use sqlite::{Alter, Error, ErrorCode, Row, Rows, Transaction, params};
 use std::alloc::Global;
 
 /// The tables or their rows are not of this format.
@@ -24,13 +24,17 @@ const INSERT: &str = "INSERT INTO commits (place, bytes) VALUES (?1, ?2)";
 
 /// Returns the rows in the order of their numbers, the column `place`. It creates the tables if
 /// neither is there, and fails if any is not of this format.
-pub fn rows<S: Alter>(alloc: Global, tx: &mut Transaction<'_, S>) -> Result<Vec<Bytes>, Error> {
+pub fn read_rows<S: Alter>(
+    alloc: Global,
+    tx: &mut Transaction<'_, S>,
+) -> Result<Vec<Bytes>, Error> {
     if is_new(tx)? {
         tx.execute_batch(MAKE)?;
         return Ok(Vec::new(alloc));
     }
     check_about(tx)?;
-    read_rows(alloc, tx.query_all(COMMITS, &[])?)
+    let mut found = tx.query(COMMITS, &[])?;
+    read_all(alloc, &mut found)
 }
 
 // returns whether neither table is there
@@ -62,14 +66,25 @@ fn check_about<S: Alter>(tx: &mut Transaction<'_, S>) -> Result<(), Error> {
     }
 }
 
-fn read_rows(alloc: Global, found: Vec<Row>) -> Result<Vec<Bytes>, Error> {
-    let mut rows = Vec::with_capacity(alloc, found.len())?;
-    let mut number = 0i64;
-    for row in found {
-        number = number.saturating_add(1);
-        rows.push(read_row(&row, number)?)?;
+// reads one row after the other, each into memory of its own
+fn read_all<S: Alter>(alloc: Global, found: &mut Rows<'_, S>) -> Result<Vec<Bytes>, Error> {
+    let mut rows = Vec::new(alloc);
+    for number in 1..i64::MAX {
+        let Some(row) = read_next(found, number)? else {
+            return Ok(rows);
+        };
+        rows.push(row)?;
     }
-    Ok(rows)
+    Err(OTHER_FORM)
+}
+
+// returns the next row, which is to have this number, or `None` after the last
+fn read_next<S: Alter>(found: &mut Rows<'_, S>, number: i64) -> Result<Option<Bytes>, Error> {
+    found.advance()?;
+    match found.get() {
+        Some(row) => Ok(Some(read_row(row, number)?)),
+        None => Ok(None),
+    }
 }
 
 fn read_row(row: &Row, number: i64) -> Result<Bytes, Error> {
@@ -81,8 +96,8 @@ fn read_row(row: &Row, number: i64) -> Result<Bytes, Error> {
     Ok(Bytes::from_vec(bytes))
 }
 
-/// Returns the number of the last of so many rows.
-pub fn last_of(rows: usize) -> Result<i64, Error> {
+/// Returns the number of the last of so many rows: their count.
+pub fn convert_count(rows: usize) -> Result<i64, Error> {
     i64::try_from(rows).map_err(|_| OTHER_FORM)
 }
 

@@ -160,7 +160,7 @@ fn an_account_over_a_file_answers_as_one_in_memory(rt: HostRuntime) -> Result<()
     let expected = answers_over(&rt, alloc, memory, MailRules, CHANGES);
     for changes in [CHANGES, &[]] {
         let path = Text::from_str(alloc, PATH)?;
-        let found = answers_of(&rt, alloc, SqliteKeeper::at(&rt, path), changes);
+        let found = answers_of(&rt, alloc, SqliteKeeper::open_later(&rt, path), changes);
         assert!(rt; found.as_slice() == expected.as_slice());
     }
     Ok(())

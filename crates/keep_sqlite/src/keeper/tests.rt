@@ -79,7 +79,7 @@ fn memory(alloc: Global, more: &str) -> Result<SqliteKeeper<MemStore, Adopted>, 
 }
 
 fn at(rt: &HostRuntime, path: &str) -> Result<SqliteKeeper<FileStore<File>, AtPath>, NoMemory> {
-    Ok(SqliteKeeper::at(rt, Text::from_str(rt.alloc(), path)?))
+    Ok(SqliteKeeper::open_later(rt, Text::from_str(rt.alloc(), path)?))
 }
 
 // an empty folder

@@ -1,0 +1,91 @@
+// A file is opened with a cache of as many pages as it has: to open it each page is checked, and
+// then each row, before the rows are loaded.
+use sqlite::{Connection, Error, ErrorCode, File, FileStore, Options, Unknown};
+use sqlite_std_file::OpenError;
+use std::fs;
+use std::hash::{BuildHasher, RandomState};
+use std::io::{self, ErrorKind, Read};
+
+/// No database can be opened at the path.
+pub const CANNOT_OPEN: Error = Error::SqliteFailure(ErrorCode::CannotOpen);
+
+const NO_MEMORY: Error = Error::SqliteFailure(ErrorCode::OutOfMemory);
+
+// The most bytes of pages that are kept in memory once they were read.
+const MAX_CACHE_BYTES: u64 = 134_217_728;
+
+// How many bytes of pages a log may have that are not in the file yet.
+const LOG_BYTES: u64 = 4_194_304;
+
+// How many bytes a page of a new file has.
+const NEW_PAGE_BYTES: u64 = 4_096;
+
+/// Opens the file at this path, or creates it. What it reads is kept in memory, up to 128 MiB.
+pub fn open_file(rt: &HostRuntime, path: &str) -> Result<Connection<FileStore<File>>, Error> {
+    if path == ":memory:" || path.starts_with("file:") {
+        return Err(CANNOT_OPEN);
+    }
+    let options = choose_options(rt, path)?;
+    let files = match sqlite_std_file::open(rt, path, Unknown) {
+        Ok(files) => files,
+        Err(fault) => return Err(error_of(fault)),
+    };
+    match Connection::open_files(rt.alloc(), files, options) {
+        Ok(connection) => Ok(connection),
+        Err((error, _)) => Err(error),
+    }
+}
+
+fn error_of(fault: OpenError) -> Error {
+    match fault {
+        OpenError::OutOfMemory => NO_MEMORY,
+        OpenError::Io(error) if error.kind() == ErrorKind::OutOfMemory => NO_MEMORY,
+        _ => CANNOT_OPEN,
+    }
+}
+
+fn choose_options(rt: &HostRuntime, path: &str) -> Result<Options, Error> {
+    let Ok(state) = RandomState::new(rt) else {
+        return Err(CANNOT_OPEN);
+    };
+    let mut options = Options::new(state.hash_one(&0u8));
+    let pages = count_pages(rt, path).unwrap_or(0);
+    options.cache_pages = options.cache_pages.max(pages);
+    Ok(options)
+}
+
+// Returns how many pages the file at this path and its log may have, as far as they are to be kept
+// in memory. What is no file is not opened.
+fn count_pages(rt: &HostRuntime, path: &str) -> io::Result<usize> {
+    let found = fs::metadata(rt, path)?;
+    if !found.is_file() {
+        return Ok(0);
+    }
+    let bytes = found.len().saturating_add(LOG_BYTES);
+    Ok(pages_of(bytes.min(MAX_CACHE_BYTES), read_page_bytes(rt, path)?))
+}
+
+// Returns how many pages so many bytes are.
+fn pages_of(bytes: u64, page_bytes: u64) -> usize {
+    let pages = bytes.checked_div(page_bytes).unwrap_or(0);
+    usize::try_from(pages).unwrap_or(0)
+}
+
+// Returns how many bytes a page of the file has, as its header says.
+fn read_page_bytes(rt: &HostRuntime, path: &str) -> io::Result<u64> {
+    let mut head = [0u8; 18];
+    let count = fs::open(rt, path)?.read(&mut head)?;
+    Ok(page_bytes(count, head[16], head[17]))
+}
+
+// Returns how many bytes a page has, as these two bytes of the header say if so many are there.
+fn page_bytes(count: usize, high: u8, low: u8) -> u64 {
+    if count < 18 {
+        return NEW_PAGE_BYTES;
+    }
+    match u64::from(high) * 256 + u64::from(low) {
+        0 => NEW_PAGE_BYTES,
+        1 => 65_536,
+        bytes => bytes,
+    }
+}
