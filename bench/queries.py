@@ -56,18 +56,32 @@ class Mail:
         numbers, _ = self.keyword()
         return numbers, len(numbers)
 
-    def summary_from(self):
-        """What a list of authors that is kept next to the messages finds: it has no addresses, so it isn't quite the condition `from`."""
-        found = [e[0] for e in self.emails if "person 97" in e[5].lower()]
-        return found, len(found)
+    def authors_with(self):
+        """The emails whose author, which is kept in the tuple, contains the needle. An author is a name without the address, so it isn't quite `from`."""
+        return [e for e in self.emails if "person 97" in e[5].lower()]
 
-    def from_(self):
+    def messages_from(self):
+        """The emails whose fields From contain the needle, by Python's `email` over the raw messages."""
         found = []
         for e in self.emails:
             parsed = email.message_from_bytes(e[6], policy=email.policy.compat32)
             if any("person 97" in value.lower() for value in parsed.get_all("from", [])):
-                found.append(e[0])
+                found.append(e)
+        return found
+
+    def from_(self):
+        found = [e[0] for e in self.messages_from()]
         return found, len(found)
+
+    def from_tuples(self):
+        found = [e[0] for e in self.authors_with()]
+        return found, len(found)
+
+    def from_page(self):
+        return [e[0] for e in sorted(self.messages_from(), key=lambda e: (-e[4], e[0]))], None
+
+    def from_page_tuples(self):
+        return [e[0] for e in sorted(self.authors_with(), key=lambda e: (-e[4], e[0]))], None
 
     def text(self):
         found = []
@@ -103,10 +117,20 @@ def timed(call):
 
 
 def replies(count):
-    """For each query the reply that Python's lists give, and the seconds; `summary_from` is a second peer of `from`."""
+    """For each query the reply that Python's lists give, and the seconds. `from` and `from_page` have a second peer, over the authors in the tuples."""
     mail = Mail(count)
+    calls = {
+        "inbox": mail.inbox,
+        "keyword": mail.keyword,
+        "total": mail.total,
+        "from": mail.from_,
+        "from_tuples": mail.from_tuples,
+        "from_page": mail.from_page,
+        "from_page_tuples": mail.from_page_tuples,
+        "text": mail.text,
+    }
     out = {}
-    for name, call in (("inbox", mail.inbox), ("keyword", mail.keyword), ("total", mail.total), ("from", mail.from_), ("text", mail.text), ("summary_from", mail.summary_from)):
+    for name, call in calls.items():
         (numbers, total), seconds = timed(call)
         out[name] = (json.dumps(reply(numbers, total), separators=(",", ":"), sort_keys=True), seconds)
     return out
