@@ -11,3 +11,4 @@ pub mod Removals
 pub mod Patched
 pub mod Prefixes
 pub mod Merging
+pub mod FoundMembers

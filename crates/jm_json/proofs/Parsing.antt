@@ -58,7 +58,7 @@ EndsMembers p start found n here =
     (js : json.Members) (rest : List Token) (ds : Members) → members p n here ≡ Some (js, rest) → of_members js (members_of (fields_of found)) ≡ Some ds
     → (all : json.Members) × (members p (length start) start ≡ Some (all, rest)) × (of_members all no_members ≡ Some ds)
 
-alike : (xs ys : List ℕ) → slice_cmp nat_cmp xs ys ≡ Equal → xs ≡ ys
+pub alike : (xs ys : List ℕ) → slice_cmp nat_cmp xs ys ≡ Equal → xs ≡ ys
 alike xs ys e = (bytes_eq-Decides xs ys).0 (sym (is_eq-slice_cmp xs ys) ∙ ap is_eq e)
 
 put_at : (o : Ordering) (k : List ℕ) (t : Tree) (m : List ℕ × Tree) (ms : List (List ℕ × Tree)) → slice_cmp nat_cmp k m.0 ≡ o

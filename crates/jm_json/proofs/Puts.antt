@@ -102,7 +102,7 @@ same_key k x e = subst (λ z. slice_cmp nat_cmp z x ≡ Equal) e (tied_itself na
 other_key : (k x : List ℕ) (o : Ordering) → slice_cmp nat_cmp k x ≡ o → (o ≡ Equal → ⊥) → bytes_eq x k ≡ false
 other_key k x o e differs = elim (bytes_eq x k) as (λ b. bytes_eq x k ≡ b → bytes_eq x k ≡ false) [ true ↦ λ same. absurd (differs (sym e ∙ same_key k x ((bytes_eq-Decides x k).0 same))) | false ↦ λ other. other ] refl
 
-below_other : (k x : List ℕ) → slice_cmp nat_cmp k x ≡ Greater → bytes_eq x k ≡ false
+pub below_other : (k x : List ℕ) → slice_cmp nat_cmp k x ≡ Greater → bytes_eq x k ≡ false
 below_other k x e = other_key k x Greater e (λ l. cc)
 
 above_other : (k x : List ℕ) → slice_cmp nat_cmp k x ≡ Less → bytes_eq x k ≡ false

@@ -16,6 +16,7 @@ pub mod Invocations
 pub mod Responses
 pub mod Find
 pub mod Tokens
+pub mod Requests
 pub mod Pointer
 pub mod Patch
 pub mod Patching

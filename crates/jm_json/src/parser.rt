@@ -31,7 +31,7 @@ pub(crate) const INTEGER_LIMIT: i64 = NUMBER_LIMIT as i64;
 /// The buffers of a reader and of a writer, which may be reused for the next text.
 #[derive(Drop)]
 pub struct Scratch {
-    room: json::Scratch,
+    pub(crate) room: json::Scratch,
     pub(crate) text: Vec<u8>,
 }
 
@@ -85,7 +85,7 @@ pub(crate) fn read_plainly(alloc: Global, scratch: &mut Scratch, bytes: &[u8]) -
     Ok(tree)
 }
 
-fn take_tree(alloc: Global, reader: &mut Reader<'_>, depth: usize) -> Result<Json, Stop>
+pub(crate) fn take_tree(alloc: Global, reader: &mut Reader<'_>, depth: usize) -> Result<Json, Stop>
     ensures ok { IfOk result (λ t. IsTaken depth (tree_of t) reader.old reader.new) }
     ensures whole { IfOk result (λ t. first_invalid (data_of (tree_of t)) ≡ None) }
 {
@@ -162,7 +162,11 @@ fn take_items(alloc: Global, reader: &mut Reader<'_>, depth: usize) -> Result<It
 
 #[cycle(take)]
 #[inline(never)]
-fn take_members(alloc: Global, reader: &mut Reader<'_>, depth: usize) -> Result<Members, Stop>
+pub(crate) fn take_members(
+    alloc: Global,
+    reader: &mut Reader<'_>,
+    depth: usize,
+) -> Result<Members, Stop>
     ensures ok { IfOk result (λ ms. MembersTaken depth ms reader.old reader.new) }
     ensures whole { IfOk result (λ ms. first_invalid_member (members_of (fields_of ms)) ≡ None) }
     ensures shorter { OnOk result (length reader.new < length reader.old) }
