@@ -3,6 +3,7 @@ ghost use Rattle.std.specs.Prelude.{◌≡◌, ◌<◌, ◌≤◌, ◌^◌, ◌+
 ghost use Rattle.http_parts.specs.Bodies.{BodyInvalid, BodyTooLong, BodyUnfinished, Whole};
 ghost use Rattle.http_parts.specs.Plans.{IsWithinLimit, planned};
 ghost use Rattle.http_parts.specs.Parts.{Took, Halts, IsCountBelow};
+ghost use Rattle.http_parts.specs.declared.limits.TheConstants.{SEEN_BYTES_LIMIT};
 
 use crate::body_fault::BodyFault;
 use crate::chunks::read_chunked;
@@ -55,7 +56,7 @@ pub fn read_body<L: Link>(
         (planned limit plan (bytes.old ++ t) ≡ BodyInvalid) (planned limit plan (bytes.old ++ t) ≡
         BodyTooLong) (planned limit plan (bytes.old ++ t) ≡ BodyUnfinished) (length (bytes.old ++
         t)) (L.left link.new) (L.read_faults link.old) (L.read_faults link.new))) }
-    ensures below { IfErr result (IsCountBelow (2 ^ 50)) }
+    ensures below { IfErr result (IsCountBelow SEEN_BYTES_LIMIT) }
     ensures room { length room.new ≡ length room.old }
     ensures later { L.read_faults link.old ≤ L.read_faults link.new }
     ensures held { L.held link.new ≡ L.held link.old }

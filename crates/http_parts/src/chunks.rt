@@ -3,6 +3,7 @@ ghost use Rattle.std.specs.Prelude.{◌≡◌, ◌<◌, ◌≤◌, ◌+◌, ◌^
 ghost use Rattle.http_parts.specs.Bodies.{BodyInvalid, BodyTooLong, BodyUnfinished, Whole};
 ghost use Rattle.http_parts.specs.Chunks.{chunk_step, Settled, chunked_body};
 ghost use Rattle.http_parts.specs.Parts.{Took, Halts, IsCountBelow, HasStep};
+ghost use Rattle.http_parts.specs.declared.limits.TheConstants.{SEEN_BYTES_LIMIT};
 
 use crate::body_fault::BodyFault;
 use crate::parts::{read_chunk_end, read_chunk_line, read_trailer};
@@ -76,7 +77,7 @@ pub(crate) fn read_chunked<L: Link>(
         (chunked_body limit (bytes.old ++ t) ≡ BodyInvalid) (chunked_body limit (bytes.old ++ t) ≡
         BodyTooLong) (chunked_body limit (bytes.old ++ t) ≡ BodyUnfinished) (length (bytes.old ++
         t)) (L.left link.new) (L.read_faults link.old) (L.read_faults link.new))) }
-    ensures below { IfErr result (IsCountBelow (2 ^ 50)) }
+    ensures below { IfErr result (IsCountBelow SEEN_BYTES_LIMIT) }
     ensures room { length room.new ≡ length room.old }
     ensures later { L.read_faults link.old ≤ L.read_faults link.new }
     ensures held { L.held link.new ≡ L.held link.old }

@@ -16,3 +16,7 @@ pub const MAX_CHUNK_DIGITS: usize = 16;
 
 /// The most bytes after the last chunk, the empty line included. More are answered with status 400.
 pub const MAX_TRAILER_BYTES: usize = 16_384;
+
+/// The bytes of a body that were seen, its chunk lines included, are fewer than this number, and so
+/// are those of a head: the count of both is in range.
+pub const SEEN_BYTES_LIMIT: usize = 1_125_899_906_842_624;

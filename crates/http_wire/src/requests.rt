@@ -1,8 +1,8 @@
 // Reading a request from a link.
-ghost use Rattle.std.specs.Prelude.{◌≡◌, ◌<◌, ◌≤◌, ◌-◌, ◌^◌, length, take, drop, true, IfErr, OnOk};
+ghost use Rattle.std.specs.Prelude.{◌≡◌, ◌<◌, ◌≤◌, ◌-◌, length, take, drop, true, IfErr, OnOk};
 ghost use Rattle.std.specs.Io.KnownBytes.{Appends};
 ghost use Rattle.jm_edge.specs.Causes.{Rose};
-ghost use Rattle.http_parts.specs.declared.limits.TheConstants.{MAX_HEAD_BYTES};
+ghost use Rattle.http_parts.specs.declared.limits.TheConstants.{MAX_HEAD_BYTES, SEEN_BYTES_LIMIT};
 ghost use Rattle.http_parts.specs.Views.{IsHeadAt, IsWithin};
 ghost use Rattle.http_wire.specs.Responses.{continue_bytes, IsPrefixWritten};
 ghost use Rattle.http_wire.specs.Requests.{ReadsRequestFrom};
@@ -49,8 +49,8 @@ fn put_continue<L: Link>(link: &mut L, due: bool) -> Result<(), WireFault>
 
 // Returns why no request was read, from why its body was not. Its head has so many bytes.
 fn find_wire_fault(fault: BodyFault, head: usize, limit: usize) -> WireFault
-    requires below { IsCountBelow (2 ^ 50) fault }
-    requires small { head < 2 ^ 50 }
+    requires below { IsCountBelow SEEN_BYTES_LIMIT fault }
+    requires small { head < SEEN_BYTES_LIMIT }
     ensures { result ≡ wire_fault_of head limit fault }
 {
     match fault {
