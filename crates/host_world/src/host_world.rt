@@ -121,16 +121,49 @@ fn is_memory(error: &io::Error) -> bool {
     error.kind() == io::ErrorKind::OutOfMemory
 }
 
-// Waits for a connection. Fails if there is no listener, if it fails, or if the connection can't be
-// told to send at once what is written.
-fn accept_link(listener: &Option<TcpListener>) -> Result<TcpLink, Failed> {
-    match listener {
-        Some(listener) => match listener.accept() {
-            Ok((stream, _)) => TcpLink::new(stream),
-            Err(_) => Err(Failed),
+/// How many connections are waited for, one after the other, until one is accepted. If each of so
+/// many can't be, accepting has failed.
+pub const MAX_ACCEPT_TRIES: u64 = 1_000;
+
+// Returns whether a connection ended before it was accepted: the next one can still be.
+fn is_of_connection(error: &io::Error) -> bool {
+    matches!(
+        error.kind(),
+        io::ErrorKind::ConnectionAborted | io::ErrorKind::ConnectionReset
+    )
+}
+
+// Waits for the next connection. Returns none if it ended before it was accepted, or if it can't be
+// told to send at once what is written. Fails if the listener does.
+fn accept_next(listener: &TcpListener) -> Result<Option<TcpLink>, Failed> {
+    match listener.accept() {
+        Ok((stream, _)) => match TcpLink::new(stream) {
+            Ok(link) => Ok(Some(link)),
+            Err(_) => Ok(None),
         },
-        None => Err(Failed),
+        Err(error) => {
+            if is_of_connection(&error) {
+                return Ok(None);
+            }
+            Err(Failed)
+        }
     }
+}
+
+// Waits for a connection, and leaves out those that ended before they were accepted. Fails if there
+// is no listener, if it fails, or after too many of them in a row.
+fn accept_link(listener: &Option<TcpListener>) -> Result<TcpLink, Failed> {
+    let Some(listener) = listener else {
+        return Err(Failed);
+    };
+    for _ in 0..MAX_ACCEPT_TRIES {
+        match accept_next(listener) {
+            Ok(Some(link)) => return Ok(link),
+            Ok(None) => {}
+            Err(_) => return Err(Failed),
+        }
+    }
+    Err(Failed)
 }
 
 // Returns the path of the database of an account in a folder.
