@@ -1,5 +1,5 @@
 -- Replies to calls one after another, and what the port was asked for them.
-use Rattle.std.proofs.Common.{◌≡◌, inl, inr, ℕ, ◌+◌, ◌≤◌, arith, List, [], ◌∷◌, ◌++◌, map, length, nat_lt, cond, Bool, true, false, Option, Some, None, option_to_list, Result, Ok, Err, IfOk, OnErr, refl, sym, ap, ◌∙◌, subst, append_assoc, append-nil}
+use Rattle.std.proofs.Common.{◌≡◌, inl, inr, ℕ, ◌+◌, ◌≤◌, arith, List, [], ◌∷◌, ◌++◌, map, length, nat_lt, cond, Bool, true, false, Option, Some, None, option_to_list, Result, Ok, Err, IfOk, OnOk, OnErr, refl, sym, ap, ◌∙◌, subst, append_assoc, append-nil}
 use Rattle.jm_base.specs.declared.memory.NoMemory.{NoMemory}
 use Rattle.jm_json.specs.Tree.{Tree}
 use Rattle.jm_json.specs.Call.{Call}
@@ -85,6 +85,10 @@ pub all_begun : {S T : Type 0} (answers : S → Call → List Created → Replie
 all_begun answers stops s s' core mail r start after (Ok y) c m b h = tt
 all_begun answers stops s s' core mail r start after (Err y) c m b h = rw (sym c, sym m, sym b) (r.calls, [], h.0, after, h.1, s', sym (append-nil r.calls), h.2, h.3, h.4, refl)
 
+pub on_ok : {T E : Type 0} (P : Type 0) (r : Result T E) → P → OnOk r P
+on_ok P (Ok x) h = h
+on_ok P (Err e) h = tt
+
 pub on_err : {T E : Type 0} (P : Type 0) (r : Result T E) → P → OnErr r P
 on_err P (Ok x) h = tt
 on_err P (Err e) h = h
@@ -109,7 +113,7 @@ module _ {S : Type 0} (answers : S → Call → List Created → Replied → S �
   pub form_not_begun : (s s' : S) (r : Option Request) → s' ≡ s → HasBegunBy answers stops s s' r
   form_not_begun s s' r e = subst (λ (x : S). HasBegunBy answers stops s x r) (sym e) (request_not_begun s r)
 
-  reading_not_begun : (s : S) (r : Reading) → HasBegunReading answers stops s s r
+  pub reading_not_begun : (s : S) (r : Reading) → HasBegunReading answers stops s s r
   reading_not_begun s not_json = refl
   reading_not_begun s (not_whole path) = refl
   reading_not_begun s (whole t) = request_not_begun s (request_of t)

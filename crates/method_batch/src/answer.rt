@@ -1,11 +1,14 @@
 // The answer to a request: its calls in order, each by the text and the responses up to here, or by
 // the port (RFC 8620, section 3.4).
-ghost use Rattle.std.specs.Prelude.{◌≡◌, ◌++◌, Some, IfOk, OnOk, OnErr};
+ghost use Rattle.std.specs.Prelude.{◌≡◌, ℕ, List, [], ◌++◌, Some, IfOk, IfSome, OnOk, OnErr};
 ghost use Rattle.serde_json.specs.Written.{compact_text};
+ghost use Rattle.jm_json.specs.Tree.{Tree, object, fields_of};
 ghost use Rattle.jm_json.specs.Json.{tree_of};
+ghost use Rattle.jm_json.specs.Reading.{reading_of};
+ghost use Rattle.jm_json.specs.Requests.{AreMembersOf, HasMembers};
 ghost use Rattle.jm_json.specs.JsonValues.{data_of};
 ghost use Rattle.method_batch.specs.Request.{problem_in};
-ghost use Rattle.method_batch.specs.Outcome.{IsOutcome, IsOutcomeBy, IsResponse, IsAnswer, HasBegun, HasBegunBy, HasBegunRequest, HasBegunAnswer};
+ghost use Rattle.method_batch.specs.Outcome.{IsOutcome, IsOutcomeBy, IsResponse, IsAnswer, IsAnswerBy, HasBegun, HasBegunBy, HasBegunRequest, HasBegunReading, HasBegunAnswer};
 ghost use Rattle.method_batch.specs.Answered.{outcome_of};
 ghost use Rattle.method_batch.specs.declared.outcome.Outcome.{Outcome as TheOutcome};
 
@@ -17,8 +20,9 @@ use crate::progress::Progress;
 use crate::request::Request;
 use crate::using::uses;
 use jm_base::{Bytes, MAX_REQUEST_BYTES, NoMemory};
-use jm_json::{Json, ReadFault, Scratch, copy, read_with};
+use jm_json::{Json, ReadFault, RequestMembers, Scratch, copy, read_request, read_with};
 use std::alloc::Global;
+use std::mem;
 
 /// Answers the tree of a request, whose methods the port performs. If memory runs out, the first
 /// calls were performed, the port stopped at the next one, and no other was performed.
@@ -91,6 +95,44 @@ pub fn write_answer<P: Port>(
     }
 }
 
+/// Answers the bytes of a request like `write_answer`, and takes them away. If nothing is there to
+/// add to, the text is written to the memory that held them. If memory runs out, they may be taken
+/// away or not.
+pub fn write_answer_over<P: Port>(
+    alloc: Global,
+    scratch: &mut Scratch,
+    port: &mut P,
+    request: &mut Bytes,
+    out: &mut Bytes,
+) -> Result<(), NoMemory>
+    ensures written { OnOk result
+        ((o : TheOutcome) × IsAnswer P.answers port.old port.new request.old o
+        × (out.new ≡ out.old ++ compact_text (data_of (tree_of o.tree)))) }
+    ensures taken { OnOk result (request.new ≡ []) }
+    ensures begun { OnErr result (HasBegunAnswer P.answers P.stops port.old port.new request.old) }
+    ensures err { OnErr result (out.new ≡ out.old) }
+{
+    match answer_bytes(alloc, scratch, port, request.as_slice()) {
+        Ok(answered) => {
+            hand_over(request, out);
+            answered.write(alloc, scratch, out)
+        }
+        Err(refused) => Err(refused),
+    }
+}
+
+// Takes bytes away that are not needed any more. If there are no others, these get their memory.
+fn hand_over(used: &mut Bytes, out: &mut Bytes)
+    ensures used { used.new ≡ [] }
+    ensures out { out.new ≡ out.old }
+{
+    used.clear();
+    if !out.is_empty() {
+        return;
+    }
+    mem::swap(used, out);
+}
+
 fn answer_bytes<P: Port>(
     alloc: Global,
     scratch: &mut Scratch,
@@ -104,6 +146,61 @@ fn answer_bytes<P: Port>(
     if request.len() > MAX_REQUEST_BYTES {
         return Ok(Answered::Rejected(Problem::TooLarge));
     }
+    match read_request(alloc, scratch, request) {
+        Ok(found) => answer_found(alloc, scratch, port, request, found),
+        Err(refused) => Err(refused),
+    }
+}
+
+// Answers the bytes of a request, of which the members were read or are left to the tree.
+fn answer_found<P: Port>(
+    alloc: Global,
+    scratch: &mut Scratch,
+    port: &mut P,
+    request: &[u8],
+    found: Option<RequestMembers>,
+) -> Result<Answered, NoMemory>
+    requires { IfSome found (λ r. AreMembersOf request.now r) }
+    ensures outcome { IfOk result
+        (λ a. IsAnswerBy P.answers port.old port.new (reading_of request.now) (outcome_of a)) }
+    ensures begun { OnErr result
+        (HasBegunReading P.answers P.stops port.old port.new (reading_of request.now)) }
+{
+    match found {
+        Some(members) => answer_members(alloc, port, members),
+        None => answer_reading(alloc, scratch, port, request),
+    }
+}
+
+fn answer_members<P: Port>(
+    alloc: Global,
+    port: &mut P,
+    members: RequestMembers,
+) -> Result<Answered, NoMemory>
+    ensures outcome { IfOk result (λ a. (ms : List (List ℕ × Tree)) → HasMembers members ms
+        → IsOutcome P.answers port.old port.new (object (fields_of ms)) (outcome_of a)) }
+    ensures begun { OnErr result ((ms : List (List ℕ × Tree)) → HasMembers members ms
+        → HasBegun P.answers P.stops port.old port.new (object (fields_of ms))) }
+{
+    match Request::of_members_read(alloc, members) {
+        Ok(request) => answer_if_request(alloc, port, request),
+        Err(refused) => Err(refused),
+    }
+}
+
+// Answers the bytes of a request by their tree.
+#[inline(never)]
+fn answer_reading<P: Port>(
+    alloc: Global,
+    scratch: &mut Scratch,
+    port: &mut P,
+    request: &[u8],
+) -> Result<Answered, NoMemory>
+    ensures outcome { IfOk result
+        (λ a. IsAnswerBy P.answers port.old port.new (reading_of request.now) (outcome_of a)) }
+    ensures begun { OnErr result
+        (HasBegunReading P.answers P.stops port.old port.new (reading_of request.now)) }
+{
     match read_with(alloc, scratch, request) {
         Ok(tree) => answer_moved(alloc, port, tree),
         Err(ReadFault::NotJson) => Ok(Answered::Rejected(Problem::NotJson)),
@@ -117,7 +214,22 @@ fn answer_moved<P: Port>(alloc: Global, port: &mut P, request: Json) -> Result<A
         (λ a. IsOutcome P.answers port.old port.new (tree_of request) (outcome_of a)) }
     ensures begun { OnErr result (HasBegun P.answers P.stops port.old port.new (tree_of request)) }
 {
-    match Request::of_tree(alloc, request)? {
+    match Request::of_tree(alloc, request) {
+        Ok(request) => answer_if_request(alloc, port, request),
+        Err(refused) => Err(refused),
+    }
+}
+
+fn answer_if_request<P: Port>(
+    alloc: Global,
+    port: &mut P,
+    request: Option<Request>,
+) -> Result<Answered, NoMemory>
+    ensures outcome { IfOk result
+        (λ a. IsOutcomeBy P.answers port.old port.new request (outcome_of a)) }
+    ensures begun { OnErr result (HasBegunBy P.answers P.stops port.old port.new request) }
+{
+    match request {
         Some(request) => answer_form(alloc, port, request),
         None => Ok(Answered::Rejected(Problem::NotRequest)),
     }

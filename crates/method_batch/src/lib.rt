@@ -17,7 +17,9 @@ mod request;
 mod response;
 mod using;
 
-pub use answer::{answer_request, answer_request_with, answer_tree, write_answer};
+pub use answer::{
+    answer_request, answer_request_with, answer_tree, write_answer, write_answer_over,
+};
 pub use limits::MAX_CALLS_PER_REQUEST;
 pub use outcome::{Outcome, Problem};
 pub use port::Port;

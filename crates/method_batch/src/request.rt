@@ -12,7 +12,7 @@ use crate::outcome::Problem;
 use crate::parts::into_members;
 use crate::using::{are_known, read_texts};
 use jm_base::{NoMemory, Texts};
-use jm_json::{Invocations, Json, Made, Member, Members};
+use jm_json::{Invocations, Json, Made, Member, Members, RequestMembers};
 use std::alloc::Global;
 use std::collections::VecDeque;
 
@@ -33,6 +33,9 @@ struct Parts {
 }
 
 impl Request {
+    ghost use Rattle.std.specs.Prelude.{ℕ, List};
+    ghost use Rattle.jm_json.specs.Tree.{Tree, object, fields_of};
+    ghost use Rattle.jm_json.specs.Requests.{HasMembers};
     ghost use Rattle.method_batch.specs.Request.{request_of, request_in, request_with, request_by, problem_in};
 
     /// Returns the request of a tree, or none if the tree does not have the form of a request.
@@ -52,6 +55,23 @@ impl Request {
         let capabilities = read_texts(alloc, parts.using)?;
         let calls = read_calls(alloc, parts.calls)?;
         Request::with_created(alloc, parts.created, capabilities, calls)
+    }
+
+    /// Returns the request whose members were read, or none if they do not have the form of those
+    /// of a request.
+    pub(crate) fn of_members_read(
+        alloc: Global,
+        members: RequestMembers,
+    ) -> Result<Option<Request>, NoMemory>
+        ensures { IfOk result (λ o. (ms : List (List ℕ × Tree)) → HasMembers members ms
+            → o ≡ request_of (object (fields_of ms))) }
+    {
+        let RequestMembers {
+            using,
+            calls,
+            created,
+        } = members;
+        Request::with_created(alloc, created, using, calls)
     }
 
     fn with_created(
