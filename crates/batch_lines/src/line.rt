@@ -10,7 +10,7 @@ use crate::upload::{UploadPort, answer_upload};
 use jm_base::{Bytes, NoMemory};
 use jm_json::{Json, Scratch, write_after};
 use memchr::memchr;
-use method_batch::write_answer;
+use method_batch::{write_answer, write_answer_over};
 use std::alloc::Global;
 
 /// The line that ends first, and what follows its line feed.
@@ -107,11 +107,57 @@ fn answer_held<P: UploadPort>(
     ensures err { OnErr result (HasStopped P.answers P.uploads P.stops
         P.halts port.old port.new line.old replies.old replies.new) }
 {
-    match answer_line(alloc, scratch, port, line.as_slice(), replies) {
+    if line.is_empty() {
+        return Ok(());
+    }
+    if begins_with_plus(line.as_slice()) {
+        return reply_to_held_upload(alloc, port, line, replies);
+    }
+    reply_to_held_request(alloc, scratch, port, line, replies)
+}
+
+fn reply_to_held_upload<P: UploadPort>(
+    alloc: Global,
+    port: &mut P,
+    line: &mut Bytes,
+    replies: &mut Bytes,
+) -> Result<(), NoMemory>
+    requires some { line.old ≢ [] }
+    requires plus { begins_with_plus line.old ≡ true }
+    ensures ok { OnOk result (HasAnsweredLine P.answers
+        P.uploads port.old port.new line.old replies.old replies.new) }
+    ensures begun { OnOk result (line.new ≡ []) }
+    ensures err { OnErr result (HasStopped P.answers P.uploads P.stops
+        P.halts port.old port.new line.old replies.old replies.new) }
+{
+    match reply_to_upload(alloc, port, line.as_slice(), replies) {
         Ok(()) => {
             line.clear();
             Ok(())
         }
+        Err(refused) => Err(refused),
+    }
+}
+
+// Answers a held line that is the bytes of a request. If no reply waits, this one is written to the
+// memory of the line, so that a long one does not take as much again.
+fn reply_to_held_request<P: UploadPort>(
+    alloc: Global,
+    scratch: &mut Scratch,
+    port: &mut P,
+    line: &mut Bytes,
+    replies: &mut Bytes,
+) -> Result<(), NoMemory>
+    requires some { line.old ≢ [] }
+    requires plain { begins_with_plus line.old ≡ false }
+    ensures ok { OnOk result (HasAnsweredLine P.answers
+        P.uploads port.old port.new line.old replies.old replies.new) }
+    ensures begun { OnOk result (line.new ≡ []) }
+    ensures err { OnErr result (HasStopped P.answers P.uploads P.stops
+        P.halts port.old port.new line.old replies.old replies.new) }
+{
+    match write_answer_over(alloc, scratch, port, line, replies) {
+        Ok(()) => replies.append(b"\n"),
         Err(refused) => Err(refused),
     }
 }
