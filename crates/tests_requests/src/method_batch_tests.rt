@@ -4,7 +4,7 @@ use jm_base::{Bytes, NoMemory, Text};
 use jm_json::{
     Created, Invocation, Invocations, Json, Made, Members, Replied, Scratch, copy, read, write,
 };
-use method_batch::{Outcome, Port, answer_request, answer_tree, write_answer};
+use method_batch::{Outcome, Port, answer_request, answer_tree, write_answer, write_answer_over};
 use std::alloc::Global;
 use std::test::Fail;
 
@@ -121,6 +121,21 @@ fn writes_answers_one_behind_another(rt: HostRuntime) -> Result<(), Fail> {
 }
 
 #[test]
+fn writes_answers_over_their_requests(rt: HostRuntime) -> Result<(), Fail> {
+    let mut scratch = Scratch::new(rt.alloc());
+    let mut out = Bytes::new(rt.alloc());
+    let mut expected = Bytes::new(rt.alloc());
+    for (text, reply) in WRITTEN {
+        let mut request = Bytes::from_slice(rt.alloc(), text.as_bytes())?;
+        write_answer_over(rt.alloc(), &mut scratch, &mut Maker, &mut request, &mut out)?;
+        assert!(rt; request.is_empty());
+        expected.append(reply.as_bytes())?;
+    }
+    assert_eq!(rt; out, expected);
+    Ok(())
+}
+
+#[test]
 fn hands_want_of_memory_on(rt: HostRuntime) -> Result<(), Fail> {
     assert!(rt; answer_request(rt.alloc(), &mut Empty, REQUEST.as_bytes()).is_err());
     let echo =
@@ -133,7 +148,7 @@ fn hands_want_of_memory_on(rt: HostRuntime) -> Result<(), Fail> {
 }
 
 // The members of a request that uses the core and mail, and the Response.
-const RESPONSES: [(&str, &str); 9] = [
+const RESPONSES: [(&str, &str); 11] = [
     (
         "'methodCalls':[['Core/echo',{'l':[{'i':'a'},{'i':'b'}]},'0'],['Mailbox/get',{'#ids':{'resultOf':'0','name':'Core/echo','path':'/l/*/i'},'x':1},'1']]",
         "{'methodResponses':[['Core/echo',{'l':[{'i':'a'},{'i':'b'}]},'0'],['Mailbox/get',{'asked':{'ids':['a','b'],'x':1},'made':0},'1']],'sessionState':'0'}",
@@ -165,6 +180,14 @@ const RESPONSES: [(&str, &str); 9] = [
     (
         "'methodCalls':[['Mailbox/set',{},'0']],'createdIds':{'k':'M7'}",
         "{'createdIds':{'k':'M1'},'methodResponses':[['Mailbox/set',{'asked':{},'made':1},'0']],'sessionState':'0'}",
+    ),
+    (
+        "'methodCalls':[['Core/echo',{},'0']],'\\u006dethodCalls':[['Core/echo',{},'1']]",
+        "{'methodResponses':[['Core/echo',{},'1']],'sessionState':'0'}",
+    ),
+    (
+        "'methodCalls':1,'using':['urn:ietf:params:jmap:core'],'methodCalls':[['Email/get',{},'0']]",
+        "{'methodResponses':[['error',{'type':'unknownMethod'},'0']],'sessionState':'0'}",
     ),
     (
         "'other':null,'methodCalls':[['Mailbox/set',{},'0']]",
@@ -224,7 +247,7 @@ const LIMIT: &str =
     "{'limit':'maxCallsInRequest','status':400,'type':'urn:ietf:params:jmap:error:limit'}";
 
 // Requests, and their problems.
-const REFUSALS: [(&str, &str); 13] = [
+const REFUSALS: [(&str, &str); 15] = [
     ("{'using':['urn:x'],'methodCalls':[", NOT_JSON),
     ("[]", NOT_REQUEST),
     ("{'using':['urn:x'],'methodCalls':[['a',{}]]}", NOT_REQUEST),
@@ -239,6 +262,8 @@ const REFUSALS: [(&str, &str); 13] = [
     ),
     ("{'using':['urn:x'],'methodCalls':[],'x':1.5}", NOT_REQUEST),
     ("{'using':['urn:x',1],'methodCalls':[]}", NOT_REQUEST),
+    ("{'methodCalls':[]}", NOT_REQUEST),
+    ("{'using':[],'methodCalls':[],'using':{}}", NOT_REQUEST),
     (
         "{'using':'urn:ietf:params:jmap:core','methodCalls':[]}",
         NOT_REQUEST,
