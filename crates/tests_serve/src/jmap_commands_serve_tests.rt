@@ -1,16 +1,12 @@
 // Runs of `serve` over a world in memory: what its arguments may be, how it ends, and what its one connection is answered.
 // The texts are those of docs/rules/http.md, the bytes of a commit those of docs/rules/kept-bytes.md.
-use crate::memory_world::{MemoryWorld, Setting};
-use jm_base::Bytes;
-use jm_edge::{MemorySink, MemorySource};
-use jmap_commands::{Status, run};
+use crate::memory_world::{CONFIG, MemoryWorld, Setting};
+use crate::running::run_serve;
+use jmap_commands::Status;
 use std::alloc::Global;
 use std::sync::Wait;
 use std::test::Fail;
 use std::thread::Threads;
-
-const CONFIG: &str =
-    "{\"users\":[{\"accounts\":[{\"id\":\"A1\",\"name\":\"Mail\",\"readOnly\":false}],\"name\":\"ann\",\"token\":\"t\"}]}";
 
 // A commit whose one edit drops a thread that is not there, and the same with a byte more.
 const DROPS: &[u8] =
@@ -133,44 +129,6 @@ fn ends_as(rt: &(impl Threads + Wait + Sync), alloc: Global, row: &Row) -> Resul
             && ran.out.is_empty()
             && ran.err.as_slice() == row.err.as_bytes(),
     )
-}
-
-// What a run left: its status, its output and its error output.
-#[derive(Drop)]
-struct Ran {
-    status: Status,
-    out: Bytes,
-    err: Bytes,
-}
-
-// Runs the program over a world, with nothing on the input.
-fn run_serve(
-    rt: &(impl Threads + Wait + Sync),
-    alloc: Global,
-    arguments: &str,
-    world: &mut MemoryWorld,
-) -> Result<Ran, Fail> {
-    let mut words = Vec::new(alloc);
-    for word in arguments.split(' ') {
-        words.push(String::from_str(alloc, word)?)?;
-    }
-    let mut source = MemorySource::new(alloc, Vec::new(alloc));
-    let mut out = MemorySink::new(alloc);
-    let mut err = MemorySink::new(alloc);
-    let status = run(
-        rt,
-        alloc,
-        words.as_slice(),
-        &mut source,
-        &mut out,
-        &mut err,
-        world,
-    );
-    Ok(Ran {
-        status,
-        out: Bytes::from_slice(alloc, out.bytes())?,
-        err: Bytes::from_slice(alloc, err.bytes())?,
-    })
 }
 
 #[test]

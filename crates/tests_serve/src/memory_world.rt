@@ -7,6 +7,10 @@ use jmap_server::{Finished, World};
 use keep_port::{Keeper, Kept, MemoryKeeper};
 use std::alloc::Global;
 
+// A configuration of one user with one account.
+pub(crate) const CONFIG: &str =
+    "{\"users\":[{\"accounts\":[{\"id\":\"A1\",\"name\":\"Mail\",\"readOnly\":false}],\"name\":\"ann\",\"token\":\"t\"}]}";
+
 // The configuration, what each connection asks, the row that the keeper of each account keeps, or none where it is
 // empty, whether the first `load` of a keeper succeeds, and whether the world listens.
 #[derive(Clone, Copy)]
@@ -22,12 +26,12 @@ pub(crate) struct Setting {
 #[derive(Drop)]
 pub(crate) struct RowKeeper {
     memory: MemoryKeeper,
-    load_faults: u64,
+    pub(crate) load_faults: u64,
 }
 
 impl RowKeeper {
     // Returns a keeper of this row, or of none where it is empty.
-    fn new(alloc: Global, row: &[u8], loads: bool) -> Result<RowKeeper, NoMemory>
+    pub(crate) fn new(alloc: Global, row: &[u8], loads: bool) -> Result<RowKeeper, NoMemory>
         ensures { IfOk result (λ k. k.load_faults ≡ 0) }
     {
         let mut rows = Rows::new(alloc);
