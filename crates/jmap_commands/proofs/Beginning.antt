@@ -1,10 +1,8 @@
 -- An account that begins over a keeper in memory whose content is empty.
-use Rattle.std.proofs.Common.{◌≡◌, ◌⊎◌, inl, inr, ℕ, ◌≤◌, ◌^◌, min, List, [], ◌∷◌, Option, Some, None, Ok, refl, sym, ap, ◌∙◌, subst, arith}
+use Rattle.std.proofs.Common.{◌≡◌, ◌⊎◌, inl, inr, ℕ, [], Some, None, refl, sym, ◌∙◌, subst, arith}
 use Rattle.jm_edge.specs.Causes.{Rose}
-use Rattle.keep_port.specs.Keeping.{IsContent, IsUnknownOr, content_loaded}
 use Rattle.keep_port.specs.declared.kept.Kept.{Kept}
 use Rattle.mail_records.specs.Histories.{History, empty_history}
-use Rattle.account_book.specs.Accounts.{without_refusals}
 use Rattle.account_book.specs.Keeping.{IsOneMore, KeepsHistory, no_base_encoding}
 use Rattle.account_book.specs.Opening.{IsDamaged, IsOpened, IsStartFault, MakesHistory, WasLoaded}
 use Rattle.account_book.specs.Replies.{NoneRefused}

@@ -4,6 +4,10 @@ pub mod Performed
 pub mod Unstamped
 pub mod OneOutput
 pub mod Beginning
+pub mod Configured
+pub mod Simulation
+pub mod Alone
+pub mod AloneSteps
 pub mod Unfailing
 pub mod Servings
 pub mod Numbers

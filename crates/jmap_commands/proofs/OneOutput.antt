@@ -1,23 +1,22 @@
 -- What is written for the same lines is the same, over a port that replies to each call in one way, and so over the account of
 -- `batch`, whatever stamps its entries have.
-use Rattle.std.proofs.Common.{◌≡◌, ◌⊎◌, inl, inr, ℕ, ◌+◌, ◌≤◌, List, [], ◌∷◌, ◌++◌, ◌==◌, map, length, nat_lt, Bool, true, false, cond, Option, Some, None, is_some, refl, sym, ap, ap₂, ◌∙◌, subst, codes}
+use Rattle.std.proofs.Common.{◌≡◌, inl, inr, ℕ, ◌+◌, ◌≤◌, List, [], ◌∷◌, ◌++◌, ◌==◌, map, length, nat_lt, Bool, true, false, cond, Option, Some, None, Result, Ok, Err, is_some, refl, sym, ap, ap₂, ◌∙◌, subst, codes}
 use Rattle.jm_base.specs.declared.limits.TheConstants.{MAX_REQUEST_BYTES, MAX_UPLOAD_BYTES}
 use Rattle.jm_json.specs.Call.{Call}
 use Rattle.jm_json.specs.Invocations.{call_of}
 use Rattle.jm_json.specs.Json.{tree_of}
 use Rattle.jm_json.specs.Reading.{Reading, not_json, not_whole, whole, reading_of}
 use Rattle.jm_json.specs.Tree.{Tree}
-use Rattle.jm_json.specs.declared.invocation.Invocation.{Invocation}
 use Rattle.jm_json.specs.declared.invocation.Created.{Created}
 use Rattle.jm_json.specs.declared.invocation.Replied.{Replied}
-use Rattle.mail_records.specs.Histories.{History, Entry, Committed, Refused, blobs_of, edits_of, grown, empty_history}
+use Rattle.mail_records.specs.Histories.{History, Entry, Committed, blobs_of, edits_of, grown, empty_history}
 use Rattle.mail_records.specs.declared.edits.Edit.{Edit}
 use Rattle.mail_records.specs.declared.edits.Stamp.{Stamp}
 use Rattle.method_batch.specs.Method.{core_capability, mail_capability}
 use Rattle.method_batch.specs.Request.{request_of, problem_in, uses}
 use Rattle.method_batch.specs.Prepared.{Preparation, refused, ready, preparation}
 use Rattle.method_batch.specs.Answer.{Asked, Runs, RepliesPrepared, RepliesAlone, Answers, after_reply, is_echo}
-use Rattle.method_batch.specs.Outcome.{IsAnswer, IsAnswerBy, IsRefusal, IsOutcomeBy, IsOutcomeUnless, beginning, problem_tree, response_tree}
+use Rattle.method_batch.specs.Outcome.{IsAnswerBy, IsRefusal, IsOutcomeBy, IsOutcomeUnless, beginning, problem_tree, response_tree}
 use Rattle.method_batch.specs.declared.request.Request.{Request}
 use Rattle.method_batch.specs.declared.progress.Progress.{Progress}
 use Rattle.method_batch.specs.declared.outcome.Outcome.{Outcome}
@@ -42,7 +41,11 @@ use Rattle.batch_lines.specs.Replies.{AreReplies, IsLineReply, IsRequestReply, I
 use Rattle.batch_lines.specs.Uploads.{IsAnswerToBytes, IsRejected, IsUploaded, base64_bytes, limit_tree, upload_tree}
 use Rattle.batch_lines.specs.declared.limits.TheConstants.{MAX_UPLOAD_CHARACTERS}
 use Rattle.batch_lines.specs.declared.upload.Uploaded.{Uploaded}
-use Rattle.jmap_commands.specs.AccountAnswers.{AnswersUnless, IsAccountAnswer, error_alone, account_answers, account_error, account_uploads, asked, asked_upload, point_between, replied_of, uploaded_of}
+use Rattle.server_users.specs.declared.users.UserAccount.{UserAccount}
+use Rattle.hall_port.specs.Steps.{error_alone, replied_of, upload_call}
+use Rattle.hall_port.specs.Targets.{target_of}
+use Rattle.jmap_commands.specs.OneUser.{the_accounts}
+use Rattle.jmap_commands.specs.AccountAnswers.{AnswersBy, IsAccountAnswer, account_answers, account_uploads, asked, point_between, uploaded_of}
 use Rattle.jmap_commands.specs.Stamps.{AreAlike, unstamped, unstamped_entry}
 use Rattle.jmap_commands.proofs.Performed.{at_ends, unchanged}
 use Rattle.jmap_commands.proofs.Unstamped.{blobs_unstamped, changes_unstamped, edits_unstamped, get_unstamped, import_unstamped, parse_unstamped, queried_unstamped, query_changed_unstamped}
@@ -245,9 +248,9 @@ answers_one show h k h' k' x y out out' alike plans same a b =
     subst (λ (z : Plan). IsReplyTo z edit_bytes k k' (point_between k k') y.ask b.stamp out') plans (at_ends k k' y b.stamp out' b.begins b.reply) in
     plans_one show p h k h' k' x.ask y.ask (point_between h h') (point_between k k') a.stamp b.stamp out out' alike same (unchanged h h' a.begins) (unchanged k k' b.begins) a.kept b.kept first second
 
-by_error : (e : Option (List ℕ)) (h k : History) (c : Call) (made : List Created) (r q : Replied) (h' k' : History) → AreAlike h k → AnswersUnless e h c made r h' → AnswersUnless e k c made q k' → (q ≡ r) × AreAlike h' k'
-by_error (Some kind) h k c made r q h' k' alike a b = (b.1 ∙ sym a.1, alike_so h k h' k' alike a.0 b.0)
-by_error None h k c made r q h' k' alike a b =
+by_target : (t : Result UserAccount (List ℕ)) (h k : History) (c : Call) (made : List Created) (r q : Replied) (h' k' : History) → AreAlike h k → AnswersBy t h c made r h' → AnswersBy t k c made q k' → (q ≡ r) × AreAlike h' k'
+by_target (Err kind) h k c made r q h' k' alike a b = (b.1 ∙ sym a.1, alike_so h k h' k' alike a.0 b.0)
+by_target (Ok account) h k c made r q h' k' alike a b =
     let calls : call_of b.call ≡ call_of a.call = b.same ∙ sym a.same in
     let plans : method_plan k (call_of b.call) made false 0 ≡ method_plan h (call_of a.call) made false 0 =
     ap (λ (x : Call). method_plan k x made false 0) calls ∙ plan_alike h k (call_of a.call) made alike in
@@ -256,11 +259,11 @@ by_error None h k c made r q h' k' alike a b =
 
 upload_one : (h k : History) (bytes : List ℕ) (u v : Uploaded) (h' k' : History) → AreAlike h k → account_uploads h bytes u h' → account_uploads k bytes v k' → (v ≡ u) × AreAlike h' k'
 upload_one h k bytes u v h' k' alike a b =
-    let both = answers_one uploaded_of h k h' k' (asked_upload bytes) (asked_upload bytes) a.out b.out alike (upload_alike h k bytes alike) refl a.answer b.answer in
+    let both = answers_one uploaded_of h k h' k' (upload_call bytes) (upload_call bytes) a.out b.out alike (upload_alike h k bytes alike) refl a.answer b.answer in
     (b.shown ∙ both.0 ∙ sym a.shown, both.1)
 
 account_one : (h k : History) (c : Call) (made : List Created) (r q : Replied) (h' k' : History) → AreAlike h k → account_answers h c made r h' → account_answers k c made q k' → (q ≡ r) × AreAlike h' k'
-account_one h k c made r q h' k' alike a b = by_error (account_error c) h k c made r q h' k' alike a b
+account_one h k c made r q h' k' alike a b = by_target (target_of the_accounts c) h k c made r q h' k' alike a b
 
 pub account_lines : (lines : List (List ℕ)) (out other : List ℕ) (h h' k k' : History) → AreAlike h k → AreReplies account_answers account_uploads h h' lines out → AreReplies account_answers account_uploads k k' lines other → (other ≡ out) × AreAlike h' k'
 account_lines lines out other h h' k k' alike a b = lines_one account_answers account_uploads AreAlike account_one upload_one lines h k h' k' out other alike a b

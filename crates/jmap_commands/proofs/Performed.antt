@@ -1,8 +1,6 @@
 -- What a book's answer to a method is of the account of `batch`, and that it leaves a valid account valid.
-use Rattle.std.proofs.Common.{◌≡◌, ◌⊎◌, inl, inr, ℕ, ◌+◌, ◌≤◌, Bool, true, false, List, [], ◌∷◌, ◌++◌, drop, length, Option, Some, None, refl, sym, ap, ◌∙◌, subst, arith}
+use Rattle.std.proofs.Common.{◌≡◌, inl, inr, ℕ, List, length, Result, Ok, Err, refl, sym, ap, ◌∙◌, subst, arith}
 use Rattle.jm_json.specs.Call.{Call}
-use Rattle.jm_json.specs.Invocations.{call_of}
-use Rattle.jm_json.specs.declared.invocation.Invocation.{Invocation}
 use Rattle.jm_json.specs.declared.invocation.Created.{Created}
 use Rattle.jm_json.specs.declared.invocation.Replied.{Replied}
 use Rattle.mail_records.specs.Histories.{History, account_after}
@@ -11,13 +9,16 @@ use Rattle.mail_records.proofs.Prefixes.{account_after-all}
 use Rattle.record_codec.specs.Sizes.{edit_bytes}
 use Rattle.account_book.specs.Replies.{IsReplyTo, NoneRefused}
 use Rattle.account_book.proofs.Answering.{refused_shows}
-use Rattle.account_book.specs.declared.asks.Ask.TheVariants.{Method}
 use Rattle.account_book.specs.declared.plans.Out.{Out}
 use Rattle.account_book.specs.declared.plans.Point.{Point}
 use Rattle.mail_calls.specs.Plans.{call_plan}
 use Rattle.mail_calls.specs.ValidAfterCommits.{IsWholeMail}
 use Rattle.mail_calls.specs.RuleLaws.{plan_keeps}
-use Rattle.jmap_commands.specs.AccountAnswers.{IsAccountAnswer, AnswersUnless, IsMailReply, account_answers, account_error, account_uploads, asked, asked_upload, point_between}
+use Rattle.server_users.specs.declared.users.UserAccount.{UserAccount}
+use Rattle.hall_port.specs.Steps.{upload_call}
+use Rattle.hall_port.specs.Targets.{target_of}
+use Rattle.jmap_commands.specs.OneUser.{the_accounts}
+use Rattle.jmap_commands.specs.AccountAnswers.{AnswersBy, IsAccountAnswer, IsMailReply, account_answers, account_uploads, asked, point_between}
 use Rattle.batch_lines.specs.declared.upload.Uploaded.{Uploaded}
 use Rattle.account_book.specs.declared.asks.Call.{Call as TheCall}
 
@@ -36,21 +37,6 @@ at_ends h k call stamp out start at =
 pub unchanged : (h k : History) → account_after k (length h.entries) ≡ h → length k.entries ≡ length h.entries → k ≡ h
 unchanged h k begins same = sym (all_of k (length k.entries) refl) ∙ ap (account_after k) same ∙ begins
 
--- what a book answers to a call is the answer of the account of `batch`
-pub answered : (h k : History) (call : TheCall) (stamp : Stamp) (before after : ℕ) (out : Out) → NoneRefused h k → before ≡ length h.entries → after ≡ length k.entries → account_after k before ≡ h
-    → IsMailReply k (record { account = 0; before = before; after = after; moment = 0 }) call stamp out → IsAccountAnswer h call out k
-answered h k call stamp before after out kept b a begins reply =
-    let at : IsMailReply k (point_between h k) call stamp out =
-    subst (λ (x : ℕ). IsMailReply k (record { account = 0; before = x; after = length k.entries; moment = 0 }) call stamp out) b
-    (subst (λ (x : ℕ). IsMailReply k (record { account = 0; before = before; after = x; moment = 0 }) call stamp out) a reply) in
-    let start : account_after k (length h.entries) ≡ h = ap (account_after k) (sym b) ∙ begins in
-    record {
-      stamp = stamp;
-      begins = start;
-      kept = kept;
-      reply = at;
-    }
-
 valid_after : (h k : History) (call : TheCall) (stamp : Stamp) (point : Point) (out : Out) → IsWholeMail h → NoneRefused h k → (point.after ≡ point.before → k ≡ h) → IsReplyTo (call_plan h call 0) edit_bytes h k point call.ask stamp out → IsWholeMail k
 valid_after h k call stamp point out whole kept stays (inl answered) = subst IsWholeMail (sym (stays answered.same)) whole
 valid_after h k call stamp point out whole kept stays (inr (inl past)) = subst IsWholeMail (sym (stays past.same)) whole
@@ -61,12 +47,12 @@ valid_answer : (h k : History) (call : TheCall) (out : Out) → IsWholeMail h �
 valid_answer h k call out whole did =
     valid_after h k call did.stamp (point_between h k) out whole did.kept (unchanged h k did.begins) (at_ends h k call did.stamp out did.begins did.reply)
 
-by_error : (e : Option (List ℕ)) (h k : History) (c : Call) (made : List Created) (r : Replied) → IsWholeMail h → AnswersUnless e h c made r k → IsWholeMail k
-by_error (Some kind) h k c made r whole (same, is) = subst IsWholeMail (sym same) whole
-by_error None h k c made r whole did = valid_answer h k (asked did.call made) did.out whole did.answer
+by_target : (t : Result UserAccount (List ℕ)) (h k : History) (c : Call) (made : List Created) (r : Replied) → IsWholeMail h → AnswersBy t h c made r k → IsWholeMail k
+by_target (Err kind) h k c made r whole (same, is) = subst IsWholeMail (sym same) whole
+by_target (Ok account) h k c made r whole did = valid_answer h k (asked did.call made) did.out whole did.answer
 
 pub stays_valid : (h k : History) (c : Call) (made : List Created) (r : Replied) → IsWholeMail h → account_answers h c made r k → IsWholeMail k
-stays_valid h k c made r whole did = by_error (account_error c) h k c made r whole did
+stays_valid h k c made r whole did = by_target (target_of the_accounts c) h k c made r whole did
 
 pub stays_valid_uploaded : (h k : History) (bytes : List ℕ) (u : Uploaded) → IsWholeMail h → account_uploads h bytes u k → IsWholeMail k
-stays_valid_uploaded h k bytes u whole did = valid_answer h k (asked_upload bytes) did.out whole did.answer
+stays_valid_uploaded h k bytes u whole did = valid_answer h k (upload_call bytes) did.out whole did.answer

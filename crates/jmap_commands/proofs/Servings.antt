@@ -1,5 +1,5 @@
 -- How runs of `serve` end.
-use Rattle.std.proofs.Common.{◌≡◌, ◌⊎◌, inl, inr, ℕ, ◌≤◌, ◌<◌, List, [], ◌∷◌, ◌++◌, take, drop, length, map, slice_index_or, Option, None, Some, Result, Ok, Err, refl, sym, ap, ◌∙◌, subst, append-nil, arith, Bool, true, false, ◌&&◌, nat_le, codes, bytes_eq, if◌then◌else◌}
+use Rattle.std.proofs.Common.{◌≡◌, ◌⊎◌, inl, inr, ℕ, ◌≤◌, ◌<◌, List, [], ◌∷◌, take, drop, length, Option, None, Some, Result, Ok, Err, refl, sym, ap, subst, append-nil, arith, Bool, true, false, ◌&&◌, nat_le, codes, bytes_eq, if◌then◌else◌}
 use Rattle.std.proofs.lemmas.List.{take-append-drop}
 use Rattle.std.proofs.lemmas.Bool.{leb-true}
 use Rattle.std.specs.Fmt.{decimal}
@@ -13,11 +13,11 @@ use Rattle.jmap_server.specs.Lines.{Plans, Sight}
 use Rattle.jmap_server.specs.Serving.{IsCaused}
 use Rattle.jmap_server.specs.declared.fault.ServeFault.{ServeFault}
 use Rattle.jmap_server.specs.declared.fault.ServeFault.TheVariants as fault
-use Rattle.jmap_commands.specs.Arguments.{command_named, command_of, number_if, number_in, serve_with, serving}
+use Rattle.jmap_commands.specs.Arguments.{command_of, number_if, number_in, serve_with}
 use Rattle.jmap_commands.specs.Run.{HasBegun, served_text}
 use Rattle.jmap_commands.specs.Endings.{Explains, ExplainsBy}
 use Rattle.jmap_commands.specs.Status.{status_of}
-use Rattle.jmap_commands.specs.Serving.{HasServed, HasUsed, IsEndingOf, WritesServed, ending_of_fault}
+use Rattle.jmap_commands.specs.Serving.{HasUsed, IsEndingOf, WritesServed, ending_of_fault}
 use Rattle.jmap_commands.specs.declared.arguments.TheConstants.{MAX_CONNECTIONS, MAX_PORT}
 use Rattle.jmap_commands.specs.declared.arguments.Command.{Command}
 use Rattle.jmap_commands.specs.declared.arguments.Command.TheVariants.{Batch, Read, Serve}

@@ -1,5 +1,5 @@
 -- Runs of `serve` that write nothing.
-use Rattle.std.proofs.Common.{◌≡◌, inl, inr, ℕ, List, Option, sym, subst}
+use Rattle.std.proofs.Common.{inl, inr, ℕ, List, Option, sym, subst}
 use Rattle.jm_edge.proofs.Known.{appends_none}
 use Rattle.jmap_server.specs.declared.fault.ServeFault.{ServeFault}
 use Rattle.jmap_server.specs.declared.fault.ServeFault.TheVariants as fault

@@ -6,12 +6,13 @@
 //! `specs/Serving.antt`.
 #![tactic(auto)]
 
-mod account_port;
 mod arguments;
 mod ending;
 mod laws;
 mod memory_book;
 mod message_line;
+mod one_session;
+mod one_user;
 mod read;
 mod run_command;
 mod serving;

@@ -1,5 +1,5 @@
 // A book of an account in memory.
-ghost use Rattle.std.specs.Prelude.{◌≡◌, Some, IfOk};
+ghost use Rattle.std.specs.Prelude.{◌≡◌, [], Some, IfOk};
 ghost use Rattle.keep_port.specs.Keeping.{LeavesContent};
 ghost use Rattle.keep_port.specs.Memory.{may_be_left, opened};
 ghost use Rattle.mail_records.specs.Histories.{empty_history};
@@ -80,7 +80,8 @@ fn no_memory(fault: StartFault) -> NoMemory
 /// Opens an account in which nothing has been yet, over a keeper in memory that never fails. Fails
 /// only if an allocation fails.
 pub fn begin_book<R: Rules>(alloc: Global, rules: R) -> Result<Book<UnfailingKeeper, R>, NoMemory>
-    ensures { IfOk result (λ b. b.history ≡ empty_history) }
+    ensures opened { IfOk result (λ b. b.opened ≡ empty_history) }
+    ensures fresh { IfOk result (λ b. b.since ≡ []) }
 {
     kept_accounts_open_again(&rules);
     let kept = Kept {

@@ -1,6 +1,10 @@
 // The top call: all that the program does.
-ghost use Rattle.std.specs.Prelude.{◌≡◌, ◌↔◌, None, Some, map, string_bytes};
+ghost use Rattle.std.specs.Prelude.{◌≡◌, ◌↔◌, ℕ, IfOk, None, Some, map, string_bytes};
 ghost use Rattle.jm_edge.specs.Causes.{Rose};
+ghost use Rattle.mail_records.specs.Histories.{empty_history};
+ghost use Rattle.account_hall.specs.Halls.{AreOf};
+ghost use Rattle.jmap_commands.specs.Alone.{HasOneIn, IsFirst};
+ghost use Rattle.jmap_commands.specs.OneUser.{the_users};
 ghost use Rattle.jmap_commands.specs.Arguments.{command_of};
 ghost use Rattle.batch_lines.specs.Input.{seen};
 ghost use Rattle.jmap_commands.specs.Run.{HasBegun, HasAnsweredBy, HasAnsweredBeforeFaultBy, HasAnsweredBeforeLimitBy, HasBegunBy};
@@ -10,14 +14,20 @@ ghost use Rattle.jmap_commands.specs.Status.{Says, WritesOrFails, status_of, tex
 ghost use Rattle.jmap_commands.specs.Endings.{Explains, ExplainsBy, ending_of};
 ghost use Rattle.jmap_commands.specs.declared.ending.Ending.{Ending as TheEnding};
 
-use crate::account_port::AccountPort;
 use crate::arguments::Command;
 use crate::ending::{Ending, Status};
+use crate::memory_book::{UnfailingKeeper, begin_book};
+use crate::one_session::{answer_alone, open_hall};
+use crate::one_user::build_users;
 use crate::read::read_message;
 use crate::serving::{MailRulesSource, serve_words};
-use batch_lines::{LinesFault, answer_lines};
+use account_hall::{Front, Hall, Passes};
+use batch_lines::LinesFault;
+use jm_base::{NoMemory, Text};
 use jm_edge::{Sink, Source};
 use jmap_server::{RulesSource, World};
+use mail_calls::MailRules;
+use server_users::Users;
 use std::alloc::Global;
 use std::sync::Wait;
 use std::thread::Threads;
@@ -130,7 +140,7 @@ fn perform_command<H: Threads + Wait + Sync, S: Source, O: Sink, W: World, F: Ru
         (W.load_faults world.new) result }
 {
     match command {
-        Command::Batch => answer_batch(alloc, source, out),
+        Command::Batch => answer_batch(rt, alloc, source, out),
         Command::Read => read_message(alloc, source, out),
         Command::Serve { port, count } => {
             serve_words(rt, alloc, world, rules, words, port, count, out)
@@ -138,15 +148,43 @@ fn perform_command<H: Threads + Wait + Sync, S: Source, O: Sink, W: World, F: Ru
     }
 }
 
-// Answers the lines of the input over an account in which there is nothing yet.
-fn answer_batch<S: Source, O: Sink>(alloc: Global, source: &mut S, out: &mut O) -> Ending
+// Opens a hall of the one account, in which there is nothing yet, for the one user, and lets the
+// one session in.
+fn open_batch(
+    alloc: Global,
+) -> Result<(Users, Hall<UnfailingKeeper, MailRules>, Front, Passes), NoMemory>
+    ensures users { IfOk result (λ r. r.0 ≡ the_users) }
+    ensures one { IfOk result (λ r. HasOneIn r.1 r.2) }
+    ensures first { IfOk result (λ r. (before : ℕ) × IsFirst before empty_history r.3) }
+    ensures front { IfOk result (λ r. AreOf r.1 r.2.roots) }
+    ensures session { IfOk result (λ r. AreOf r.1 r.3.passes) }
+{
+    let users = build_users(alloc)?;
+    let name = Text::from_str(alloc, "A1")?;
+    let book = begin_book(alloc, MailRules)?;
+    match open_hall(alloc, name, book) {
+        Ok((hall, front, passes)) => Ok((users, hall, front, passes)),
+        Err(refused) => Err(refused),
+    }
+}
+
+// Answers the lines of the input over a hall of one account in which there is nothing yet, with the
+// one session that is let in.
+fn answer_batch<W: Wait, S: Source, O: Sink>(
+    rt: &W,
+    alloc: Global,
+    source: &mut S,
+    out: &mut O,
+) -> Ending
     ensures cause { Explains Command.Batch result
         (seen S.left S.faults source.old source.new O.held O.faults out.old out.new) }
     ensures begun { HasBegun Command.Batch
         (seen S.left S.faults source.old source.new O.held O.faults out.old out.new) }
 {
-    match AccountPort::begin(alloc) {
-        Ok(mut port) => ending_of(answer_lines(alloc, &mut port, source, out)),
+    match open_batch(alloc) {
+        Ok((users, hall, front, passes)) => ending_of(answer_alone(
+            rt, alloc, &users, hall, front, passes, source, out,
+        )),
         Err(_) => Ending::NoMemory,
     }
 }

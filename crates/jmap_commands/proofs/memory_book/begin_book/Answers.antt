@@ -4,10 +4,13 @@ use Rattle.keep_port.specs.declared.memory.MemoryKeeper.{MemoryKeeper}
 use Rattle.jmap_commands.proofs.Beginning.{begins_empty, only_memory}
 use Rattle.jmap_commands.proofs.memory_book.begin_book.Goals as goal
 
-pub returns-in-Ok : goal.returns-in-Ok
-returns-in-Ok g c =
+pub returns-in-Ok-clause-fresh : goal.returns-in-Ok-clause-fresh
+returns-in-Ok-clause-fresh g c = c.in-Ok.ensures.since
+
+pub returns-in-Ok-clause-opened : goal.returns-in-Ok-clause-opened
+returns-in-Ok-clause-opened g c =
     let kept_of : List (List ℕ) → Kept = λ rows. record { base = None; rows = rows } in
-    begins_empty c.new-2.result.kept c.in-Ok.book.keeper.kept c.in-Ok.book.history
+    c.in-Ok.ensures.all ∙ begins_empty c.new-2.result.kept c.in-Ok.book.keeper.kept c.in-Ok.book.history
     (ap (λ (m : MemoryKeeper). m.kept) c.new-2.ensures.opened ∙ ap kept_of c.new.ensures) c.in-Ok.ensures.opened
 
 pub no_memory-requires : goal.no_memory-requires

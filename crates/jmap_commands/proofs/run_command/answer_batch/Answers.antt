@@ -1,22 +1,26 @@
-use Rattle.std.proofs.Common.{refl, subst, OnOk, IfErr}
-use Rattle.mail_records.specs.Histories.{History, empty_history}
-use Rattle.batch_lines.specs.Input.{seen, HasAnsweredInput, HasBegunInput}
-use Rattle.batch_lines.specs.Faults.{ExplainsFault}
+use Rattle.std.proofs.Common.{refl, arith}
+use Rattle.keep_port.specs.declared.memory.MemoryKeeper.{MemoryKeeper}
+use Rattle.mail_records.specs.Histories.{empty_history}
+use Rattle.batch_lines.specs.Input.{seen}
 use Rattle.batch_lines.proofs.Runs.{begun_none}
 use Rattle.jmap_commands.specs.AccountAnswers.{account_answers, account_halts, account_stops, account_uploads}
+use Rattle.jmap_commands.proofs.AloneSteps.{IsBatch, is_batch}
 use Rattle.jmap_commands.proofs.Ends.{batch_cause}
 use Rattle.jmap_commands.proofs.run_command.answer_batch.Goals as goal
 
 pub returns-in-Ok-clause-cause : goal.returns-in-Ok-clause-cause
 returns-in-Ok-clause-cause g c =
-    let v = (seen g.S.Source.left g.S.Source.faults c.args.source.now c.answer_lines.new.source g.O.Sink.held g.O.Sink.faults c.args.out.now c.answer_lines.new.out) in
-    batch_cause c.answer_lines.result c.ending_of.result v c.answer_lines.new.port c.ending_of.ensures
-    (subst (λ (h : History). OnOk c.answer_lines.result (HasAnsweredInput account_answers account_uploads h c.answer_lines.new.port v)) c.in-Ok.ensures c.answer_lines.ensures.ok)
-    (subst (λ (h : History). IfErr c.answer_lines.result (λ f. ExplainsFault account_answers account_uploads h c.answer_lines.new.port f v)) c.in-Ok.ensures c.answer_lines.ensures.cause)
+    let v = (seen g.S.Source.left g.S.Source.faults c.args.source.now c.answer_alone.new.source g.O.Sink.held g.O.Sink.faults c.args.out.now c.answer_alone.new.out) in
+    let b : IsBatch c.answer_alone.result v =
+    is_batch (λ (m : MemoryKeeper). 0) c.in-Ok.ensures.first.0 c.in-Ok.hall c.in-Ok.users c.in-Ok.passes c.answer_alone.result v (λ (m : MemoryKeeper). omega arith) c.in-Ok.ensures.users c.in-Ok.ensures.first.1 c.answer_alone.ensures in
+    batch_cause c.answer_alone.result c.ending_of.result v b.history c.ending_of.ensures b.ok b.cause
 
 pub returns-in-Ok-clause-begun : goal.returns-in-Ok-clause-begun
 returns-in-Ok-clause-begun g c =
-    (c.answer_lines.new.port, subst (λ (h : History). HasBegunInput account_answers account_uploads account_stops account_halts h c.answer_lines.new.port (seen g.S.Source.left g.S.Source.faults c.args.source.now c.answer_lines.new.source g.O.Sink.held g.O.Sink.faults c.args.out.now c.answer_lines.new.out)) c.in-Ok.ensures c.answer_lines.ensures.begun)
+    let v = (seen g.S.Source.left g.S.Source.faults c.args.source.now c.answer_alone.new.source g.O.Sink.held g.O.Sink.faults c.args.out.now c.answer_alone.new.out) in
+    let b : IsBatch c.answer_alone.result v =
+    is_batch (λ (m : MemoryKeeper). 0) c.in-Ok.ensures.first.0 c.in-Ok.hall c.in-Ok.users c.in-Ok.passes c.answer_alone.result v (λ (m : MemoryKeeper). omega arith) c.in-Ok.ensures.users c.in-Ok.ensures.first.1 c.answer_alone.ensures in
+    (b.history, b.begun)
 
 pub returns-in-Err-clause-begun : goal.returns-in-Err-clause-begun
 returns-in-Err-clause-begun g c =
