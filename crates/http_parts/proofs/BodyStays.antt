@@ -12,6 +12,7 @@ use Rattle.http_parts.specs.declared.heads.HeadSize.{HeadSize}
 use Rattle.http_parts.specs.Heads.{head_size}
 use Rattle.http_parts.specs.Bodies.{BodyInvalid, BodyTooLong, BodyUnfinished, Whole, sized_body}
 use Rattle.http_parts.specs.Chunks.{chunk_size, line_feed_at, ChunkLine, LineInvalid, LineUnfinished, Chunk, chunk_line, chunk_line_by, trailer, trailer_by, ChunkEnd, EndInvalid, EndUnfinished, Ends, chunk_end, ChunkStep, Settled, GoesOn, after_chunk, after_line, chunk_step, body_by, chunks}
+use Rattle.http_parts.specs.declared.limits.TheConstants.{MAX_CHUNK_LINE_BYTES, MAX_TRAILER_BYTES}
 use Rattle.http_parts.proofs.HeadStays.{bytes_of, goes_on, head_same, size_within}
 
 -- ---- a body of a size
@@ -38,7 +39,7 @@ feed_stays xs ys low =
     let other : eqb (line_feed_at xs) (length xs) ≡ false = grind (arith, nat_tests) in
     prefix_len-append (λ b. not (eqb b 10)) xs ys ∙ ap (λ t. cond t (length xs + prefix_len (λ b. not (eqb b 10)) ys) (line_feed_at xs)) other
 
-line_by : (xs ys : List ℕ) (size : ℕ) (rest : List ℕ) (v w u : Bool) → ltb (line_feed_at xs) (length xs) ≡ v → leb (line_feed_at xs + 1) 1024 ≡ w
+line_by : (xs ys : List ℕ) (size : ℕ) (rest : List ℕ) (v w u : Bool) → ltb (line_feed_at xs) (length xs) ≡ v → leb (line_feed_at xs + 1) MAX_CHUNK_LINE_BYTES ≡ w
     → cond (v && w) (chunk_line_by (chunk_size (text (take (line_feed_at xs + 1) xs))) (drop (line_feed_at xs + 1) xs)) (cond u LineInvalid LineUnfinished) ≡ Chunk size rest
     → chunk_line (xs ++ ys) ≡ Chunk size (rest ++ ys)
 line_by xs ys size rest true true u e f h =
@@ -61,19 +62,19 @@ line_by xs ys size rest false w false e f h = absurd (cc h)
 
 line_stays : (xs ys : List ℕ) (size : ℕ) (rest : List ℕ) → chunk_line xs ≡ Chunk size rest → chunk_line (xs ++ ys) ≡ Chunk size (rest ++ ys)
 line_stays xs ys size rest h =
-    line_by xs ys size rest (ltb (line_feed_at xs) (length xs)) (leb (line_feed_at xs + 1) 1024) (leb 1024 (length xs)) refl refl h
+    line_by xs ys size rest (ltb (line_feed_at xs) (length xs)) (leb (line_feed_at xs + 1) MAX_CHUNK_LINE_BYTES) (leb MAX_CHUNK_LINE_BYTES (length xs)) refl refl h
 
 -- ---- the lines after the last chunk
 
 trailer_by_stays : (xs ys body b rest : List ℕ) (o : Option HeadSize) → head_size (lines xs) ≡ o → bytes_of o ≤ length xs → (is_some o ≡ true → head_size (lines (xs ++ ys)) ≡ head_size (lines xs))
     → trailer_by body xs o ≡ Whole b rest → trailer body (xs ++ ys) ≡ Whole b (rest ++ ys)
-trailer_by_stays xs ys body b rest None e low same h = absurd (none (leb 16384 (length xs)) h)
+trailer_by_stays xs ys body b rest None e low same h = absurd (none (leb MAX_TRAILER_BYTES (length xs)) h)
   where
     none : (w : Bool) → cond w BodyInvalid BodyUnfinished ≡ Whole b rest → ⊥
     none true k = cc k
     none false k = cc k
 trailer_by_stays xs ys body b rest (Some s) e low same h =
-    ap (trailer_by body (xs ++ ys)) (same refl ∙ e) ∙ by (ltb 16384 s.bytes) h
+    ap (trailer_by body (xs ++ ys)) (same refl ∙ e) ∙ by (ltb MAX_TRAILER_BYTES s.bytes) h
   where
     by : (w : Bool) → cond w BodyInvalid (Whole body (drop s.bytes xs)) ≡ Whole b rest → cond w BodyInvalid (Whole body (drop s.bytes (xs ++ ys))) ≡ Whole b (rest ++ ys)
     by true k = absurd (cc k)

@@ -12,6 +12,7 @@ use Rattle.mime_lines.proofs.LineFacts.{not_true}
 use Rattle.http_parts.specs.Found.{AreHexDigits}
 use Rattle.mime_lines.specs.Lines.{text}
 use Rattle.http_parts.specs.Chunks.{LineInvalid, LineUnfinished, chunk_line, chunk_line_by, chunk_size, line_feed_at}
+use Rattle.http_parts.specs.declared.limits.TheConstants.{MAX_CHUNK_LINE_BYTES}
 
 digit_power : (value digit n : ℕ) → suc n ≤ 16 → value < 16 ^ (16 - suc n) → digit < 16 → value * 16 + digit < 16 ^ (16 - n)
 digit_power value digit n few below small =
@@ -76,19 +77,19 @@ feed_found bytes None none =
 feed_found bytes (Some i) some =
     (feed_at bytes i (omega (arith, some.0.high)) (λ k low. not_true _ (some.0.before k (omega arith) low)) (λ low. some.1), some.0.high)
 
-pub line_there : (bytes : List ℕ) (i : ℕ) (o : Option ℕ) → line_feed_at bytes ≡ i → i < length bytes → i < 1024 → chunk_size (text (take (i + 1) bytes)) ≡ o
+pub line_there : (bytes : List ℕ) (i : ℕ) (o : Option ℕ) → line_feed_at bytes ≡ i → i < length bytes → i < MAX_CHUNK_LINE_BYTES → chunk_size (text (take (i + 1) bytes)) ≡ o
     → chunk_line bytes ≡ chunk_line_by o (drop (i + 1) bytes)
 line_there bytes i o at inside most said =
-    rw (at, lt-ltb i (length bytes) inside, le-leb (i + 1) 1024 (omega arith), said) refl
+    rw (at, lt-ltb i (length bytes) inside, le-leb (i + 1) MAX_CHUNK_LINE_BYTES (omega arith), said) refl
 
-pub line_long : (bytes : List ℕ) (i : ℕ) → line_feed_at bytes ≡ i → i < length bytes → 1024 ≤ i → chunk_line bytes ≡ LineInvalid
+pub line_long : (bytes : List ℕ) (i : ℕ) → line_feed_at bytes ≡ i → i < length bytes → MAX_CHUNK_LINE_BYTES ≤ i → chunk_line bytes ≡ LineInvalid
 line_long bytes i at inside most =
-    rw (at, lt-ltb i (length bytes) inside, lt-leb (i + 1) 1024 (omega arith), le-leb 1024 (length bytes) (omega arith)) refl
+    rw (at, lt-ltb i (length bytes) inside, lt-leb (i + 1) MAX_CHUNK_LINE_BYTES (omega arith), le-leb MAX_CHUNK_LINE_BYTES (length bytes) (omega arith)) refl
 
-pub line_none : (bytes : List ℕ) → line_feed_at bytes ≡ length bytes → 1024 ≤ length bytes → chunk_line bytes ≡ LineInvalid
+pub line_none : (bytes : List ℕ) → line_feed_at bytes ≡ length bytes → MAX_CHUNK_LINE_BYTES ≤ length bytes → chunk_line bytes ≡ LineInvalid
 line_none bytes at most =
-    rw (at, le-ltb (length bytes) (length bytes) (omega arith), le-leb 1024 (length bytes) most) refl
+    rw (at, le-ltb (length bytes) (length bytes) (omega arith), le-leb MAX_CHUNK_LINE_BYTES (length bytes) most) refl
 
-pub line_begun : (bytes : List ℕ) → line_feed_at bytes ≡ length bytes → length bytes < 1024 → chunk_line bytes ≡ LineUnfinished
+pub line_begun : (bytes : List ℕ) → line_feed_at bytes ≡ length bytes → length bytes < MAX_CHUNK_LINE_BYTES → chunk_line bytes ≡ LineUnfinished
 line_begun bytes at few =
-    rw (at, le-ltb (length bytes) (length bytes) (omega arith), lt-leb 1024 (length bytes) few) refl
+    rw (at, le-ltb (length bytes) (length bytes) (omega arith), lt-leb MAX_CHUNK_LINE_BYTES (length bytes) few) refl

@@ -10,6 +10,7 @@ use Rattle.http_parts.specs.Chunks.{LineInvalid, LineUnfinished, Chunk, chunk_li
 use Rattle.http_parts.specs.Parts.{Took, Halts, Moves, HasLine, HasStep, counted_after}
 use Rattle.http_parts.specs.declared.body_fault.BodyFault.{BodyFault}
 use Rattle.http_parts.specs.declared.chunk_lines.ChunkHead.{ChunkHead}
+use Rattle.http_parts.specs.declared.limits.TheConstants.{MAX_CHUNK_LINE_BYTES}
 use Rattle.http_parts.proofs.ChunkLines.{line_there}
 use Rattle.http_parts.proofs.Halted.{halts_as, halts_after}
 
@@ -27,14 +28,14 @@ by_more (Some n) rest size r ys h =
     let q : rest ≡ r = cc h in
     ap₂ (λ (k : ℕ) (z : List ℕ). Chunk k (z ++ ys)) p q
 
-line_more_by : (xs ys : List ℕ) (size : ℕ) (rest : List ℕ) (v w : Bool) → (ltb (line_feed_at xs) (length xs) && leb (line_feed_at xs + 1) 1024) ≡ v → leb 1024 (length xs) ≡ w
+line_more_by : (xs ys : List ℕ) (size : ℕ) (rest : List ℕ) (v w : Bool) → (ltb (line_feed_at xs) (length xs) && leb (line_feed_at xs + 1) MAX_CHUNK_LINE_BYTES) ≡ v → leb MAX_CHUNK_LINE_BYTES (length xs) ≡ w
     → chunk_line xs ≡ Chunk size rest → chunk_line (xs ++ ys) ≡ Chunk size (rest ++ ys)
 line_more_by xs ys size rest true w e f h =
     let i = line_feed_at xs in
     let o = chunk_size (text (take (i + 1) xs)) in
-    let p = and_parts (ltb i (length xs)) (leb (i + 1) 1024) e in
+    let p = and_parts (ltb i (length xs)) (leb (i + 1) MAX_CHUNK_LINE_BYTES) e in
     let low : i < length xs = ltb-true i (length xs) p.0 in
-    let most : i + 1 ≤ 1024 = leb-true (i + 1) 1024 p.1 in
+    let most : i + 1 ≤ MAX_CHUNK_LINE_BYTES = leb-true (i + 1) MAX_CHUNK_LINE_BYTES p.1 in
     let said : chunk_line_by o (drop (i + 1) xs) ≡ Chunk size rest = rw e at h in
     line_there (xs ++ ys) i o (feed_more xs ys low) (omega (arith, low, length-append xs ys)) (omega (arith, most))
     (ap (λ (z : List ℕ). chunk_size (text z)) (take-append-le (i + 1) xs ys (omega (arith, low))))
@@ -47,7 +48,7 @@ line_more_by xs ys size rest false false e f h =
 
 line_more : (xs ys : List ℕ) (size : ℕ) (rest : List ℕ) → chunk_line xs ≡ Chunk size rest → chunk_line (xs ++ ys) ≡ Chunk size (rest ++ ys)
 line_more xs ys size rest h =
-    line_more_by xs ys size rest (ltb (line_feed_at xs) (length xs) && leb (line_feed_at xs + 1) 1024) (leb 1024 (length xs)) refl refl h
+    line_more_by xs ys size rest (ltb (line_feed_at xs) (length xs) && leb (line_feed_at xs + 1) MAX_CHUNK_LINE_BYTES) (leb MAX_CHUNK_LINE_BYTES (length xs)) refl refl h
 
 end_one : (v : Bool) (rest : List ℕ) → cond v EndUnfinished EndInvalid ≡ Ends rest → ⊥
 end_one true rest h = cc h

@@ -7,6 +7,7 @@ use Rattle.http_parts.specs.Bodies.{Body, BodyInvalid, BodyTooLong, BodyUnfinish
 use Rattle.http_parts.specs.Chunks.{ChunkLine, LineInvalid, LineUnfinished, Chunk, chunk_line, chunk_line_by, chunk_size, line_feed_at, ChunkEnd, EndInvalid, EndUnfinished, Ends, chunk_end, ChunkStep, Settled, GoesOn, after_chunk, after_line, chunk_step, body_by, chunks, chunked_body, trailer}
 use Rattle.http_parts.specs.Parts.{Took, Halts, HasStep, counted_after}
 use Rattle.http_parts.specs.declared.body_fault.BodyFault.{BodyFault}
+use Rattle.http_parts.specs.declared.limits.TheConstants.{MAX_CHUNK_LINE_BYTES}
 use Rattle.http_parts.proofs.Halted.{halts_after}
 
 -- ---- what is left after a step is shorter
@@ -40,7 +41,7 @@ line_by false false o rest n some low = some
 
 line_shorter : (bytes : List ℕ) → 0 < length bytes → length (rest_of (chunk_line bytes)) < length bytes
 line_shorter bytes some =
-    line_by (ltb (line_feed_at bytes) (length bytes) && leb (line_feed_at bytes + 1) 1024) (leb 1024 (length bytes)) (chunk_size (text (take (line_feed_at bytes + 1) bytes))) (drop (line_feed_at bytes + 1) bytes) (length bytes) some
+    line_by (ltb (line_feed_at bytes) (length bytes) && leb (line_feed_at bytes + 1) MAX_CHUNK_LINE_BYTES) (leb MAX_CHUNK_LINE_BYTES (length bytes)) (chunk_size (text (take (line_feed_at bytes + 1) bytes))) (drop (line_feed_at bytes + 1) bytes) (length bytes) some
     (omega (arith, some, length-drop {A = ℕ}))
 
 after_by : (u v w : Bool) (x : Body) (y : List ℕ) (e : ChunkEnd) (n : ℕ) → 0 < n → length (end_rest e) < n

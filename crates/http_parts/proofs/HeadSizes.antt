@@ -5,6 +5,7 @@ use Rattle.mime_lines.specs.Lines.{lines, is_line_end}
 use Rattle.mime_lines.proofs.SpanFacts.{size_lines}
 use Rattle.http_parts.specs.Heads.{HeadTooLong, Unfinished, Head, beginning_of, beginning_by, empty_bytes, after_empty, head_size, one_line_more, begun_bytes}
 use Rattle.http_parts.specs.declared.heads.HeadSize.{HeadSize}
+use Rattle.http_parts.specs.declared.limits.TheConstants.{MAX_HEAD_BYTES, MAX_HEAD_FIELDS}
 use Rattle.http_parts.proofs.HeadStays.{bytes_of, head_within}
 
 end_some : (l : List ℕ) → is_line_end l ≡ true → 0 < length l
@@ -24,13 +25,13 @@ size_some (l ∷ ls) h = some_by (is_line_end l) l (head_size ls) refl (λ k. si
 
 sizes_by : (xs : List ℕ) (empty : ℕ) (o : Option HeadSize) (head rest : List ℕ) → empty + bytes_of o ≤ length xs → (is_some o ≡ true → 0 < bytes_of o) → beginning_by xs empty o ≡ Head head rest
     → (empty + (length head + length rest) ≡ length xs) × (0 < length head)
-sizes_by xs empty None head rest low some h = absurd (none (leb 16384 (length xs)) h)
+sizes_by xs empty None head rest low some h = absurd (none (leb MAX_HEAD_BYTES (length xs)) h)
   where
     none : (w : Bool) → cond w HeadTooLong Unfinished ≡ Head head rest → ⊥
     none true e = cc e
     none false e = cc e
 sizes_by xs empty (Some s) head rest low some h =
-    by (ltb 16384 (empty + s.bytes) || ltb 65 s.lines) (some refl) h
+    by (ltb MAX_HEAD_BYTES (empty + s.bytes) || ltb (1 + MAX_HEAD_FIELDS) s.lines) (some refl) h
   where
     by : (w : Bool) → 0 < s.bytes → cond w HeadTooLong (Head (take s.bytes (drop empty xs)) (drop (empty + s.bytes) xs)) ≡ Head head rest
         → (empty + (length head + length rest) ≡ length xs) × (0 < length head)

@@ -8,6 +8,7 @@ use Rattle.mime_lines.specs.Lines.{lines, is_line_end}
 use Rattle.mime_lines.proofs.SpanFacts.{size, size_lines}
 use Rattle.http_parts.specs.Heads.{HeadTooLong, Unfinished, Head, beginning_of, beginning_by, empty_bytes, after_empty, head_size, one_line_more}
 use Rattle.http_parts.specs.declared.heads.HeadSize.{HeadSize}
+use Rattle.http_parts.specs.declared.limits.TheConstants.{MAX_HEAD_BYTES, MAX_HEAD_FIELDS}
 
 -- the second lines are the first ones and others, except that the last of the first ones may continue if it
 -- is no empty line
@@ -119,13 +120,13 @@ head_within (l ∷ ls) = within_by l ls (is_line_end l) refl (head_within ls) (s
 
 stays_by : (xs ys : List ℕ) (empty : ℕ) (o : Option HeadSize) (head rest : List ℕ) → empty + bytes_of o ≤ length xs → beginning_by xs empty o ≡ Head head rest
     → (is_some o ≡ true) × (beginning_by (xs ++ ys) empty o ≡ Head head (rest ++ ys))
-stays_by xs ys empty None head rest low h = absurd (none (leb 16384 (length xs)) h)
+stays_by xs ys empty None head rest low h = absurd (none (leb MAX_HEAD_BYTES (length xs)) h)
   where
     none : (w : Bool) → cond w HeadTooLong Unfinished ≡ Head head rest → ⊥
     none true e = cc e
     none false e = cc e
 stays_by xs ys empty (Some s) head rest low h =
-    (refl, by (ltb 16384 (empty + s.bytes) || ltb 65 s.lines) h)
+    (refl, by (ltb MAX_HEAD_BYTES (empty + s.bytes) || ltb (1 + MAX_HEAD_FIELDS) s.lines) h)
   where
     by : (w : Bool) → cond w HeadTooLong (Head (take s.bytes (drop empty xs)) (drop (empty + s.bytes) xs)) ≡ Head head rest
         → cond w HeadTooLong (Head (take s.bytes (drop empty (xs ++ ys))) (drop (empty + s.bytes) (xs ++ ys))) ≡ Head head (rest ++ ys)

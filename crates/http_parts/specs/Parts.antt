@@ -96,7 +96,7 @@ HasChunk limit body_old body_new old new count taken =
     ≡ GoesOn body_new (new ++ after))
     × (count + length new ≡ length (old ++ taken))
     × (length body_old < length body_new) × (length body_new ≤ limit)
-    × (count + length body_old ≤ 1026 + length body_new)
+    × (count + length body_old ≤ (MAX_CHUNK_LINE_BYTES + 2) + length body_new)
 
 -- The last chunk was read after these bytes, or one after which the body continues.
 abbrev pub HasStep : ℕ → List ℕ → List ℕ → List ℕ → List ℕ → Option ℕ → List ℕ → Type 0

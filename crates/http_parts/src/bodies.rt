@@ -1,9 +1,9 @@
 // Reading the body of a message.
-ghost use Rattle.std.specs.Prelude.{◌≡◌, ◌<◌, ◌≤◌, ◌^◌, ◌++◌, length, IfOk, IfErr, ℕ};
+ghost use Rattle.std.specs.Prelude.{◌≡◌, ◌<◌, ◌≤◌, ◌++◌, length, IfOk, IfErr, ℕ};
 ghost use Rattle.http_parts.specs.Bodies.{BodyInvalid, BodyTooLong, BodyUnfinished, Whole};
 ghost use Rattle.http_parts.specs.Plans.{IsWithinLimit, planned};
 ghost use Rattle.http_parts.specs.Parts.{Took, Halts, IsCountBelow};
-ghost use Rattle.http_parts.specs.declared.limits.TheConstants.{SEEN_BYTES_LIMIT};
+ghost use Rattle.http_parts.specs.declared.limits.TheConstants.{BODY_BYTES_LIMIT, SEEN_BYTES_LIMIT};
 
 use crate::body_fault::BodyFault;
 use crate::chunks::read_chunked;
@@ -48,7 +48,7 @@ pub fn read_body<L: Link>(
     bytes: &mut Unread,
 ) -> Result<Vec<u8>, BodyFault>
     requires room { 0 < length room.old }
-    requires small { limit < 2 ^ 32 }
+    requires small { limit < BODY_BYTES_LIMIT }
     requires within { IsWithinLimit limit plan }
     ensures ok { IfOk result (λ b. Took (L.left link.old) (L.left link.new) (λ t. planned limit
         plan (bytes.old ++ t) ≡ Whole b.items bytes.new)) }

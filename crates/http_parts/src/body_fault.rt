@@ -1,6 +1,7 @@
 // Why a body could not be read.
-ghost use Rattle.std.specs.Prelude.{◌≡◌, ◌<◌, ◌^◌, ◌+◌};
+ghost use Rattle.std.specs.Prelude.{◌≡◌, ◌<◌, ◌+◌};
 ghost use Rattle.http_parts.specs.Parts.{IsCountBelow, counted_after};
+ghost use Rattle.http_parts.specs.declared.limits.TheConstants.{BUFFER_BYTES_LIMIT};
 
 /// Why a body, or a part of one, could not be read.
 #[derive(Clone, Copy, Debug, PartialEq, Eq)]
@@ -24,8 +25,8 @@ pub enum BodyFault {
 impl BodyFault {
     // Returns the fault of a longer part that has so many bytes before this one.
     pub(crate) fn after(self, count: usize) -> BodyFault
-        requires below { IsCountBelow (2 ^ 60) self }
-        requires small { count < 2 ^ 60 }
+        requires below { IsCountBelow BUFFER_BYTES_LIMIT self }
+        requires small { count < BUFFER_BYTES_LIMIT }
         ensures { result ≡ counted_after count self }
     {
         match self {

@@ -1,9 +1,9 @@
 // Reading a body in chunks from a link.
-ghost use Rattle.std.specs.Prelude.{◌≡◌, ◌<◌, ◌≤◌, ◌+◌, ◌^◌, ◌++◌, length, IfOk, IfErr, List, ℕ};
+ghost use Rattle.std.specs.Prelude.{◌≡◌, ◌<◌, ◌≤◌, ◌+◌, ◌++◌, length, IfOk, IfErr, List, ℕ};
 ghost use Rattle.http_parts.specs.Bodies.{BodyInvalid, BodyTooLong, BodyUnfinished, Whole};
 ghost use Rattle.http_parts.specs.Chunks.{chunk_step, Settled, chunked_body};
 ghost use Rattle.http_parts.specs.Parts.{Took, Halts, IsCountBelow, HasStep};
-ghost use Rattle.http_parts.specs.declared.limits.TheConstants.{SEEN_BYTES_LIMIT};
+ghost use Rattle.http_parts.specs.declared.limits.TheConstants.{BODY_BYTES_LIMIT, CHUNK_BYTES_LIMIT, SEEN_BYTES_LIMIT};
 
 use crate::body_fault::BodyFault;
 use crate::parts::{read_chunk_end, read_chunk_line, read_trailer};
@@ -23,7 +23,7 @@ fn read_chunk<L: Link>(
 ) -> Result<Option<usize>, BodyFault>
     requires room { 0 < length room.old }
     requires within { length body.old.items ≤ limit }
-    requires small { limit < 2 ^ 32 }
+    requires small { limit < BODY_BYTES_LIMIT }
     ensures ok { IfOk result (λ o. Took (L.left link.old) (L.left link.new) (HasStep limit
         body.old.items body.new.items bytes.old bytes.new o)) }
     ensures err { IfErr result (λ e. Took (L.left link.old) (L.left link.new) (λ t. Halts e
@@ -31,7 +31,7 @@ fn read_chunk<L: Link>(
         body.old.items (bytes.old ++ t) ≡ Settled BodyTooLong) (chunk_step limit body.old.items
         (bytes.old ++ t) ≡ Settled BodyUnfinished) (length (bytes.old ++ t)) (L.left link.new)
         (L.read_faults link.old) (L.read_faults link.new))) }
-    ensures below { IfErr result (IsCountBelow (2 ^ 40)) }
+    ensures below { IfErr result (IsCountBelow CHUNK_BYTES_LIMIT) }
     ensures room { length room.new ≡ length room.old }
     ensures later { L.read_faults link.old ≤ L.read_faults link.new }
     ensures held { L.held link.new ≡ L.held link.old }
@@ -70,7 +70,7 @@ pub(crate) fn read_chunked<L: Link>(
     bytes: &mut Unread,
 ) -> Result<Vec<u8>, BodyFault>
     requires room { 0 < length room.old }
-    requires small { limit < 2 ^ 32 }
+    requires small { limit < BODY_BYTES_LIMIT }
     ensures ok { IfOk result (λ b. Took (L.left link.old) (L.left link.new) (λ t. chunked_body
         limit (bytes.old ++ t) ≡ Whole b.items bytes.new)) }
     ensures err { IfErr result (λ e. Took (L.left link.old) (L.left link.new) (λ t. Halts e

@@ -26,8 +26,8 @@ pub use fault::WireFault;
 pub use heads::HeadSpan;
 pub use laws::{keep_heads, show_examples_of_messages};
 pub use limits::{
-    MAX_CHUNK_DIGITS, MAX_CHUNK_LINE_BYTES, MAX_HEAD_BYTES, MAX_HEAD_FIELDS, MAX_TRAILER_BYTES,
-    SEEN_BYTES_LIMIT,
+    BODY_BYTES_LIMIT, BUFFER_BYTES_LIMIT, CHUNK_BYTES_LIMIT, MAX_CHUNK_DIGITS,
+    MAX_CHUNK_LINE_BYTES, MAX_HEAD_BYTES, MAX_HEAD_FIELDS, MAX_TRAILER_BYTES, SEEN_BYTES_LIMIT,
 };
 pub use pieces::read_head;
 pub use unread::Unread;

@@ -1,8 +1,9 @@
 // Reading so many bytes of a link straight into the buffer that is handed on.
-ghost use Rattle.std.specs.Prelude.{◌≡◌, ◌<◌, ◌≤◌, ◌+◌, ◌-◌, ◌^◌, ◌++◌, length, take, drop, IfOk, ◌⊎◌, IfErr, OnOk, OnErr, List, ℕ, []};
+ghost use Rattle.std.specs.Prelude.{◌≡◌, ◌<◌, ◌≤◌, ◌+◌, ◌-◌, ◌++◌, length, take, drop, IfOk, ◌⊎◌, IfErr, OnOk, OnErr, List, ℕ, []};
 ghost use Rattle.std.specs.Io.KnownBytes.{Consumes, IsAtEnd};
 ghost use Rattle.jm_edge.specs.Causes.{Rose};
 ghost use Rattle.http_parts.specs.Parts.{Took, Halts, Fills, Moves, IsCountBelow};
+ghost use Rattle.http_parts.specs.declared.limits.TheConstants.{BUFFER_BYTES_LIMIT};
 ghost use Rattle.http_parts.specs.declared.body_fault.BodyFault.TheVariants as body_fault;
 
 use crate::body_fault::BodyFault;
@@ -18,7 +19,7 @@ fn make_room(buffer: &mut Vec<u8>, at: usize, size: usize) -> Result<(), NoMemor
     requires inside { at ≤ length buffer.old.items }
     requires more { at < size }
     requires most { length buffer.old.items ≤ size }
-    requires small { size < 2 ^ 60 }
+    requires small { size < BUFFER_BYTES_LIMIT }
     ensures room { OnOk result (at < length buffer.new.items) }
     ensures most { OnOk result (length buffer.new.items ≤ size) }
     ensures same { OnOk result (take at buffer.new.items ≡ take at buffer.old.items) }
@@ -60,7 +61,7 @@ fn read_next<L: Link>(
     requires inside { at ≤ length buffer.old.items }
     requires more { at < size }
     requires most { length buffer.old.items ≤ size }
-    requires small { size < 2 ^ 60 }
+    requires small { size < BUFFER_BYTES_LIMIT }
     ensures ok { IfOk result (Fills buffer.old.items buffer.new.items at (L.left link.old) (L.left
         link.new)) }
     ensures most { OnOk result (length buffer.new.items ≤ size) }
@@ -79,7 +80,7 @@ fn read_next<L: Link>(
 
 // Reads so many bytes of the link to the end of the buffer.
 fn fill<L: Link>(link: &mut L, buffer: &mut Vec<u8>, count: usize) -> Result<(), BodyFault>
-    requires { length buffer.old.items + count < 2 ^ 60 }
+    requires { length buffer.old.items + count < BUFFER_BYTES_LIMIT }
     ensures ok { OnOk result (Took (L.left link.old) (L.left link.new) (λ t. (length t ≡ count) ×
         (buffer.new.items ≡ buffer.old.items ++ t))) }
     ensures err { IfErr result (λ e. Took (L.left link.old) (L.left link.new) (λ t. Halts e ⊥ ⊥
@@ -113,7 +114,7 @@ pub(crate) fn read_sized<L: Link>(
     bytes: &mut Unread,
     size: usize,
 ) -> Result<(), BodyFault>
-    requires { length buffer.old.items + size < 2 ^ 60 }
+    requires { length buffer.old.items + size < BUFFER_BYTES_LIMIT }
     ensures ok { OnOk result (Took (L.left link.old) (L.left link.new) (Moves size buffer.old.items
         buffer.new.items bytes.old bytes.new)) }
     ensures err { IfErr result (λ e. Took (L.left link.old) (L.left link.new) (λ t. Halts e ⊥ ⊥

@@ -1,4 +1,5 @@
-use Rattle.std.proofs.Common.{◌≡◌, ◌≤◌, ◌*◌, ◌-◌, length}
+use Rattle.std.proofs.Common.{◌≡◌, ◌≤◌, ◌+◌, ◌*◌, ◌-◌, length}
+use Rattle.http_parts.specs.declared.limits.TheConstants.{MAX_CHUNK_LINE_BYTES}
 use Rattle.http_parts.proofs.Chunked.{Follows}
 use Rattle.http_parts.proofs.chunks.read_chunked.Given as goal
 
@@ -6,7 +7,7 @@ abbrev pub invariant-chunk : goal.invariant-chunk
 invariant-chunk g l = record {
   follows : Follows l.limit l.fn.bytes l.body.items l.bytes l.passed (g.L.Link.left l.fn.link) (g.L.Link.left l.link);
   within : length l.body.items ≤ l.limit;
-  few : l.passed ≤ 1027 * length l.body.items;
+  few : l.passed ≤ (MAX_CHUNK_LINE_BYTES + 3) * length l.body.items;
   sized : length l.room ≡ length l.fn.room;
   faults : g.L.Link.read_faults l.fn.link ≤ g.L.Link.read_faults l.link;
   held : g.L.Link.held l.link ≡ g.L.Link.held l.fn.link;

@@ -1,4 +1,5 @@
 use Rattle.std.proofs.Common.{◌≡◌, ◌≤◌, ◌-◌, length}
+use Rattle.http_parts.specs.declared.limits.TheConstants.{MAX_TRAILER_BYTES}
 use Rattle.http_parts.proofs.Halted.{Holds}
 use Rattle.http_parts.proofs.parts.read_trailer.Given as goal
 
@@ -12,4 +13,4 @@ invariant-turn g l = record {
 }
 
 abbrev pub decreases-turn : goal.decreases-turn
-decreases-turn g l = 16384 - length l.bytes
+decreases-turn g l = MAX_TRAILER_BYTES - length l.bytes

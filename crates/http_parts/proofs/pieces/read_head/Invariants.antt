@@ -1,5 +1,6 @@
 use Rattle.std.proofs.Common.{◌≡◌, ◌≤◌, ◌-◌, length}
 use Rattle.http_parts.specs.Pieces.{Gained}
+use Rattle.http_parts.specs.declared.limits.TheConstants.{MAX_HEAD_BYTES}
 use Rattle.http_parts.proofs.pieces.read_head.Given as goal
 
 abbrev pub invariant-turn : goal.invariant-turn
@@ -12,4 +13,4 @@ invariant-turn g l = record {
 }
 
 abbrev pub decreases-turn : goal.decreases-turn
-decreases-turn g l = 16384 - length l.bytes
+decreases-turn g l = MAX_HEAD_BYTES - length l.bytes
