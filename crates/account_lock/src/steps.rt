@@ -21,7 +21,10 @@ pub(crate) const SERVING: usize = 1;
 pub(crate) const PARKED: usize = 2;
 
 // How often a waiter looks at the words before it parks.
-const LOOKS_BEFORE_PARKING: u32 = 1000;
+const LOOKS_BEFORE_PARKING: u32 = 40;
+
+// How often the number of pauses between two looks doubles.
+const DOUBLINGS: u32 = 6;
 
 // How often it looks before it draws a ticket though the lock isn't free. It has then parked three
 // times.
@@ -91,8 +94,8 @@ pub(crate) fn await_turn<B: AccountView, R: Wait>(
     unreachable!()
 }
 
-// Proceeds to the next look, and returns how many there were. A waiter looks a thousand times,
-// since most turns are short, and then parks until somebody passes a turn on.
+// Proceeds to the next look, and returns how many there were. A waiter looks some times, since most
+// turns are short, and then parks until somebody passes a turn on.
 fn look_again<B: AccountView, R: Wait>(
     rt: &R,
     words: &Words<B>,
@@ -104,11 +107,19 @@ fn look_again<B: AccountView, R: Wait>(
     ensures { (seat.new.table_id ≡ seat.old.table_id) × (seat.new.me ≡ seat.old.me) }
 {
     if looks < LOOKS_BEFORE_PARKING {
-        hint::spin_loop();
+        pause(looks);
         return looks + 1;
     }
     park(rt, words, seat, found);
     0
+}
+
+// Pauses after so many looks: once at first, then twice as often each time, up to 64 times. A look
+// takes the words from the processor of the thread whose turn it is, and so slows that thread.
+fn pause(looks: u32) {
+    for _ in 0..1u32 << looks.min(DOUBLINGS) {
+        hint::spin_loop();
+    }
 }
 
 // Parks while the serving word is as it was found, until somebody passes that turn on. It first
