@@ -15,6 +15,8 @@ use Rattle.method_batch.specs.declared.outcome.Problem.TheVariants.{TooLarge}
 use Rattle.batch_lines.specs.Replies.{IsLineReply, IsUploadReply, IsRequestReply, HasBegunLine, StopsInLine, begins_with_plus, line_text}
 use Rattle.batch_lines.specs.Uploads.{HasBegunBytes, HasBegunUpload, IsAnswerToBytes, IsRejected, base64_bytes, limit_tree}
 use Rattle.batch_lines.specs.Pieces.{IsHeld, most_held}
+use Rattle.batch_lines.specs.declared.limits.TheConstants.{MAX_HELD_REQUEST_BYTES, MAX_HELD_UPLOAD_BYTES, MAX_UPLOAD_CHARACTERS}
+use Rattle.jm_base.specs.declared.limits.TheConstants.{MAX_REQUEST_BYTES}
 
 -- what is held of a line of which this is held, once bytes follow
 abbrev pub held : List ℕ → List ℕ → List ℕ
@@ -22,7 +24,7 @@ held line more = line ++ take (most_held (line ++ more) - length line) more
 
 -- as many bytes are held of a line as of what begins as it does
 abbrev most_of : Bool → ℕ
-most_of plus = cond plus 66666670 10000001
+most_of plus = cond plus MAX_HELD_UPLOAD_BYTES MAX_HELD_REQUEST_BYTES
 
 some_held : (plus : Bool) → 0 < most_of plus
 some_held true = omega arith
@@ -67,10 +69,10 @@ module _ {S : Type 0} (answers : S → Call → List Created → Replied → S �
   BegunRequestBy long line = cond long (s' ≡ s) (HasBegunReading answers stops s s' (reading_of line))
 
   -- two lines that are too long and begin alike are answered alike
-  long_uploads : (x y : ℕ) (xs ys : List ℕ) → (x == 43) ≡ true → (y == 43) ≡ true → 66666668 < length xs → 66666668 < length ys → Same (x ∷ xs) (y ∷ ys)
+  long_uploads : (x y : ℕ) (xs ys : List ℕ) → (x == 43) ≡ true → (y == 43) ≡ true → MAX_UPLOAD_CHARACTERS < length xs → MAX_UPLOAD_CHARACTERS < length ys → Same (x ∷ xs) (y ∷ ys)
   long_uploads x y xs ys p q h k =
-      let a : nat_lt 66666668 (length xs) ≡ true = lt-ltb 66666668 (length xs) h in
-      let b : nat_lt 66666668 (length ys) ≡ true = lt-ltb 66666668 (length ys) k in (
+      let a : nat_lt MAX_UPLOAD_CHARACTERS (length xs) ≡ true = lt-ltb MAX_UPLOAD_CHARACTERS (length xs) h in
+      let b : nat_lt MAX_UPLOAD_CHARACTERS (length ys) ≡ true = lt-ltb MAX_UPLOAD_CHARACTERS (length ys) k in (
         λ reply one.
             let up = subst (λ (t : Bool). ReplyBy t xs (x ∷ xs) reply) p one in
             let long = subst (λ (t : Bool). UploadBy t xs reply) a up in
@@ -81,10 +83,10 @@ module _ {S : Type 0} (answers : S → Call → List Created → Replied → S �
             subst (λ (t : Bool). BegunBy t ys (y ∷ ys)) (sym q) (subst (λ (t : Bool). BegunUploadBy t ys) (sym b) long),
       )
 
-  long_requests : (x y : ℕ) (xs ys : List ℕ) → (x == 43) ≡ false → (y == 43) ≡ false → 10000000 < length (x ∷ xs) → 10000000 < length (y ∷ ys) → Same (x ∷ xs) (y ∷ ys)
+  long_requests : (x y : ℕ) (xs ys : List ℕ) → (x == 43) ≡ false → (y == 43) ≡ false → MAX_REQUEST_BYTES < length (x ∷ xs) → MAX_REQUEST_BYTES < length (y ∷ ys) → Same (x ∷ xs) (y ∷ ys)
   long_requests x y xs ys p q h k =
-      let a : nat_lt 10000000 (length (x ∷ xs)) ≡ true = lt-ltb 10000000 (length (x ∷ xs)) h in
-      let b : nat_lt 10000000 (length (y ∷ ys)) ≡ true = lt-ltb 10000000 (length (y ∷ ys)) k in (
+      let a : nat_lt MAX_REQUEST_BYTES (length (x ∷ xs)) ≡ true = lt-ltb MAX_REQUEST_BYTES (length (x ∷ xs)) h in
+      let b : nat_lt MAX_REQUEST_BYTES (length (y ∷ ys)) ≡ true = lt-ltb MAX_REQUEST_BYTES (length (y ∷ ys)) k in (
         λ reply one.
             let up = subst (λ (t : Bool). ReplyBy t xs (x ∷ xs) reply) p one in
             let long = subst (λ (t : Bool). RequestBy t (x ∷ xs) reply) a up in

@@ -16,13 +16,10 @@ use Rattle.batch_lines.specs.Lines.{lines_of, ended_lines, IsOneLine, IsCut}
 use Rattle.batch_lines.specs.Replies.{AreReplies, IsLineReply, HasBegunReplies, StopsInLine}
 use Rattle.batch_lines.specs.Pieces.{IsHeld, HasTakenPiece, HasBegunPiece, HasAnsweredAndPut, HasStoppedAndPut, HasPut}
 use Rattle.batch_lines.specs.Input.{Seen, HasAnsweredInput, HasAnsweredEnded, HasAnsweredWithin, HasBegunInput}
+use Rattle.batch_lines.specs.declared.limits.TheConstants.{MAX_INPUT_BYTES}
 use Rattle.batch_lines.proofs.Cuts.{cut_nothing, cut_end, cut_more, cut_on, cut_exists, lines_cut, ended_cut}
 use Rattle.batch_lines.proofs.Held.{held, held_on, reply_of_line, stop_of_line}
 use Rattle.batch_lines.proofs.Replies.{replies_on, replies_next, begun_prefix, begun_stop, begun_after, begun_wider}
-
--- what `batch` may read
-abbrev most : ℕ
-most = 1073741824
 
 take_sum : (xs ys : List ℕ) (n : ℕ) → take (length xs + n) (xs ++ ys) ≡ xs ++ take n ys
 take_sum [] ys n = let e : 0 + n ≡ n = omega arith in ap (λ (k : ℕ). take k ys) e
@@ -90,7 +87,7 @@ module _ {S : Type 0} (answers : S → Call → List Created → Replied → S �
   )
 
   -- the input ended, and its last line was answered
-  pub input_answered : (s t u : S) (v : Seen) (m k : Option (List ℕ)) (line : List ℕ) (n : ℕ) → IsUnderWay answers uploads s t v.left m v.held k line n → n ≤ most → Consumes m v.left_after [] → IsAtEnd v.left_after
+  pub input_answered : (s t u : S) (v : Seen) (m k : Option (List ℕ)) (line : List ℕ) (n : ℕ) → IsUnderWay answers uploads s t v.left m v.held k line n → n ≤ MAX_INPUT_BYTES → Consumes m v.left_after [] → IsAtEnd v.left_after
       → HasAnsweredAndPut answers uploads t u line [] [] k v.held_after → HasAnsweredInput answers uploads s u v
   input_answered s t u v m k line n way small more end (all, (reply, one, is), (w, put, e)) =
       let whole : IsLineReply answers uploads t u (way.last ++ []) reply = reply_of_line answers uploads (λ x c made y. y ≡ x) (λ x bytes y. y ≡ x) t u line way.last [] reply way.holds (subst (λ (bs : List ℕ). IsLineReply answers uploads t u bs reply) (sym (append-nil line)) one) in
@@ -106,21 +103,21 @@ module _ {S : Type 0} (answers : S → Call → List Created → Replied → S �
       )
 
   -- a read went past the limit, and the part within it was taken
-  pub limit_passed : (s t u : S) (v : Seen) (m k : Option (List ℕ)) (line next_line room : List ℕ) (n count : ℕ) → IsUnderWay answers uploads s t v.left m v.held k line n → n ≤ most → most - n < count → length (take count room) ≡ count
-      → Consumes m v.left_after (take count room) → HasTakenPiece answers uploads t u line next_line (take (most - n) room) k v.held_after → HasAnsweredWithin answers uploads s u v
+  pub limit_passed : (s t u : S) (v : Seen) (m k : Option (List ℕ)) (line next_line room : List ℕ) (n count : ℕ) → IsUnderWay answers uploads s t v.left m v.held k line n → n ≤ MAX_INPUT_BYTES → MAX_INPUT_BYTES - n < count → length (take count room) ≡ count
+      → Consumes m v.left_after (take count room) → HasTakenPiece answers uploads t u line next_line (take (MAX_INPUT_BYTES - n) room) k v.held_after → HasAnsweredWithin answers uploads s u v
   limit_passed s t u v m k line next_line room n count way small past len more taken =
       let (lines, next, w, put, cut, replies, holds) = taken way.last way.cut.open_line way.holds in
       let piece = take count room in
-      let all_cut = cut_on way.bytes (take (most - n) room) way.lines lines way.last next way.cut cut in
-      let room_is : most ≡ length way.bytes + (most - n) = omega (arith, way.count, small) in
-      let within : take most (way.bytes ++ piece) ≡ way.bytes ++ take (most - n) room =
-      ap (λ (k : ℕ). take k (way.bytes ++ piece)) room_is ∙ take_sum way.bytes piece (most - n) ∙ ap (λ bs. way.bytes ++ bs) (take_short (most - n) count room (omega (arith, past))) in (
+      let all_cut = cut_on way.bytes (take (MAX_INPUT_BYTES - n) room) way.lines lines way.last next way.cut cut in
+      let room_is : MAX_INPUT_BYTES ≡ length way.bytes + (MAX_INPUT_BYTES - n) = omega (arith, way.count, small) in
+      let within : take MAX_INPUT_BYTES (way.bytes ++ piece) ≡ way.bytes ++ take (MAX_INPUT_BYTES - n) room =
+      ap (λ (k : ℕ). take k (way.bytes ++ piece)) room_is ∙ take_sum way.bytes piece (MAX_INPUT_BYTES - n) ∙ ap (λ bs. way.bytes ++ bs) (take_short (MAX_INPUT_BYTES - n) count room (omega (arith, past))) in (
         way.bytes ++ piece,
         way.written ++ w,
         consumes_on v.left m v.left_after way.bytes piece way.reads more,
         omega (arith, way.count, small, past, len, length-append way.bytes piece),
         appends_on v.held k v.held_after way.written w way.writes put,
-        subst (λ (ls : List (List ℕ)). AreReplies answers uploads s u ls (way.written ++ w)) (sym (ap ended_lines within ∙ ended_cut (way.bytes ++ take (most - n) room) (way.lines ++ lines) next all_cut))
+        subst (λ (ls : List (List ℕ)). AreReplies answers uploads s u ls (way.written ++ w)) (sym (ap ended_lines within ∙ ended_cut (way.bytes ++ take (MAX_INPUT_BYTES - n) room) (way.lines ++ lines) next all_cut))
             (replies_on answers uploads s t u way.lines lines way.written w way.replies replies),
       )
 
@@ -293,16 +290,16 @@ module _ {S : Type 0} (answers : S → Call → List Created → Replied → S �
 
   pub begun_within : (s t : S) (v : Seen) → HasAnsweredWithin answers uploads s t v → HasBegunInput answers uploads stops halts s t v
   begun_within s t v (bytes, written, reads, past, writes, replies) =
-      let front = cut_exists (take most bytes) [] tt in
-      let rest = cut_exists (drop most bytes) front.1 front.2.open_line in
-      let all = cut_on (take most bytes) (drop most bytes) front.0 rest.0 front.1 rest.1 front.2 rest.2 in
-      let done : AreReplies answers uploads s t front.0 written = subst (λ (ls : List (List ℕ)). AreReplies answers uploads s t ls written) (ended_cut (take most bytes) front.0 front.1 front.2) replies in (
+      let front = cut_exists (take MAX_INPUT_BYTES bytes) [] tt in
+      let rest = cut_exists (drop MAX_INPUT_BYTES bytes) front.1 front.2.open_line in
+      let all = cut_on (take MAX_INPUT_BYTES bytes) (drop MAX_INPUT_BYTES bytes) front.0 rest.0 front.1 rest.1 front.2 rest.2 in
+      let done : AreReplies answers uploads s t front.0 written = subst (λ (ls : List (List ℕ)). AreReplies answers uploads s t ls written) (ended_cut (take MAX_INPUT_BYTES bytes) front.0 front.1 front.2) replies in (
         bytes,
         written,
         reads,
         writes,
         inl
-            (ended_begun s t bytes (front.0 ++ rest.0) rest.1 written (subst (λ (bs : List ℕ). IsCut bs (front.0 ++ rest.0) rest.1) (take-append-drop most bytes) all)
+            (ended_begun s t bytes (front.0 ++ rest.0) rest.1 written (subst (λ (bs : List ℕ). IsCut bs (front.0 ++ rest.0) rest.1) (take-append-drop MAX_INPUT_BYTES bytes) all)
             (begun_prefix answers uploads stops halts stays rests s t front.0 rest.0 written [] written done (sym (append-nil written)))),
       )
 

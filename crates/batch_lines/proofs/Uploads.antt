@@ -6,6 +6,8 @@ use Rattle.base64.specs.Engines.{standard}
 use Rattle.base64.specs.declared.decode.DecodeError.{DecodeError}
 use Rattle.batch_lines.specs.Uploads.{HasBegunBytes, HasBegunUpload, HasHalted, base64_bytes}
 use Rattle.batch_lines.specs.declared.upload.Uploaded.{Uploaded}
+use Rattle.batch_lines.specs.declared.limits.TheConstants.{MAX_UPLOAD_CHARACTERS}
+use Rattle.jm_base.specs.declared.limits.TheConstants.{MAX_UPLOAD_BYTES}
 
 abbrev pub Rests : {S : Type 0} → (S → List ℕ → S → Type 0) → Type 0
 Rests {S} halts = (s : S) (bytes : List ℕ) → halts s bytes s
@@ -17,14 +19,14 @@ module _ {S : Type 0} (uploads : S → List ℕ → Uploaded → S → Type 0) (
 
   pub bytes_not_begun : (o : Option (List ℕ)) → s' ≡ s → HasBegunBytes uploads halts s s' o
   bytes_not_begun None e = e
-  bytes_not_begun (Some bytes) e = bytes_by (nat_lt 50000000 (length bytes)) bytes e
+  bytes_not_begun (Some bytes) e = bytes_by (nat_lt MAX_UPLOAD_BYTES (length bytes)) bytes e
 
   upload_by : (b : Bool) (string : List ℕ) → s' ≡ s → cond b (s' ≡ s) (HasBegunBytes uploads halts s s' (base64_bytes string))
   upload_by true string e = e
   upload_by false string e = bytes_not_begun (base64_bytes string) e
 
   pub upload_not_begun : (string : List ℕ) → s' ≡ s → HasBegunUpload uploads halts s s' string
-  upload_not_begun string e = upload_by (nat_lt 66666668 (length string)) string e
+  upload_not_begun string e = upload_by (nat_lt MAX_UPLOAD_CHARACTERS (length string)) string e
 
 -- ---- what base64 is read as
 

@@ -1,6 +1,7 @@
 use Rattle.std.proofs.Common.{◌≡◌, ℕ, List, [], ◌+◌, ◌-◌, take, length, arith, sym, subst}
 use Rattle.std.specs.Io.KnownBytes.{Consumes}
 use Rattle.batch_lines.specs.Input.{seen}
+use Rattle.batch_lines.specs.declared.limits.TheConstants.{MAX_INPUT_BYTES}
 use Rattle.batch_lines.proofs.Runs.{IsUnderWay, way_none, way_on, ended_kept, input_answered, limit_passed, begun_ended, begun_answered, begun_last, begun_part, begun_within, rose_later}
 use Rattle.batch_lines.proofs.lines.answer_reads.Goals as goal
 
@@ -54,7 +55,7 @@ returns-in-Ok-answer_piece-clause-begun g c =
 pub returns-in-Err-answer_piece-clause-begun : goal.returns-in-Err-answer_piece-clause-begun
 returns-in-Err-answer_piece-clause-begun g c =
     begun_part g.P.Port.answers g.P.UploadPort.uploads g.P.Port.stops g.P.UploadPort.halts g.met.P.Port.stays g.met.P.UploadPort.rests c.args.port.now c.turns.port c.answer_piece.new.port (seen g.S.Source.left g.S.Source.faults c.args.source.now c.read.new.self g.O.Sink.held g.O.Sink.faults c.args.out.now c.answer_piece.new.out) (g.S.Source.left c.turns.source) (g.O.Sink.held c.turns.out)
-    c.turns.line c.read.new.room (1073741824 - c.turns.total) c.in-Ok.count c.turns.total c.turns.invariant.way c.in-Ok.ensures.bytes.0 (omega (arith, c.if-count-allowed.true)) c.in-Err-answer_piece.ensures.err
+    c.turns.line c.read.new.room (MAX_INPUT_BYTES - c.turns.total) c.in-Ok.count c.turns.total c.turns.invariant.way c.in-Ok.ensures.bytes.0 (omega (arith, c.if-count-allowed.true)) c.in-Err-answer_piece.ensures.err
 
 pub returns-in-Err-answer_piece-2-clause-begun : goal.returns-in-Err-answer_piece-2-clause-begun
 returns-in-Err-answer_piece-2-clause-begun g c =
