@@ -1,0 +1,14 @@
+use denote.Param.{param}
+use denote.Param.Send.{IsSync, sendable}
+use Rattle.std.proofs.alloc.Global.TheSendSync as global
+use Rattle.account_hall.specs.contracts.hall.Hall.{the_row}
+use Rattle.measure_halls.proofs.Sharing.{hall_sync}
+use Rattle.measure_halls.proofs.calls.time_sessions.Goals as goal
+
+pub map_vec-requires-sync-F : goal.map_vec-requires-sync-F
+map_vec-requires-sync-F g c κs within =
+    let a = global.the_sync in
+    let h : IsSync (the_row (param 1 g.row.K) (param 2 g.row.R) g.K.Keeper g.R.Rules) =
+    hall_sync (param 1 g.row.K) (param 2 g.row.R) g.K.Keeper g.R.Rules c.type_bounds.send-K c.type_bounds.send-R in
+    let s = c.type_bounds.sync-H in
+    search sendable depth 20
