@@ -1,11 +1,12 @@
 -- What the fields say of the length of a body.
-use Rattle.std.proofs.Common.{◌≡◌, ◌<◌, ◌+◌, ◌-◌, ◌*◌, ◌^◌, ℕ, Bool, true, false, ◌&&◌, ◌||◌, ltb, min, List, [], ◌∷◌, length, refl, sym, ap, ◌∙◌, arith}
+use Rattle.std.proofs.Common.{◌≡◌, ◌<◌, ◌+◌, ◌*◌, ℕ, Bool, true, false, ◌&&◌, ◌||◌, ltb, min, List, [], ◌∷◌, length, refl, sym, ap, ◌∙◌, arith}
 use Rattle.std.proofs.lemmas.Bool.{lt-ltb, ltb-false}
 use Rattle.std.specs.List.{list_all}
 use Rattle.std.specs.Int.{is_in_range}
 use Rattle.std.specs.Char.{is_ascii_digit, is_ascii_hexdigit, digit_value}
 use Rattle.std.specs.Str.Parse.{digits_value, digits_value_after}
 use Rattle.http_wire.specs.Framings.{InvalidLength, framing_by, is_number}
+use Rattle.http_wire.specs.Lengths.{greatest_size}
 
 -- several Transfer-Encoding fields
 pub several_codings : (sizes : List (List ℕ)) (c : List ℕ) (cs : List (List ℕ)) → ltb 0 (length cs) ≡ true → framing_by sizes (c ∷ cs) ≡ InvalidLength
@@ -39,7 +40,7 @@ pub one_size : (s : List ℕ) (ss : List (List ℕ)) → ltb 0 (length ss) ≡ f
 one_size s ss h = ap (λ (z : List (List ℕ)). framing_by (s ∷ z) []) (none_said ss h)
 
 -- one more digit, within 64 bits
-pub next_digit : (v d : ℕ) → min (min (min v (2 ^ 64 - 1) * 10) (2 ^ 64 - 1) + d) (2 ^ 64 - 1) ≡ min (v * 10 + d) (2 ^ 64 - 1)
+pub next_digit : (v d : ℕ) → min (min (min v greatest_size * 10) greatest_size + d) greatest_size ≡ min (v * 10 + d) greatest_size
 next_digit v d = grind arith
 
 hex_by : (x y z : Bool) → x ≡ true → ((x || y) || z) ≡ true
@@ -59,15 +60,15 @@ all_not false y h = refl
 
 -- what the digits up to here say
 abbrev pub Says : (text rest : List ℕ) (value : ℕ) → Type 0
-Says text rest value = (v : ℕ) × (value ≡ min v (2 ^ 64 - 1)) × (digits_value_after 10 v rest ≡ digits_value 10 text)
+Says text rest value = (v : ℕ) × (value ≡ min v greatest_size) × (digits_value_after 10 v rest ≡ digits_value 10 text)
 
-pub says_next : (text rest more : List ℕ) (b value times sum d : ℕ) → rest ≡ b ∷ more → is_ascii_digit b ≡ true → Says text rest value → times ≡ min (value * 10) (2 ^ 64 - 1)
-    → sum ≡ min (times + d) (2 ^ 64 - 1) → (is_ascii_hexdigit b ≡ true → d ≡ digit_value b) → Says text more sum
+pub says_next : (text rest more : List ℕ) (b value times sum d : ℕ) → rest ≡ b ∷ more → is_ascii_digit b ≡ true → Says text rest value → times ≡ min (value * 10) greatest_size
+    → sum ≡ min (times + d) greatest_size → (is_ascii_hexdigit b ≡ true → d ≡ digit_value b) → Says text more sum
 says_next text rest more b value times sum d is digit s mul add read =
     let v = s.0 in
     let same : d ≡ digit_value b = read (digit_is_hex b digit) in
-    let value_is : sum ≡ min (v * 10 + d) (2 ^ 64 - 1) =
-    add ∙ ap (λ (k : ℕ). min (k + d) (2 ^ 64 - 1)) mul ∙ ap (λ (k : ℕ). min (min (k * 10) (2 ^ 64 - 1) + d) (2 ^ 64 - 1)) s.1 ∙ next_digit v d in (
+    let value_is : sum ≡ min (v * 10 + d) greatest_size =
+    add ∙ ap (λ (k : ℕ). min (k + d) greatest_size) mul ∙ ap (λ (k : ℕ). min (min (k * 10) greatest_size + d) greatest_size) s.1 ∙ next_digit v d in (
       v * 10 + d,
       value_is,
       ap (λ (k : ℕ). digits_value_after 10 (v * 10 + k) more) same ∙ ap (digits_value_after 10 v) (sym is) ∙ s.2,
@@ -88,9 +89,9 @@ no_number text rest more b is digit all =
     and_no false = refl
 
 pub a_number : (text rest : List ℕ) (value : ℕ) → length rest ≡ 0 → 0 < length text → list_all is_ascii_digit rest ≡ list_all is_ascii_digit text → Says text rest value
-    → (is_number text ≡ true) × (value ≡ min (digits_value 10 text) (2 ^ 64 - 1))
+    → (is_number text ≡ true) × (value ≡ min (digits_value 10 text) greatest_size)
 a_number text [] value none some all s = (
   ap (λ (t : Bool). ltb 0 (length text) && t) (sym all) ∙ ap (λ (t : Bool). t && true) (lt-ltb 0 (length text) some),
-  s.1 ∙ ap (λ (k : ℕ). min k (2 ^ 64 - 1)) s.2,
+  s.1 ∙ ap (λ (k : ℕ). min k greatest_size) s.2,
 )
 a_number text (b ∷ rest) value none some all s = absurd (omega (arith, none))

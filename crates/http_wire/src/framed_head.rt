@@ -1,5 +1,6 @@
 // What the head of a request says of its message.
-ghost use Rattle.std.specs.Prelude.{◌≡◌, ◌<◌, ◌^◌, IfOk, IfErr};
+ghost use Rattle.std.specs.Prelude.{◌≡◌, ◌<◌, IfOk, IfErr};
+ghost use Rattle.http_parts.specs.declared.limits.TheConstants.{BODY_BYTES_LIMIT};
 ghost use Rattle.http_wire.specs.Requests.{body_limit};
 ghost use Rattle.http_wire.specs.FramedHeads.{IsFramed, IsRejected, refusal_of};
 
@@ -24,7 +25,7 @@ pub(crate) struct FramedHead {
 // Returns the most bytes of the body of a request to this target.
 fn find_limit(target: &[u8]) -> usize
     ensures value { result ≡ body_limit target.now }
-    ensures small { result < 2 ^ 32 }
+    ensures small { result < BODY_BYTES_LIMIT }
 {
     if target.starts_with(b"/jmap/upload/") {
         MAX_UPLOAD_BYTES
@@ -49,7 +50,7 @@ fn find_refusal(plan: BodyPlan, limit: usize) -> Option<WireFault>
 #[tactic(auto, using(crate::proofs::Opening::opened, crate::proofs::Opening::no_head, crate::proofs::Opening::no_host, crate::proofs::Opening::refused))]
 pub(crate) fn frame_head(alloc: Global, bytes: &[u8]) -> Result<FramedHead, WireFault>
     ensures ok { IfOk result (IsFramed bytes.now) }
-    ensures small { IfOk result (λ o. o.limit < 2 ^ 32) }
+    ensures small { IfOk result (λ o. o.limit < BODY_BYTES_LIMIT) }
     ensures err { IfErr result (IsRejected bytes.now) }
 {
     let head = match parse_head(alloc, bytes) {

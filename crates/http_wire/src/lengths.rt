@@ -1,10 +1,11 @@
 // What the fields of a head say of the length of the body.
-ghost use Rattle.std.specs.Prelude.{◌≡◌, ◌<◌, ◌∷◌, [], List, ℕ, MatchOption, true, false, min, ◌^◌, ◌-◌, length};
+ghost use Rattle.std.specs.Prelude.{◌≡◌, ◌<◌, ◌∷◌, [], List, ℕ, MatchOption, true, false, min, length};
 ghost use Rattle.std.specs.Str.Parse.{digits_value};
 ghost use Rattle.http_wire.specs.Fields.{pairs, values_of};
 ghost use Rattle.http_wire.specs.Framings.{Framing, is_number, framing_by, framing_of};
+ghost use Rattle.http_parts.specs.declared.limits.TheConstants.{BODY_BYTES_LIMIT};
 ghost use Rattle.http_parts.specs.Plans.{planned, IsWithinLimit};
-ghost use Rattle.http_wire.specs.Lengths.{IsSaid, length_name};
+ghost use Rattle.http_wire.specs.Lengths.{IsSaid, greatest_size, length_name};
 ghost use Rattle.http_wire.specs.Requests.{request_body};
 
 use crate::fields::{find_next, has_field, is_same_word};
@@ -36,7 +37,7 @@ pub enum BodyLength {
 #[tactic(auto, using(crate::proofs::SaidLengths::says_next, crate::proofs::SaidLengths::digits_next, crate::proofs::SaidLengths::no_number, crate::proofs::SaidLengths::a_number))]
 fn read_number(text: &[u8]) -> Option<u64>
     ensures { MatchOption result (is_number text.now ≡ false) (λ n. (is_number text.now ≡ true) ×
-        (n ≡ min (digits_value 10 text.now) (2 ^ 64 - 1))) }
+        (n ≡ min (digits_value 10 text.now) greatest_size)) }
 {
     if text.is_empty() {
         return None;
@@ -101,7 +102,7 @@ pub fn find_length(fields: &[HttpField]) -> BodyLength
 /// Returns how the body of a request is read, of which the fields say this and that has at most so
 /// many bytes: none, if they say nothing (RFC 9112, 6.3).
 pub fn plan_body(said: BodyLength, limit: usize) -> BodyPlan
-    requires { limit < 2 ^ 32 }
+    requires { limit < BODY_BYTES_LIMIT }
     ensures plan { (framing : Framing) → IsSaid framing said → (rest : List ℕ) → request_body limit
         framing rest ≡ planned limit result rest }
     ensures within { IsWithinLimit limit result }
