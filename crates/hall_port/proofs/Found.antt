@@ -5,7 +5,7 @@ use Rattle.jm_json.specs.Call.{Call}
 use Rattle.server_users.specs.declared.users.UserAccount.{UserAccount}
 use Rattle.jmap_http.specs.Targets.{account_with}
 use Rattle.hall_port.specs.Lines.{first_changeable}
-use Rattle.hall_port.specs.Targets.{from_found, from_named, is_change, is_copy, source_of, target_of, text_in, to_found, to_named}
+use Rattle.hall_port.specs.Targets.{argument_in, from_found, from_named, is_change, is_copy, source_of, target_of, to_found, to_named}
 
 module _ (P : UserAccount → Type 0) (a : UserAccount) where
   found : (id : List ℕ) (accounts : List UserAccount) → AllByRecursion P accounts → account_with id accounts ≡ Some a → P a
@@ -41,7 +41,7 @@ module _ (P : UserAccount → Type 0) (a : UserAccount) where
 -- what holds of each account of a user holds of the account on which a call is performed
 pub target_among : (P : UserAccount → Type 0) (accounts : List UserAccount) (c : Call) (a : UserAccount) → AllByRecursion P accounts → target_of accounts c ≡ Ok a → P a
 target_among P accounts c a all is =
-    named P a accounts (is_copy c.name) (is_change c.name) (text_in (codes "fromAccountId") c.args) (text_in (codes "accountId") c.args) (λ id b there. found P b id accounts all there) is
+    named P a accounts (is_copy c.name) (is_change c.name) (argument_in (codes "fromAccountId") c.args) (argument_in (codes "accountId") c.args) (λ id b there. found P b id accounts all there) is
 
 -- ---- the account from which a copy is made
 
@@ -55,7 +55,7 @@ source_if P a accounts false o all is = absurd (cc is)
 
 -- what holds of each account of a user holds of the account from which a copy is made
 pub source_among : (P : UserAccount → Type 0) (accounts : List UserAccount) (c : Call) (a : UserAccount) → AllByRecursion P accounts → source_of accounts c ≡ Some a → P a
-source_among P accounts c a all is = source_if P a accounts (is_copy c.name) (text_in (codes "fromAccountId") c.args) all is
+source_among P accounts c a all is = source_if P a accounts (is_copy c.name) (argument_in (codes "fromAccountId") c.args) all is
 
 not_true : true ≡ false → ⊥
 not_true same = absurd (cc same)
@@ -90,7 +90,7 @@ module _ (accounts : List UserAccount) (x a : UserAccount) where
   apart_if false changes from to is there = absurd (cc there)
 
 pub source_apart : (accounts : List UserAccount) (c : Call) (x a : UserAccount) → target_of accounts c ≡ Ok a → source_of accounts c ≡ Some x → x.number ≢ a.number
-source_apart accounts c x a is there = apart_if accounts x a (is_copy c.name) (is_change c.name) (text_in (codes "fromAccountId") c.args) (text_in (codes "accountId") c.args) is there
+source_apart accounts c x a is there = apart_if accounts x a (is_copy c.name) (is_change c.name) (argument_in (codes "fromAccountId") c.args) (argument_in (codes "accountId") c.args) is there
 
 -- what holds of each account of a user holds of the first one that the user may change
 pub changeable_among : (P : UserAccount → Type 0) (accounts : List UserAccount) (a : UserAccount) → AllByRecursion P accounts → first_changeable accounts ≡ Some a → P a

@@ -2,8 +2,9 @@
 -- 5.4).
 use Rattle.std.specs.Prelude.{ℕ, ◌==◌, List, [], Bool, ◌&&◌, ◌||◌, Option, Some, None, Result, Ok, Err, is_none, option_and_then, cond, codes, bytes_eq, slice_get}
 use Rattle.jm_json.specs.Call.{Call}
-use Rattle.jm_json.specs.Find.{find, as_text, as_object}
+use Rattle.jm_json.specs.Find.{as_object}
 use Rattle.jm_json.specs.Tree.{Tree}
+use Rattle.method_args.specs.Arguments.{text_in}
 use Rattle.server_users.specs.Configuration.{Configuration}
 use Rattle.server_users.specs.declared.users.User.{User}
 use Rattle.server_users.specs.declared.users.UserAccount.{UserAccount}
@@ -17,9 +18,9 @@ accounts_by (Some user) = user.accounts
 abbrev pub accounts_of : Configuration → ℕ → List UserAccount
 accounts_of users user = accounts_by (slice_get users.users user)
 
--- the string of an argument, if it is one
-abbrev pub text_in : List ℕ → Tree → Option (List ℕ)
-text_in name args = option_and_then as_text (option_and_then (find name) (as_object args))
+-- the string of an argument of a call, if it is one
+abbrev pub argument_in : List ℕ → Tree → Option (List ℕ)
+argument_in name args = option_and_then (text_in name) (as_object args)
 
 -- the method copies from another account (RFC 8620, 5.4 and 6.3)
 abbrev pub is_copy : List ℕ → Bool
@@ -37,7 +38,7 @@ is_change name =
 abbrev pub source_of : List UserAccount → Call → Option UserAccount
 source_of accounts c =
     cond (is_copy c.name)
-    (option_and_then (λ id. account_with id accounts) (text_in (codes "fromAccountId") c.args))
+    (option_and_then (λ id. account_with id accounts) (argument_in (codes "fromAccountId") c.args))
     None
 
 -- Each definition below is the account on which a call is performed, or the type of its error.
@@ -76,5 +77,5 @@ to_named accounts copies changes from (Some id) =
 abbrev pub target_of : List UserAccount → Call → Result UserAccount (List ℕ)
 target_of accounts c =
     to_named accounts (is_copy c.name) (is_change c.name)
-    (text_in (codes "fromAccountId") c.args)
-    (text_in (codes "accountId") c.args)
+    (argument_in (codes "fromAccountId") c.args)
+    (argument_in (codes "accountId") c.args)

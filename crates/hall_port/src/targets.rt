@@ -5,9 +5,10 @@ ghost use Rattle.jm_json.specs.Json.{tree_of};
 ghost use Rattle.jm_json.specs.Invocations.{call_of};
 ghost use Rattle.jmap_http.specs.Targets.{account_with};
 ghost use Rattle.server_users.specs.Configuration.{IsNumbered};
-ghost use Rattle.hall_port.specs.Targets.{accounts_of, from_found, from_named, is_change, is_copy, source_of, target_of, text_in, to_found, to_named};
+ghost use Rattle.hall_port.specs.Targets.{accounts_of, argument_in, from_found, from_named, is_change, is_copy, source_of, target_of, to_found, to_named};
 
 use jm_json::{Invocation, Json};
+use method_args::read_text;
 use server_users::{UserAccount, Users};
 
 /// Returns the accounts of the user with an index, or none if there is no such user.
@@ -35,16 +36,13 @@ fn find_account<'a>(accounts: &'a [UserAccount], id: &str) -> Option<&'a UserAcc
     None
 }
 
-// Returns the string of an argument, if it is one.
-fn text_in<'a>(args: &'a Json, name: &str) -> Option<&'a str>
-    ensures { option_map (λ t. t.now) result ≡ text_in name.now (tree_of args.now) }
+// Returns the string of an argument of a call, if it is one.
+fn read_argument<'a>(args: &'a Json, name: &str) -> Option<&'a str>
+    ensures { option_map (λ t. t.now) result ≡ argument_in name.now (tree_of args.now) }
 {
     match args.as_object() {
-        Some(members) => match members.get(name) {
-            Some(value) => match value.as_text() {
-                Some(text) => Some(text.as_str()),
-                None => None,
-            },
+        Some(members) => match read_text(members, name) {
+            Some(text) => Some(text.as_str()),
             None => None,
         },
         None => None,
@@ -151,8 +149,8 @@ pub(crate) fn find_target<'a>(
     ensures ok { IfOk result (λ a. target_of accounts.now (call_of call.now) ≡ TheOk a.now) }
     ensures err { IfErr result (λ k. target_of accounts.now (call_of call.now) ≡ TheErr k.now) }
 {
-    let from = text_in(&call.args, "fromAccountId");
-    let to = text_in(&call.args, "accountId");
+    let from = read_argument(&call.args, "fromAccountId");
+    let to = read_argument(&call.args, "accountId");
     let name = call.name.as_str();
     check_named(accounts, is_copy(name), is_change(name), from, to)
 }
@@ -167,7 +165,7 @@ pub(crate) fn find_source<'a>(
     if !is_copy(call.name.as_str()) {
         return None;
     }
-    match text_in(&call.args, "fromAccountId") {
+    match read_argument(&call.args, "fromAccountId") {
         Some(id) => find_account(accounts, id),
         None => None,
     }
