@@ -8,6 +8,8 @@ mod account_hall_held_tests;
 #[cfg(test)]
 mod account_hall_history_tests;
 #[cfg(test)]
+mod account_hall_memory_tests;
+#[cfg(test)]
 mod account_hall_room_tests;
 #[cfg(test)]
 mod adding;
