@@ -80,6 +80,10 @@ const ASKED: &[Asking] = &[
         "{\"accountId\":\"A1\",\"calculateTotal\":true,\"filter\":{\"text\":\"h\"}}",
     ),
     Method(
+        "Mailbox/queryChanges",
+        "{\"accountId\":\"A1\",\"sinceQueryState\":\"0\"}",
+    ),
+    Method(
         "Email/queryChanges",
         "{\"accountId\":\"A1\",\"sinceQueryState\":\"0\"}",
     ),

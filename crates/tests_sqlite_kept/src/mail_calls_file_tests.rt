@@ -19,13 +19,14 @@ type Asking = (&'static str, &'static str);
 const CHANGES: &[Asking] = &[
     ("", "Message-ID: <a@x>\nSubject: hi\n\nhello"),
     ("", "In-Reply-To: <a@x>\nSubject: Re: hi\n\nyes"),
+    ("", "Subject: ho\n\nno"),
     (
         "Mailbox/set",
         "{\"accountId\":\"A1\",\"create\":{\"a\":{\"name\":\"A\"},\"b\":{\"name\":\"B\"}}}",
     ),
     (
         "Email/import",
-        "{\"accountId\":\"A1\",\"emails\":{\"1\":{\"blobId\":\"b1\",\"mailboxIds\":{\"M1\":true,\"M2\":true}},\"2\":{\"blobId\":\"b2\",\"mailboxIds\":{\"M2\":true}}}}",
+        "{\"accountId\":\"A1\",\"emails\":{\"1\":{\"blobId\":\"b1\",\"mailboxIds\":{\"M1\":true,\"M2\":true}},\"2\":{\"blobId\":\"b2\",\"mailboxIds\":{\"M2\":true}},\"3\":{\"blobId\":\"b3\",\"mailboxIds\":{\"M2\":true}}}}",
     ),
     (
         "Email/set",
@@ -47,8 +48,25 @@ const ASKED: &[Asking] = &[
         "{\"accountId\":\"A1\",\"filter\":{\"text\":\"hello\"}}",
     ),
     (
+        "Mailbox/changes",
+        "{\"accountId\":\"A1\",\"sinceState\":\"0\"}",
+    ),
+    (
         "Email/changes",
         "{\"accountId\":\"A1\",\"sinceState\":\"0\"}",
+    ),
+    (
+        "Thread/changes",
+        "{\"accountId\":\"A1\",\"sinceState\":\"0\"}",
+    ),
+    ("Mailbox/query", "{\"accountId\":\"A1\"}"),
+    (
+        "Mailbox/queryChanges",
+        "{\"accountId\":\"A1\",\"sinceQueryState\":\"0\"}",
+    ),
+    (
+        "Email/queryChanges",
+        "{\"accountId\":\"A1\",\"sinceQueryState\":\"0\"}",
     ),
 ];
 
