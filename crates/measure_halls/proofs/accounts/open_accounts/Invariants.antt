@@ -1,4 +1,4 @@
-use Rattle.std.proofs.Common.{◌≡◌, vec_len, []}
+use Rattle.std.proofs.Common.{◌≡◌, vec_len}
 use Rattle.std.specs.List.{AllByRecursion}
 use Rattle.account_hall.specs.Building.{IsFresh}
 use Rattle.measure_halls.proofs.accounts.open_accounts.Given as goal
