@@ -2,6 +2,8 @@
 #![tactic(auto)]
 
 #[cfg(test)]
+mod jmap_commands_copy_tests;
+#[cfg(test)]
 mod jmap_commands_serve_tests;
 #[cfg(test)]
 mod jmap_commands_side_by_side_tests;

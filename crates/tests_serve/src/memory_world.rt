@@ -84,12 +84,14 @@ impl Keeper for RowKeeper {
     }
 }
 
-// A world of this setting, what was written to the connections that came back, and its counts of faults.
+// A world of this setting, what was written to the connections that came back, the points of their sessions, and its
+// counts of faults.
 #[derive(Drop)]
 pub(crate) struct MemoryWorld {
     alloc: Global,
     setting: Setting,
     written: Bytes,
+    points: Numbers,
     faults: u64,
     load_faults: u64,
 }
@@ -100,6 +102,7 @@ impl MemoryWorld {
             alloc,
             setting,
             written: Bytes::new(alloc),
+            points: Numbers::new(alloc),
             faults: 0,
             load_faults: 0,
         }
@@ -108,6 +111,20 @@ impl MemoryWorld {
     // Lends what was written to the connections that came back.
     pub(crate) fn written(&self) -> &[u8] {
         self.written.as_slice()
+    }
+
+    // Lends of each point of their sessions the account's place, and how many entries it had before and after.
+    pub(crate) fn points(&self) -> &[u64] {
+        self.points.as_slice()
+    }
+}
+
+// Adds the points of the session that served a connection. Where memory runs out, numbers are missing.
+fn add_points(points: &mut Numbers, finished: &Finished<MemoryLink>) {
+    for point in finished.trail.as_slice() {
+        let _ = points.push(point.account);
+        let _ = points.push(point.before);
+        let _ = points.push(point.after);
     }
 }
 
@@ -173,6 +190,7 @@ impl World for MemoryWorld {
         ensures load_count { self.new.load_faults ≡ self.old.load_faults }
     {
         let _ = self.written.append(finished.line.bytes());
+        add_points(&mut self.points, &finished);
     }
 
     fn return_keeper(&mut self, _account: &Text, keeper: RowKeeper) {
