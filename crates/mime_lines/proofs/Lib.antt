@@ -2,3 +2,4 @@ pub mod LineFacts
 pub mod ScanFacts
 pub mod SpanFacts
 pub mod ReadFacts
+pub mod Feeds

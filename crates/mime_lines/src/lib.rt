@@ -5,11 +5,13 @@
 //! repeated. Only [`unfold`] copies text.
 #![tactic(auto)]
 
+mod blocks;
 mod field;
 mod folding;
 mod head;
 mod scan;
 
+pub use blocks::{BLOCK_BYTES, count_before};
 pub use field::{Field, FieldSpans, fields_stand, find_last_value};
 pub use folding::unfold;
 pub use head::{Head, fields};

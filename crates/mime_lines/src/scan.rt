@@ -1,11 +1,40 @@
 // Lines and fields at the start of a slice. Each call takes and returns slices, so that only one
 // function adds up byte offsets.
 ghost use Rattle.std.specs.Prelude.{◌≡◌, ◌≤◌, ◌<◌, ◌+◌, ◌∷◌, ◌++◌, length, take, drop, get_or, cond, None, Some, IfSome};
+ghost use Rattle.memchr.specs.Find.{IsFirstByte, Nowhere, Passes, is_byte};
 ghost use Rattle.mime_lines.specs.Lines.{lines, text};
 ghost use Rattle.mime_lines.specs.Fields.{is_field, name_len, goes_on, is_name_byte};
 ghost use Rattle.mime_lines.specs.Scan.{followers, others};
 
+use crate::blocks::{BLOCK_BYTES, count_before};
 use memchr::memchr;
+
+/// Returns the byte offset of the first LF, of which none is before `at`.
+fn find_line_feed_from(text: &[u8], at: usize) -> Option<usize>
+    requires within { at ≤ length text.now }
+    requires before { Nowhere (Passes (is_byte 10) text.now) 0 at }
+    ensures { IsFirstByte (is_byte 10) text.now result }
+{
+    match memchr(b'\n', text.split_at(at).1) {
+        Some(i) => Some(at + i),
+        None => None,
+    }
+}
+
+/// Returns the byte offset of the first LF.
+fn find_line_feed(text: &[u8]) -> Option<usize>
+    ensures { IsFirstByte (is_byte 10) text.now result }
+{
+    let mut at = 0;
+    while text.len() - at >= BLOCK_BYTES {
+        let len = count_before(text.split_at(at).1, b'\n');
+        if len < BLOCK_BYTES {
+            return Some(at + len);
+        }
+        at += BLOCK_BYTES;
+    }
+    find_line_feed_from(text, at)
+}
 
 /// Returns the first line, its LF included, and what follows it.
 pub fn split_line(rest: &[u8]) -> (&[u8], &[u8])
@@ -14,7 +43,7 @@ pub fn split_line(rest: &[u8]) -> (&[u8], &[u8])
     ensures whole { rest.now ≡ result.0.now ++ result.1.now }
     ensures first { lines rest.now ≡ result.0.now ∷ lines result.1.now }
 {
-    match memchr(b'\n', rest) {
+    match find_line_feed(rest) {
         Some(i) => rest.split_at(i + 1),
         None => rest.split_at(rest.len()),
     }
