@@ -4,26 +4,17 @@ use Rattle.std.proofs.Common.{Bool, true, false, cond, leb, eqb, ◌&&◌, ◌-�
 use Rattle.std.proofs.lemmas.Bool.{leb-true, true≢false}
 use Rattle.mime_codec.specs.Quoted.{is_between}
 use Rattle.mime_codec.specs.Base64.{letter}
+use Rattle.mime_codec.proofs.Tables.{counted, entry_of}
 use Rattle.mime_codec.specs.declared.base64.TheConstants.{LETTERS}
 
 abbrev bits_of : ℕ → ℕ
 bits_of b = unwrap_or (letter b) 64
 
--- the numbers from k on
-abbrev counted : ℕ → ℕ → List ℕ
-counted k zero = []
-counted k (suc n) = k ∷ counted (suc k) n
-
 table_is : LETTERS ≡ map bits_of (counted 0 256)
 table_is = refl
 
-map-counted : (k n i : ℕ) → i < n → get_or (map bits_of (counted k n)) i 0 ≡ bits_of (k + i)
-map-counted k zero i h = absurd (omega arith)
-map-counted k (suc n) zero h = let same : k ≡ k + 0 = omega arith in ap bits_of same
-map-counted k (suc n) (suc i) h = let same : suc k + i ≡ k + suc i = omega arith in map-counted (suc k) n i (omega arith) ∙ ap bits_of same
-
 pub letter_at : (b : ℕ) → b < 256 → get_or LETTERS b 0 ≡ bits_of b
-letter_at b h = let same : 0 + b ≡ b = omega arith in ap (λ t. get_or t b 0) table_is ∙ map-counted 0 256 b h ∙ ap bits_of same
+letter_at b h = entry_of bits_of 0 LETTERS table_is b h
 
 -- each letter is below 64
 and_both : (p q : Bool) → (p && q) ≡ true → (p ≡ true) × (q ≡ true)

@@ -1,4 +1,5 @@
 pub mod Quoted
+pub mod Escapes
 pub mod Base64
 pub mod Waiting
 pub mod Decoded

@@ -36,7 +36,7 @@ const LETTERS: [u8; 256] = [
 ];
 
 /// Returns the entry of a table for a byte.
-fn entry(table: &[u8; 256], byte: u8) -> u8
+pub fn entry(table: &[u8; 256], byte: u8) -> u8
     ensures { result ≡ slice_index table.now byte }
 {
     table[byte as usize]

@@ -1,96 +1,162 @@
-// Quoted-printable (RFC 2045, section 6.7), line by line; in a line the runs between equals signs
-// are found by memchr.
-ghost use Rattle.std.specs.Prelude.{◌≡◌, true, ◌<◌, ◌≤◌, ◌+◌, ◌*◌, ◌∷◌, ◌++◌, length, take, drop, IfOk, OnOk};
+// Quoted-printable (RFC 2045, section 6.7), line by line. A block of a line is copied whole, and cut
+// before its first equals sign.
+ghost use Rattle.std.specs.Prelude.{◌≡◌, ◌≢◌, true, false, ◌<◌, ◌≤◌, ◌∷◌, ◌++◌, length, take, drop, IfOk, IfSome, IfNone, OnOk};
 ghost use Rattle.mime_lines.specs.Lines.{lines, text, is_blank};
 ghost use Rattle.mime_codec.specs.Quoted.{is_hex, hex_value, unescaped, without_end_blanks, text_with_end, quoted_line, quoted_printable};
+ghost use Rattle.mime_codec.specs.Escapes.{starts_escape};
 
+use crate::base64::entry;
 use jm_base::{Bytes, NoMemory};
-use memchr::memchr;
-use mime_lines::{split_line, text_len};
+use mime_lines::{BLOCK_BYTES, count_before, split_line, text_len};
 use std::alloc::Global;
 
-fn is_digit(byte: u8) -> bool
-    ensures { result ≡ is_hex byte }
+/// What `read_digit` returns for a byte that is no hexadecimal digit.
+const NO_DIGIT: u8 = 16;
+
+/// The value of each hexadecimal digit, in either case, or `NO_DIGIT`.
+const DIGITS: [u8; 256] = [
+    16, 16, 16, 16, 16, 16, 16, 16, 16, 16, 16, 16, 16, 16, 16, 16, 16, 16, 16, 16, 16, 16, 16, 16,
+    16, 16, 16, 16, 16, 16, 16, 16, 16, 16, 16, 16, 16, 16, 16, 16, 16, 16, 16, 16, 16, 16, 16, 16,
+    0, 1, 2, 3, 4, 5, 6, 7, 8, 9, 16, 16, 16, 16, 16, 16, 16, 10, 11, 12, 13, 14, 15, 16, 16, 16,
+    16, 16, 16, 16, 16, 16, 16, 16, 16, 16, 16, 16, 16, 16, 16, 16, 16, 16, 16, 16, 16, 16, 16, 10,
+    11, 12, 13, 14, 15, 16, 16, 16, 16, 16, 16, 16, 16, 16, 16, 16, 16, 16, 16, 16, 16, 16, 16, 16,
+    16, 16, 16, 16, 16, 16, 16, 16, 16, 16, 16, 16, 16, 16, 16, 16, 16, 16, 16, 16, 16, 16, 16, 16,
+    16, 16, 16, 16, 16, 16, 16, 16, 16, 16, 16, 16, 16, 16, 16, 16, 16, 16, 16, 16, 16, 16, 16, 16,
+    16, 16, 16, 16, 16, 16, 16, 16, 16, 16, 16, 16, 16, 16, 16, 16, 16, 16, 16, 16, 16, 16, 16, 16,
+    16, 16, 16, 16, 16, 16, 16, 16, 16, 16, 16, 16, 16, 16, 16, 16, 16, 16, 16, 16, 16, 16, 16, 16,
+    16, 16, 16, 16, 16, 16, 16, 16, 16, 16, 16, 16, 16, 16, 16, 16, 16, 16, 16, 16, 16, 16, 16, 16,
+    16, 16, 16, 16, 16, 16, 16, 16, 16, 16, 16, 16, 16, 16,
+];
+
+/// Returns the value of a hexadecimal digit, in either case, or `NO_DIGIT`.
+fn read_digit(byte: u8) -> u8
+    ensures none { result ≡ NO_DIGIT → is_hex byte ≡ false }
+    ensures digit { result ≢ NO_DIGIT → is_hex byte ≡ true }
+    ensures value { result ≢ NO_DIGIT → result ≡ hex_value byte }
+    ensures small { result ≤ NO_DIGIT }
 {
-    (48 <= byte && byte <= 57) || (65 <= byte && byte <= 70) || (97 <= byte && byte <= 102)
+    entry(&DIGITS, byte)
 }
 
-/// Returns the value of a hexadecimal digit, in either case.
-fn digit(byte: u8) -> u8
-    requires { is_hex byte ≡ true }
-    ensures value { result ≡ hex_value byte }
-    ensures small { result < 16 }
+/// Reads the byte that the escape at the start names; none if no escape is there.
+fn read_escape(text: &[u8]) -> Option<u8>
+    ensures none { IfNone result (starts_escape text.now ≡ false) }
+    ensures value { IfSome result (λ b. unescaped text.now ≡ b ∷ unescaped (drop 3 text.now)) }
+    ensures size { IfSome result (λ _. 3 ≤ length text.now) }
 {
-    if 48 <= byte && byte <= 57 {
-        byte - 48
-    } else if 65 <= byte && byte <= 70 {
-        byte - 55
-    } else {
-        byte - 87
+    if text.len() < 3 || text[0] != b'=' {
+        return None;
     }
+    let high = read_digit(text[1]);
+    let low = read_digit(text[2]);
+    if high == NO_DIGIT || low == NO_DIGIT {
+        return None;
+    }
+    Some(16 * high + low)
 }
 
-/// The first byte that a text encodes, and the text after it.
+/// The first byte that a text encodes, and how many bytes encode it.
 #[derive(Clone, Copy)]
-pub struct First<'a> {
-    pub byte: u8,
-    pub rest: &'a [u8],
+struct First {
+    byte: u8,
+    size: usize,
 }
 
-/// Reads the byte of the escape at the start, or else the first byte itself, and the text after it.
-pub fn split_first(text: &[u8]) -> First<'_>
+/// Reads the byte of the escape at the start, or else the first byte itself.
+fn read_first(text: &[u8]) -> First
     requires { 0 < length text.now }
-    ensures value { unescaped text.now ≡ result.byte ∷ unescaped result.rest.now }
-    ensures shorter { length result.rest.now < length text.now }
+    ensures value { unescaped text.now ≡ result.byte ∷ unescaped (drop result.size text.now) }
+    ensures some { 0 < result.size }
+    ensures within { result.size ≤ length text.now }
 {
-    if text.len() >= 3 && text[0] == b'=' && is_digit(text[1]) && is_digit(text[2]) {
-        return First {
-            byte: 16 * digit(text[1]) + digit(text[2]),
-            rest: &text[3..],
-        };
-    }
-    First {
-        byte: text[0],
-        rest: &text[1..],
+    match read_escape(text) {
+        Some(byte) => First { byte, size: 3 },
+        None => First {
+            byte: text[0],
+            size: 1,
+        },
     }
 }
 
-/// Splits a text before its first equals sign.
-pub fn split_run(text: &[u8]) -> (&[u8], &[u8])
-    ensures value { unescaped text.now ≡ result.0.now ++ unescaped result.1.now }
-    ensures size { length result.0.now + length result.1.now ≡ length text.now }
+/// Adds the first byte that the first `len` bytes of a text encode, and returns how many bytes
+/// encode it.
+fn push_first(out: &mut Vec<u8>, text: &[u8], len: usize) -> Result<usize, NoMemory>
+    requires some { 0 < len }
+    requires within { len ≤ length text.now }
+    ensures text { IfOk result (λ n. out.new.items ++ unescaped (drop n (take len text.now))
+        ≡ out.old.items ++ unescaped (take len text.now)) }
+    ensures some { IfOk result (λ n. 0 < n) }
+    ensures within { IfOk result (λ n. n ≤ len) }
 {
-    match memchr(b'=', text) {
-        Some(i) => text.split_at(i),
-        None => text.split_at(text.len()),
-    }
-}
-
-/// Adds the first byte that a text encodes, if there is one, and returns the text after it.
-fn push_first<'a>(out: &mut Vec<u8>, text: &'a [u8]) -> Result<&'a [u8], NoMemory>
-    ensures value { IfOk result (λ rest. out.new.items ++ unescaped rest.now ≡ out.old.items
-        ++ unescaped text.now) }
-    ensures shorter { IfOk result
-        (λ rest. 0 < length text.now → length rest.now < length text.now) }
-    ensures within { IfOk result (λ rest. length rest.now ≤ length text.now) }
-{
-    if text.is_empty() {
-        return Ok(text);
-    }
-    let first = split_first(text);
+    let first = read_first(text.split_at(len).0);
     out.push(first.byte)?;
-    Ok(first.rest)
+    Ok(first.size)
 }
 
-/// Adds what a text encodes: each escape is replaced by the byte that it names.
-fn push_unescaped(out: &mut Vec<u8>, text: &[u8]) -> Result<(), NoMemory>
-    ensures { OnOk result (out.new.items ≡ out.old.items ++ unescaped text.now) }
+/// Returns how many bytes before an equals sign the first `len` bytes of a text begin with, or how
+/// many bytes of a block.
+fn count_plain(text: &[u8], len: usize) -> usize
+    requires block { BLOCK_BYTES ≤ length text.now }
+    requires within { len ≤ length text.now }
+    ensures value { unescaped (take len text.now)
+        ≡ take result text.now ++ unescaped (drop result (take len text.now)) }
+    ensures block { result ≤ BLOCK_BYTES }
+    ensures within { result ≤ len }
 {
-    let mut left = text;
-    while !left.is_empty() {
-        let (run, rest) = split_run(left);
-        out.extend_from_slice(run)?;
-        left = push_first(out, rest)?;
+    let plain = count_before(text, b'=');
+    if plain < len { plain } else { len }
+}
+
+/// Adds what the first `len` bytes of a text encode up to the end of the first block, or of the
+/// first escape if that comes first, and returns how many bytes encode it. The whole block is
+/// copied, and cut: a copy whose length is known is fast.
+fn push_block(out: &mut Vec<u8>, text: &[u8], len: usize) -> Result<usize, NoMemory>
+    requires block { BLOCK_BYTES ≤ length text.now }
+    requires some { 0 < len }
+    requires within { len ≤ length text.now }
+    ensures text { IfOk result (λ n. out.new.items ++ unescaped (drop n (take len text.now))
+        ≡ out.old.items ++ unescaped (take len text.now)) }
+    ensures some { IfOk result (λ n. 0 < n) }
+    ensures within { IfOk result (λ n. n ≤ len) }
+{
+    let before = out.as_slice().len();
+    let plain = count_plain(text, len);
+    out.extend_from_slice(text.split_at(BLOCK_BYTES).0)?;
+    out.truncate(before + plain);
+    if plain == BLOCK_BYTES || plain == len {
+        return Ok(plain);
+    }
+    let size = push_first(out, text.split_at(plain).1, len - plain)?;
+    Ok(plain + size)
+}
+
+/// Adds what some of the first `len` bytes of a text encode, and returns how many these are.
+fn push_some(out: &mut Vec<u8>, text: &[u8], len: usize) -> Result<usize, NoMemory>
+    requires some { 0 < len }
+    requires within { len ≤ length text.now }
+    ensures text { IfOk result (λ n. out.new.items ++ unescaped (drop n (take len text.now))
+        ≡ out.old.items ++ unescaped (take len text.now)) }
+    ensures some { IfOk result (λ n. 0 < n) }
+    ensures within { IfOk result (λ n. n ≤ len) }
+{
+    if text.len() >= BLOCK_BYTES {
+        return push_block(out, text, len);
+    }
+    push_first(out, text, len)
+}
+
+/// Adds what the first `len` bytes of a text encode: each escape is replaced by the byte that it
+/// names. The bytes after these are only copied and cut again.
+fn push_unescaped(out: &mut Vec<u8>, text: &[u8], len: usize) -> Result<(), NoMemory>
+    requires { len ≤ length text.now }
+    ensures { OnOk result (out.new.items ≡ out.old.items ++ unescaped (take len text.now)) }
+{
+    let mut rest = text;
+    let mut left = len;
+    while left > 0 {
+        let size = push_some(out, rest, left)?;
+        rest = rest.split_at(size).1;
+        left -= size;
     }
     Ok(())
 }
@@ -102,7 +168,7 @@ pub fn unescape(alloc: Global, text: &[u8]) -> Result<Bytes, NoMemory>
     ensures { IfOk result (λ out. out ≡ unescaped text.now) }
 {
     let mut out = Vec::new(alloc);
-    push_unescaped(&mut out, text)?;
+    push_unescaped(&mut out, text, text.len())?;
     Ok(Bytes::from_vec(out))
 }
 
@@ -123,25 +189,28 @@ pub fn trim_end(text: &[u8]) -> &[u8]
     &text[..len]
 }
 
-/// Adds what a line encodes whose text, without the white space at its end, is `text`, and whose
-/// line end is `end`.
-fn push_text(out: &mut Vec<u8>, text: &[u8], end: &[u8]) -> Result<(), NoMemory>
-    ensures { OnOk result (out.new.items ≡ out.old.items ++ text_with_end text.now end.now) }
+/// Adds what a line encodes whose text, without the white space at its end, is the first `len`
+/// bytes of `text`, and whose line end is `end`.
+fn push_text(out: &mut Vec<u8>, text: &[u8], len: usize, end: &[u8]) -> Result<(), NoMemory>
+    requires { len ≤ length text.now }
+    ensures { OnOk result
+        (out.new.items ≡ out.old.items ++ text_with_end (take len text.now) end.now) }
 {
-    let len = text.len();
     if 0 < len && text[len - 1] == b'=' {
-        return push_unescaped(out, &text[..len - 1]);
+        return push_unescaped(out, text, len - 1);
     }
-    push_unescaped(out, text)?;
+    push_unescaped(out, text, len)?;
     out.extend_from_slice(end)?;
     Ok(())
 }
 
-fn push_line(out: &mut Vec<u8>, line: &[u8]) -> Result<(), NoMemory>
+/// Adds what the first line of a text encodes, which is `line`.
+fn push_line(out: &mut Vec<u8>, text: &[u8], line: &[u8]) -> Result<(), NoMemory>
+    requires { take (length line.now) text.now ≡ line.now }
     ensures { OnOk result (out.new.items ≡ out.old.items ++ quoted_line line.now) }
 {
-    let (text, end) = line.split_at(text_len(line));
-    push_text(out, trim_end(text), end)
+    let (front, end) = line.split_at(text_len(line));
+    push_text(out, text, trim_end(front).len(), end)
 }
 
 /// Returns the bytes that quoted-printable encodes.
@@ -152,7 +221,7 @@ pub fn decode_quoted(alloc: Global, bytes: &[u8]) -> Result<Vec<u8>, NoMemory>
     let mut rest = bytes;
     while !rest.is_empty() {
         let (line, after) = split_line(rest);
-        push_line(&mut out, line)?;
+        push_line(&mut out, rest, line)?;
         rest = after;
     }
     Ok(out)

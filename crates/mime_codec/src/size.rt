@@ -1,13 +1,14 @@
 // How many bytes a body encodes, found without decoding it.
-ghost use Rattle.std.specs.Prelude.{◌≡◌, ◌≤◌, ◌<◌, ◌+◌, ◌^◌, ◌++◌, cond, length};
+ghost use Rattle.std.specs.Prelude.{◌≡◌, ◌≤◌, ◌<◌, ◌+◌, ◌*◌, ◌++◌, cond, length};
 ghost use Rattle.std.specs.List.{count_by};
 ghost use Rattle.mime_codec.specs.Base64;
 ghost use Rattle.mime_codec.specs.Base64.{letters, base64};
 ghost use Rattle.mime_codec.specs.Decoded.{decoded};
-ghost use Rattle.mime_codec.specs.Quoted.{unescaped, text_with_end, quoted_line, quoted_printable};
+ghost use Rattle.mime_codec.specs.Quoted.{is_hex, is_escape, is_soft, quoted_line, quoted_printable};
+ghost use Rattle.mime_codec.specs.Escapes.{escapes};
 
 use crate::coding::Coding;
-use crate::quoted::{split_first, split_run, trim_end};
+use crate::quoted::trim_end;
 use memchr::memchr;
 use mime_lines::{split_line, text_len};
 
@@ -92,66 +93,121 @@ fn base64_size(bytes: &[u8]) -> usize
     count / 4 * 3 + (count % 4) * 3 / 4
 }
 
-/// Skips the first byte that a text encodes. Returns one, or none if it is empty, and the rest.
-fn skip_first(text: &[u8]) -> (usize, &[u8])
-    ensures value { length (unescaped text.now) ≡ result.0 + length (unescaped result.1.now) }
-    ensures within { result.0 + length result.1.now ≤ length text.now }
-    ensures shorter { 0 < length text.now → length result.1.now < length text.now }
+/// Returns whether a byte is a hexadecimal digit.
+fn is_digit(byte: u8) -> bool
+    ensures { result ≡ is_hex byte }
 {
-    if text.is_empty() {
-        return (0, text);
-    }
-    (1, split_first(text).rest)
+    (48 <= byte && byte <= 57) || (65 <= byte && byte <= 70) || (97 <= byte && byte <= 102)
 }
 
-/// Returns how many bytes a text encodes: each escape is one.
-fn unescaped_size(text: &[u8]) -> usize
-    ensures value { result ≡ length (unescaped text.now) }
+/// Returns one if these three bytes are an escape, and else none.
+fn escapes_of(byte: u8, high: u8, low: u8) -> u8
+    ensures value { result ≡ cond (is_escape byte high low) 1 0 }
+    ensures within { result ≤ 1 }
+{
+    if byte == b'=' && is_digit(high) && is_digit(low) {
+        1
+    } else {
+        0
+    }
+}
+
+/// The most bytes whose escapes a `u8` counts: none begins with one of the last two.
+const MAX_WINDOW_BYTES: usize = 257;
+
+/// Returns how many escapes a text has.
+fn window_escapes(text: &[u8]) -> u8
+    requires some { 2 ≤ length text.now }
+    requires small { length text.now ≤ MAX_WINDOW_BYTES }
+    ensures value { result ≡ escapes text.now }
+    ensures within { result + 2 ≤ length text.now }
+{
+    let mut count = 0;
+    for i in 0..text.len() - 2 {
+        count += escapes_of(text[i], text[i + 1], text[i + 2]);
+    }
+    count
+}
+
+/// Splits a text in two, of which the second begins with the last two bytes of the first if it
+/// isn't empty: no escape begins there in the first.
+fn split_window(text: &[u8]) -> (&[u8], &[u8])
+    requires { 2 ≤ length text.now }
+    ensures value { escapes text.now ≡ escapes result.0.now + escapes result.1.now }
+    ensures some { 2 ≤ length result.0.now }
+    ensures small { length result.0.now ≤ MAX_WINDOW_BYTES }
+    ensures within { length result.0.now + length result.1.now ≤ length text.now + 2 }
+    ensures shorter { length result.1.now < length text.now }
+{
+    if text.len() <= MAX_WINDOW_BYTES {
+        return text.split_at(text.len());
+    }
+    (
+        text.split_at(MAX_WINDOW_BYTES).0,
+        text.split_at(MAX_WINDOW_BYTES - 2).1,
+    )
+}
+
+/// Returns how many escapes a text has.
+fn count_escapes(text: &[u8]) -> usize
+    ensures value { result ≡ escapes text.now }
     ensures within { result ≤ length text.now }
 {
-    let mut size = 0;
+    let mut count = 0;
     let mut left = text;
-    while !left.is_empty() {
-        let (run, rest) = split_run(left);
-        let (first, after) = skip_first(rest);
-        size += run.len() + first;
-        left = after;
+    while left.len() >= 2 {
+        let (window, rest) = split_window(left);
+        count += window_escapes(window) as usize;
+        left = rest;
     }
-    size
+    count
 }
 
-fn text_size(text: &[u8], end: &[u8]) -> usize
-    requires { length text.now + length end.now < 2 ^ 64 }
-    ensures value { result ≡ length (text_with_end text.now end.now) }
-    ensures within { result ≤ length text.now + length end.now }
+/// Returns whether a line with this text, without the white space at its end, ends with a soft line
+/// break.
+fn ends_soft(text: &[u8]) -> bool
+    ensures { result ≡ is_soft text.now }
 {
-    let len = text.len();
-    if 0 < len && text[len - 1] == b'=' {
-        return unescaped_size(&text[..len - 1]);
+    match text.last() {
+        Some(byte) => *byte == b'=',
+        None => false,
     }
-    unescaped_size(text) + end.len()
 }
 
-fn line_size(line: &[u8]) -> usize
-    ensures value { result ≡ length (quoted_line line.now) }
-    ensures within { result ≤ length line.now }
+/// Returns how many bytes of a line encode nothing, but for the digits of escapes: the white space
+/// at its end, and a soft line break.
+fn count_cut(line: &[u8]) -> usize
+    ensures { length (quoted_line line.now) + 2 * escapes line.now + result ≡ length line.now }
 {
-    let (text, end) = line.split_at(text_len(line));
-    text_size(trim_end(text), end)
+    let text = line.split_at(text_len(line)).0;
+    let front = trim_end(text);
+    if ends_soft(front) {
+        return line.len() - (front.len() - 1);
+    }
+    text.len() - front.len()
+}
+
+/// Returns how many bytes of all lines `count_cut` counts.
+fn count_all_cut(bytes: &[u8]) -> usize
+    ensures { length (quoted_printable bytes.now) + 2 * escapes bytes.now + result
+        ≡ length bytes.now }
+{
+    let mut count = 0;
+    let mut rest = bytes;
+    while !rest.is_empty() {
+        let (line, after) = split_line(rest);
+        count += count_cut(line);
+        rest = after;
+    }
+    count
 }
 
 fn quoted_size(bytes: &[u8]) -> usize
     ensures value { result ≡ length (quoted_printable bytes.now) }
     ensures within { result ≤ length bytes.now }
 {
-    let mut size = 0;
-    let mut rest = bytes;
-    while !rest.is_empty() {
-        let (line, after) = split_line(rest);
-        size += line_size(line);
-        rest = after;
-    }
-    size
+    let cut = count_all_cut(bytes);
+    bytes.len() - (2 * count_escapes(bytes) + cut)
 }
 
 /// Returns how many bytes `bytes` encode in this transfer encoding: no more than they are. It
