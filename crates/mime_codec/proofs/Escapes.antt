@@ -1,6 +1,7 @@
 -- What escapes take of a text, where they may begin, and how many a line has.
 use Rattle.std.proofs.Common.{◌≡◌, ℕ, zero, suc, ◌+◌, ◌-◌, ◌*◌, ◌<◌, ◌≤◌, Bool, true, false, eqb, not, cond, ◌&&◌, ◌⊎◌, inl, inr, List, [], ◌∷◌, ◌++◌, length, get_or, take, drop, refl, ap, sym, ◌∙◌, append-nil, arith}
-use Rattle.std.proofs.lemmas.Bool.{eqb-true, false≢true, true≢false}
+use lib.Bits.{bit_and}
+use Rattle.std.proofs.lemmas.Bool.{eqb-true, false≢true}
 use Rattle.mime_codec.specs.Quoted.{is_hex, hex_value, is_escape, unescaped}
 use Rattle.mime_codec.specs.Escapes.{starts_escape, escapes}
 
@@ -106,3 +107,20 @@ all_quiet (y ∷ ys) h = omega (arith, past_quiet [] ys y (h 0 (omega arith)), a
 pub quiet_end : (xs ys : List ℕ) → ((k : ℕ) → k < length ys → is_quiet (get_or ys k 0) ≡ true) → escapes (xs ++ ys) ≡ escapes xs
 quiet_end xs [] h = ap escapes (append-nil xs)
 quiet_end xs (y ∷ ys) h = omega (arith, past_quiet xs ys y (h 0 (omega arith)), all_quiet ys (λ k low. h (suc k) (omega arith)))
+
+-- what tells an escape, without a branch
+by_cases : (p q r : Bool) → (bit_and (bit_and (cond p 1 0) (cond q 1 0)) (cond r 1 0) ≡ cond (p && (q && r)) 1 0) × (bit_and (bit_and (cond p 1 0) (cond q 1 0)) (cond r 1 0) ≤ 1)
+by_cases true true true = (refl, omega arith)
+by_cases true true false = (refl, omega arith)
+by_cases true false true = (refl, omega arith)
+by_cases true false false = (refl, omega arith)
+by_cases false true true = (refl, omega arith)
+by_cases false true false = (refl, omega arith)
+by_cases false false true = (refl, omega arith)
+by_cases false false false = (refl, omega arith)
+
+pub all_three : (p q r : Bool) (x y z : ℕ) → x ≡ cond p 1 0 → y ≡ cond q 1 0 → z ≡ cond r 1 0
+    → (bit_and (bit_and x y) z ≡ cond (p && (q && r)) 1 0) × (bit_and (bit_and x y) z ≤ 1)
+all_three p q r x y z e f g =
+    let same : bit_and (bit_and x y) z ≡ bit_and (bit_and (cond p 1 0) (cond q 1 0)) (cond r 1 0) = λ i. bit_and (bit_and (e i) (f i)) (g i) in
+    (same ∙ (by_cases p q r).0, omega (arith, same, (by_cases p q r).1))

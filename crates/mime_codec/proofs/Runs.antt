@@ -41,11 +41,14 @@ plain_front text m n len long same before within inside =
     ∙ ap (λ t. t ++ unescaped (drop n front)) (take-take n len text within)
 
 -- a block that was copied whole, and cut
+pub cut_to : (out more cut block : List ℕ) (before n : ℕ) → more ≡ out ++ block → cut ≡ take (before + n) more → before ≡ length out → cut ≡ out ++ take n block
+cut_to out more cut block before n copied truncated size =
+    truncated ∙ ap (take (before + n)) copied ∙ ap (λ k. take (k + n) (out ++ block)) size ∙ take-append-add out block n
+
 pub cut_block : (out more cut block text : List ℕ) (before n : ℕ) → more ≡ out ++ block → cut ≡ take (before + n) more → before ≡ length out → block ≡ take 32 text → n ≤ 32
     → cut ≡ out ++ take n text
 cut_block out more cut block text before n copied truncated size is small =
-    truncated ∙ ap (take (before + n)) copied ∙ ap (λ k. take (k + n) (out ++ block)) size ∙ take-append-add out block n
-    ∙ ap (λ t. out ++ t) (ap (take n) is ∙ take-take n 32 text small)
+    cut_to out more cut block before n copied truncated size ∙ ap (λ t. out ++ t) (ap (take n) is ∙ take-take n 32 text small)
 
 -- what is left of a text after its beginning, and after the beginning of that
 pub left_of : (text : List ℕ) (n len : ℕ) → n ≤ len → take (len - n) (drop n text) ≡ drop n (take len text)

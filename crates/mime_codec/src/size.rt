@@ -1,5 +1,5 @@
 // How many bytes a body encodes, found without decoding it.
-ghost use Rattle.std.specs.Prelude.{◌≡◌, ◌≤◌, ◌<◌, ◌+◌, ◌*◌, ◌++◌, cond, length};
+ghost use Rattle.std.specs.Prelude.{◌≡◌, ◌≤◌, ◌<◌, ◌+◌, ◌*◌, ◌++◌, ◌==◌, cond, length};
 ghost use Rattle.std.specs.List.{count_by};
 ghost use Rattle.mime_codec.specs.Base64;
 ghost use Rattle.mime_codec.specs.Base64.{letters, base64};
@@ -100,16 +100,27 @@ fn is_digit(byte: u8) -> bool
     (48 <= byte && byte <= 57) || (65 <= byte && byte <= 70) || (97 <= byte && byte <= 102)
 }
 
-/// Returns one if these three bytes are an escape, and else none.
+/// Returns one for an equals sign, and else none.
+fn signs_of(byte: u8) -> u8
+    ensures { result ≡ cond (byte == 61) 1 0 }
+{
+    if byte == b'=' { 1 } else { 0 }
+}
+
+/// Returns one for a hexadecimal digit, and else none.
+fn digits_of(byte: u8) -> u8
+    ensures { result ≡ cond (is_hex byte) 1 0 }
+{
+    if is_digit(byte) { 1 } else { 0 }
+}
+
+/// Returns one if these three bytes are an escape, and else none. It has no branch, so that a loop
+/// over it becomes vector code.
 fn escapes_of(byte: u8, high: u8, low: u8) -> u8
     ensures value { result ≡ cond (is_escape byte high low) 1 0 }
     ensures within { result ≤ 1 }
 {
-    if byte == b'=' && is_digit(high) && is_digit(low) {
-        1
-    } else {
-        0
-    }
+    signs_of(byte) & digits_of(high) & digits_of(low)
 }
 
 /// The most bytes whose escapes a `u8` counts: none begins with one of the last two.
