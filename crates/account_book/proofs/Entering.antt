@@ -1,5 +1,5 @@
 -- What a commit more makes of an account.
-use Rattle.std.proofs.Common.{◌≡◌, ◌↔◌, ℕ, Bool, IsTrue, ◌+◌, ◌^◌, List, [], ◌∷◌, ◌++◌, map, ◌≤◌, take, drop, length, refl, sym, ap, ap₂, ◌∙◌, subst, append_assoc, arith}
+use Rattle.std.proofs.Common.{◌≡◌, ◌↔◌, ℕ, Bool, IsTrue, ◌+◌, List, [], ◌∷◌, ◌++◌, map, ◌≤◌, take, drop, length, refl, sym, ap, ap₂, ◌∙◌, subst, append_assoc, arith}
 use Rattle.std.proofs.Math.Seq.{take-append_seam, drop-append_seam}
 use Rattle.std.proofs.lemmas.List.{append-nil, drop-append-le, map-append, take-append-le}
 use Rattle.mail_records.specs.Contents.{Content}
@@ -18,6 +18,7 @@ use Rattle.state_log.specs.Logs.{Notes, note_of}
 use Rattle.blob_store.specs.Blobs.{AreBlobsFew}
 use Rattle.account_book.specs.Accounts.{IsAccountOf, history_of, entries_with, kept_entry}
 use Rattle.account_book.specs.declared.entry.Entry.{Entry as KeptEntry}
+use Rattle.account_book.specs.declared.limits.TheConstants.{MAX_EDIT_BYTES}
 
 -- an entry after others takes the blobs that they leave
 entries_with-push : (hs : List Entry) (k : KeptEntry) (more : List (List ℕ)) → entries_with (map kept_entry hs ++ k ∷ []) (blobs_in hs ++ more) ≡ hs ++ entries_with (k ∷ []) more
@@ -81,7 +82,7 @@ IsAccountOf-commit h content content' log log' entries entries' blobs blobs' n b
     }
 
 -- a count of bytes within the limit isn't capped
-pub capped_within : (n m : ℕ) → n ≤ 2 ^ 60 → m ≡ n → m ≡ capped n
+pub capped_within : (n m : ℕ) → n ≤ MAX_EDIT_BYTES → m ≡ n → m ≡ capped n
 capped_within n m low is = omega (arith, low, is)
 
 pub capped_sum : (x y a b r : ℕ) → a ≡ capped x → b ≡ capped y → r ≡ capped (a + b) → r ≡ capped (x + y)

@@ -1,7 +1,7 @@
 -- What holds of the content of an account, and of its last position and next numbers.
-use Rattle.std.proofs.Common.{◌↔◌, ℕ, Bool, IsTrue, ◌+◌, ◌≤◌, ◌^◌, List, sym, subst, arith}
+use Rattle.std.proofs.Common.{◌↔◌, ℕ, Bool, IsTrue, ◌+◌, ◌≤◌, List, sym, subst, arith}
 use Rattle.mail_records.specs.Contents.{Content, AreTables, AreNumbered, NextAtMost}
-use Rattle.mail_records.specs.Histories.{History, IsSound, content_of, edits_of, end_of}
+use Rattle.mail_records.specs.Histories.{History, IsSound, content_of, edits_of, end_of, max_floor, max_position}
 use Rattle.mail_records.proofs.Growth.{AllKeepThread-sound, AreTables-after_edits, AreNumbered-after_edits, IsSound-from_steps, NextAtMost-founded}
 use Rattle.state_log.specs.Logs.{Notes}
 use Rattle.record_codec.specs.Sizes.{edit_bytes}
@@ -19,9 +19,9 @@ numbered_of h content log entries blobs n bytes t s = subst AreNumbered (sym s.c
 pub IsBounded-within : (h : History) (content : Content) (log : Notes) (entries : List KeptEntry) (blobs : List (List ℕ)) (n bytes : ℕ) (t : Bool) → IsAccountOf h content log entries blobs n bytes t → edit_bytes (edits_of h) ≤ MAX_EDIT_BYTES → IsBounded h
 IsBounded-within h content log entries blobs n bytes t s within =
     let next = NextAtMost-founded h s.founded s.fits in
-    let low : h.floor ≤ 2 ^ 52 = s.founded.low in
+    let low : h.floor ≤ max_floor = s.founded.low in
     let few = edit_bytes-least (edits_of h) in
-    let most : end_of h + 1 ≤ 2 ^ 52 + 2 ^ 26 = omega (arith, low, few, within) in
+    let most : end_of h + 1 ≤ max_position = omega (arith, low, few, within) in
     record {
       end = omega arith;
       numbers = record {

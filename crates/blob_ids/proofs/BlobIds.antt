@@ -10,6 +10,7 @@ use Rattle.std.proofs.lemmas.Fmt.{digits_value-decimal, digits_decimal}
 use Rattle.std.proofs.lemmas.Str.Parse.{IsNumeralModel, numerals_by_value, tells_digits, not_in_digits}
 use Rattle.std.proofs.lemmas.Slice.Eq.{bytes_eq-Decides}
 use Rattle.jm_base.specs.Ids.{IsNumberText, IsState, state_text}
+use Rattle.jm_base.specs.declared.identifiers.TheConstants.{NUMBER_LIMIT}
 use Rattle.blob_ids.specs.BlobIds.{IsBlobId, blob_id_in, blob_id_text, numbers_in, number_in, number_if, before_dash, after_dash, id_with, leaf_with, leaf_of, blob_with, leaf_text}
 use Rattle.blob_ids.specs.declared.ids.BlobId.{BlobId}
 
@@ -17,27 +18,27 @@ own : IsNumeralModel (AllDigits 10) (digits_value 10)
 own = numerals_by_value (AllDigits 10) tells_digits
 
 -- a decimal is read as its number
-pub decimal_read : (text : List ℕ) (n : ℕ) → n < 2 ^ 53 → text ≡ decimal n → number_in text ≡ Some n
+pub decimal_read : (text : List ℕ) (n : ℕ) → n < NUMBER_LIMIT → text ≡ decimal n → number_in text ≡ Some n
 decimal_read text n low is =
     let lt : n < 2 ^ 64 = omega arith in
     let value : digits_value 10 text ≡ n = ap (digits_value 10) is ∙ digits_value-decimal own n lt in
-    let test : nat_lt n 9007199254740992 ≡ true = lt-ltb n 9007199254740992 (omega arith) in
+    let test : nat_lt n NUMBER_LIMIT ≡ true = lt-ltb n NUMBER_LIMIT (omega arith) in
     let same : bytes_eq (decimal n) text ≡ true = (bytes_eq-Decides (decimal n) text).1 (sym is) in
     ap (λ (m : ℕ). number_if m text) value ∙ (rw (test, same) refl)
 
 -- what is no decimal is not read
-pub nothing_read : (text : List ℕ) → ((n : ℕ) → n < 2 ^ 53 → text ≡ decimal n → ⊥) → number_in text ≡ None
+pub nothing_read : (text : List ℕ) → ((n : ℕ) → n < NUMBER_LIMIT → text ≡ decimal n → ⊥) → number_in text ≡ None
 nothing_read text none = by_test (digits_value 10 text) _ refl
   where
     both : (a b : Bool) → (a && b) ≡ true → (a ≡ true) × (b ≡ true)
     both true b e = (refl, e)
     both false b e = absurd (true≢false (sym e))
 
-    by_test : (n : ℕ) (b : Bool) → (nat_lt n 9007199254740992 && bytes_eq (decimal n) text) ≡ b → cond b (Some n) None ≡ None
+    by_test : (n : ℕ) (b : Bool) → (nat_lt n NUMBER_LIMIT && bytes_eq (decimal n) text) ≡ b → cond b (Some n) None ≡ None
     by_test n false e = refl
     by_test n true e =
-        let parts = both (nat_lt n 9007199254740992) (bytes_eq (decimal n) text) e in
-        let low : n < 9007199254740992 = ltb-true n 9007199254740992 parts.0 in
+        let parts = both (nat_lt n NUMBER_LIMIT) (bytes_eq (decimal n) text) e in
+        let low : n < NUMBER_LIMIT = ltb-true n NUMBER_LIMIT parts.0 in
         let same : decimal n ≡ text = (bytes_eq-Decides (decimal n) text).0 parts.1 in
         absurd (none n (omega arith) (sym same))
 
@@ -80,13 +81,13 @@ dashless (x ∷ text) none = (ne_eqb x 45 (none 0 (omega arith)), dashless text 
 no_digit : IsInRange 48 57 45 → ⊥
 no_digit r = omega arith
 
-decimal_dashless : (n : ℕ) → n < 2 ^ 53 → NoDash (decimal n)
+decimal_dashless : (n : ℕ) → n < NUMBER_LIMIT → NoDash (decimal n)
 decimal_dashless n low = dashless (decimal n) (not_in_digits own (decimal n) 45 (digits_decimal own n (omega arith)) no_digit)
 
 pub read_back : (id : BlobId) → IsBlobId id → blob_id_in (blob_id_text id) ≡ Some id
 read_back id is = by_leaf id.blob id.leaf is.blob is.leaf
   where
-    by_leaf : (n : ℕ) (o : Option ℕ) → n < 2 ^ 53 → ForSome o (λ m. m < 2 ^ 53) → numbers_in (decimal n ++ leaf_text o) ≡ Some (let i : BlobId = record { blob = n; leaf = o } in i)
+    by_leaf : (n : ℕ) (o : Option ℕ) → n < NUMBER_LIMIT → ForSome o (λ m. m < NUMBER_LIMIT) → numbers_in (decimal n ++ leaf_text o) ≡ Some (let i : BlobId = record { blob = n; leaf = o } in i)
     by_leaf n None low less =
         ap numbers_in (append-nil (decimal n)) ∙ blob_read (decimal n) (decimal_dashless n low) ∙ ap blob_with (decimal_read (decimal n) n low refl)
     by_leaf n (Some m) low less =

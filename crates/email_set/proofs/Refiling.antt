@@ -8,7 +8,9 @@ use Rattle.jm_json.specs.Find.{as_object}
 use Rattle.jm_json.specs.Patch.{Patched, bad_patch, patched, patching_by}
 use Rattle.jm_json.specs.declared.invocation.Created.{Created}
 use Rattle.mail_counts.specs.Touched.{sorted_once}
+use Rattle.mail_counts.specs.declared.limits.TheConstants.{MAX_KEYWORDS_PER_EMAIL}
 use Rattle.mail_records.specs.Contents.{Content, mailbox_number}
+use Rattle.mail_records.specs.declared.limits.TheConstants.{MAX_MAILBOXES_PER_EMAIL}
 use Rattle.set_parts.specs.Names.{keywords_in, mailboxes_in}
 use Rattle.set_parts.specs.declared.set_errors.SetError.{SetError}
 use Rattle.set_parts.specs.declared.set_errors.SetError.TheVariants.{InvalidPatch, InvalidProperties, TooManyKeywords, TooManyMailboxes}
@@ -21,9 +23,9 @@ use Rattle.email_set.specs.declared.filing.Refiled.TheVariants.{Rejected, Filed}
 -- mailboxes and keywords that an email may have in a content
 pub record IsRefiled (c : Content) (f : Filing) : Type 0 where
   pub mailboxes : AreMailboxes c f.mailboxes
-  pub few_mailboxes : length f.mailboxes ≤ 64
+  pub few_mailboxes : length f.mailboxes ≤ MAX_MAILBOXES_PER_EMAIL
   pub keywords : AreKeywords f.keywords
-  pub few_keywords : length f.keywords ≤ 128
+  pub few_keywords : length f.keywords ≤ MAX_KEYWORDS_PER_EMAIL
 
 not_filed : (error : SetError) (f : Filing) → Rejected error ≡ Filed f → ⊥
 not_filed error f e = cc
@@ -35,20 +37,20 @@ same_filed f g e = cc
 
 pub record AreFew (f g : Filing) : Type 0 where
   pub same : f ≡ g
-  pub keywords : length f.keywords ≤ 128
-  pub mailboxes : length f.mailboxes ≤ 64
+  pub keywords : length f.keywords ≤ MAX_KEYWORDS_PER_EMAIL
+  pub mailboxes : length f.mailboxes ≤ MAX_MAILBOXES_PER_EMAIL
 
-few_at : (a b : Bool) (f g : Filing) → nat_lt 128 (length f.keywords) ≡ a → nat_lt 64 (length f.mailboxes) ≡ b
+few_at : (a b : Bool) (f g : Filing) → nat_lt MAX_KEYWORDS_PER_EMAIL (length f.keywords) ≡ a → nat_lt MAX_MAILBOXES_PER_EMAIL (length f.mailboxes) ≡ b
     → (if a then Rejected TooManyKeywords else (if b then Rejected TooManyMailboxes else Filed f)) ≡ Filed g → AreFew f g
 few_at true b f g i j e = absurd (not_filed TooManyKeywords g e)
 few_at false true f g i j e = absurd (not_filed TooManyMailboxes g e)
 few_at false false f g i j e =
-    let words = ltb-false 128 (length f.keywords) i in
-    let boxes = ltb-false 64 (length f.mailboxes) j in
+    let words = ltb-false MAX_KEYWORDS_PER_EMAIL (length f.keywords) i in
+    let boxes = ltb-false MAX_MAILBOXES_PER_EMAIL (length f.mailboxes) j in
     record { same = same_filed f g e; keywords = omega (arith, words); mailboxes = omega (arith, boxes) }
 
 few : (f g : Filing) → within_limits f ≡ Filed g → AreFew f g
-few f g e = few_at (nat_lt 128 (length f.keywords)) (nat_lt 64 (length f.mailboxes)) f g refl refl e
+few f g e = few_at (nat_lt MAX_KEYWORDS_PER_EMAIL (length f.keywords)) (nat_lt MAX_MAILBOXES_PER_EMAIL (length f.mailboxes)) f g refl refl e
 
 -- ---- no invalid property
 

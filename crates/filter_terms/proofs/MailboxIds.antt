@@ -1,5 +1,5 @@
 -- The number of the mailbox that an identifier is of.
-use Rattle.std.proofs.Common.{◌≡◌, ◌≢◌, ℕ, ◌<◌, ◌≤◌, ◌^◌, List, [], ◌∷◌, Bool, true, false, ◌||◌, ◌++◌, not, Some, Decides, refl, arith, sym, ap, subst, ◌∙◌, decimal}
+use Rattle.std.proofs.Common.{◌≡◌, ◌≢◌, ℕ, ◌<◌, ◌≤◌, List, [], ◌∷◌, Bool, true, false, ◌||◌, ◌++◌, not, Some, Decides, refl, arith, sym, ap, subst, ◌∙◌, decimal}
 use Rattle.std.specs.Prelude.{nat_le, ◌==◌}
 use Rattle.std.specs.List.{list_any}
 use Rattle.std.proofs.lemmas.Fmt.{decimal_injective}
@@ -8,6 +8,7 @@ use Rattle.std.proofs.lemmas.Slice.Eq.{bytes_eq-Decides}
 use Rattle.jm_base.specs.Ids.{IsId, id_text, kind_letter}
 use Rattle.jm_base.specs.declared.identifiers.Id.{Id}
 use Rattle.jm_base.specs.declared.identifiers.Kind.TheVariants.{Mailbox as OfMailbox, Email as OfEmail, Thread as OfThread}
+use Rattle.jm_base.specs.declared.identifiers.TheConstants.{NUMBER_LIMIT}
 use Rattle.mail_counts.specs.Views.{mailbox_id}
 use Rattle.method_args.specs.Arguments.{passes}
 use Rattle.filter_terms.specs.EmailTerms.{is_mailbox_id}
@@ -15,21 +16,21 @@ use Rattle.filter_terms.specs.Compiled.{is_other_than}
 use Rattle.filter_terms.proofs.Lists.{any_same}
 
 abbrev IsIdText : List ℕ → ℕ → Type 0
-IsIdText id a = ((1 ≤ a) × (a < 2 ^ 53)) × (mailbox_id a ≡ id)
+IsIdText id a = ((1 ≤ a) × (a < NUMBER_LIMIT)) × (mailbox_id a ≡ id)
 
 decides_from_one : (a : ℕ) → Decides (nat_le 1 a) (1 ≤ a)
 decides_from_one a = (λ e. grind (arith, nat_tests), λ h. grind (arith, nat_tests))
 
 decides_text : (id : List ℕ) (a : ℕ) → Decides (is_mailbox_id id a) (IsIdText id a)
-decides_text id a = Decides-and _ _ (Decides-and _ _ (decides_from_one a) (Decides-ltb a (2 ^ 53))) (bytes_eq-Decides (mailbox_id a) id)
+decides_text id a = Decides-and _ _ (Decides-and _ _ (decides_from_one a) (Decides-ltb a NUMBER_LIMIT)) (bytes_eq-Decides (mailbox_id a) id)
 
-one_number : (n a : ℕ) → n < 2 ^ 53 → IsIdText (mailbox_id n) a → n ≡ a
+one_number : (n a : ℕ) → n < NUMBER_LIMIT → IsIdText (mailbox_id n) a → n ≡ a
 one_number n a below w = sym (decimal_injective a n (omega (arith, w.0.1)) (omega (arith, below)) (let same = w.1 in cc))
 
-is_text_of : (n a : ℕ) → 1 ≤ n → n < 2 ^ 53 → n ≡ a → IsIdText (mailbox_id n) a
+is_text_of : (n a : ℕ) → 1 ≤ n → n < NUMBER_LIMIT → n ≡ a → IsIdText (mailbox_id n) a
 is_text_of n a one below e = subst (IsIdText (mailbox_id n)) e ((one, below), refl)
 
-same_test : (n a : ℕ) → 1 ≤ n → n < 2 ^ 53 → is_mailbox_id (mailbox_id n) a ≡ (n == a)
+same_test : (n a : ℕ) → 1 ≤ n → n < NUMBER_LIMIT → is_mailbox_id (mailbox_id n) a ≡ (n == a)
 same_test n a one below =
     same_from_decides _ _ (Decides-like _ (one_number n a below) (is_text_of n a one below) (decides_text (mailbox_id n) a)) (Decides-eqb n a)
 

@@ -1,5 +1,5 @@
 -- A record by its id, and by its number.
-use Rattle.std.proofs.Common.{◌≡◌, ◌≢◌, ℕ, ◌<◌, ◌≤◌, ◌^◌, List, [], ◌∷◌, Bool, true, false, ◌&&◌, cond, Some, None, Decides, refl, arith, sym, ap, subst, ◌∙◌, decimal}
+use Rattle.std.proofs.Common.{◌≡◌, ◌≢◌, ℕ, ◌<◌, ◌≤◌, List, [], ◌∷◌, Bool, true, false, ◌&&◌, cond, Some, None, Decides, refl, arith, sym, ap, subst, ◌∙◌, decimal}
 use Rattle.std.specs.Prelude.{nat_le, nat_lt, ◌==◌}
 use Rattle.std.specs.Str.{bytes_eq}
 use Rattle.std.proofs.lemmas.Fmt.{decimal_injective}
@@ -9,6 +9,7 @@ use Rattle.jm_base.specs.Ids.{IsId, id_text, kind_letter}
 use Rattle.jm_base.specs.declared.identifiers.Id.{Id}
 use Rattle.jm_base.specs.declared.identifiers.Kind.{Kind}
 use Rattle.jm_base.specs.declared.identifiers.Kind.TheVariants.{Mailbox as OfMailbox, Email as OfEmail, Thread as OfThread}
+use Rattle.jm_base.specs.declared.identifiers.TheConstants.{NUMBER_LIMIT}
 use Rattle.mail_records.specs.Tables.{lookup}
 use Rattle.mail_view.specs.Records.{is_id_text, record_named}
 
@@ -16,26 +17,26 @@ abbrev text_of : Kind → ℕ → List ℕ
 text_of kind n = id_text (record { kind = kind; number = n })
 
 abbrev IsIdText : Kind → List ℕ → ℕ → Type 0
-IsIdText kind id a = ((1 ≤ a) × (a < 2 ^ 53)) × (text_of kind a ≡ id)
+IsIdText kind id a = ((1 ≤ a) × (a < NUMBER_LIMIT)) × (text_of kind a ≡ id)
 
 decides_from_one : (a : ℕ) → Decides (nat_le 1 a) (1 ≤ a)
 decides_from_one a = (λ e. grind (arith, nat_tests), λ h. grind (arith, nat_tests))
 
 decides_text : (kind : Kind) (id : List ℕ) (a : ℕ) → Decides (is_id_text kind id a) (IsIdText kind id a)
-decides_text kind id a = Decides-and _ _ (Decides-and _ _ (decides_from_one a) (Decides-ltb a (2 ^ 53))) (bytes_eq-Decides (text_of kind a) id)
+decides_text kind id a = Decides-and _ _ (Decides-and _ _ (decides_from_one a) (Decides-ltb a NUMBER_LIMIT)) (bytes_eq-Decides (text_of kind a) id)
 
-one_number : (kind : Kind) (n a : ℕ) → n < 2 ^ 53 → IsIdText kind (text_of kind n) a → a ≡ n
+one_number : (kind : Kind) (n a : ℕ) → n < NUMBER_LIMIT → IsIdText kind (text_of kind n) a → a ≡ n
 one_number kind n a below w = decimal_injective a n (omega (arith, w.0.1)) (omega (arith, below)) (let same = w.1 in cc)
 
-is_text_of : (kind : Kind) (n a : ℕ) → 1 ≤ n → n < 2 ^ 53 → a ≡ n → IsIdText kind (text_of kind n) a
+is_text_of : (kind : Kind) (n a : ℕ) → 1 ≤ n → n < NUMBER_LIMIT → a ≡ n → IsIdText kind (text_of kind n) a
 is_text_of kind n a one below e = subst (IsIdText kind (text_of kind n)) (sym e) ((one, below), refl)
 
-same_test : (kind : Kind) (n a : ℕ) → 1 ≤ n → n < 2 ^ 53 → is_id_text kind (text_of kind n) a ≡ (a == n)
+same_test : (kind : Kind) (n a : ℕ) → 1 ≤ n → n < NUMBER_LIMIT → is_id_text kind (text_of kind n) a ≡ (a == n)
 same_test kind n a one below =
     same_from_decides _ _ (Decides-like _ (one_number kind n a below) (is_text_of kind n a one below) (decides_text kind (text_of kind n) a)) (Decides-eqb a n)
 
 -- an id names the record of its number
-named_by_number : {A : Type 0} (kind : Kind) (number_of : A → ℕ) (n : ℕ) (rows : List A) → 1 ≤ n → n < 2 ^ 53 → record_named kind number_of rows (text_of kind n) ≡ lookup number_of n rows
+named_by_number : {A : Type 0} (kind : Kind) (number_of : A → ℕ) (n : ℕ) (rows : List A) → 1 ≤ n → n < NUMBER_LIMIT → record_named kind number_of rows (text_of kind n) ≡ lookup number_of n rows
 named_by_number kind number_of n [] one below = refl
 named_by_number kind number_of n (m ∷ ms) one below =
     rw (same_test kind n (number_of m) one below) (ap (λ o. cond (number_of m == n) (Some m) o) (named_by_number kind number_of n ms one below))

@@ -1,5 +1,5 @@
 -- The decimal texts of numbers, as `parse` reads them.
-use Rattle.std.proofs.Common.{◌≡◌, ◌≢◌, ℕ, zero, suc, ◌<◌, ◌^◌, List, ◌∷◌, length, get_or, Ok, Err, sym, ap, ◌∙◌, subst, arith}
+use Rattle.std.proofs.Common.{◌≡◌, ◌≢◌, ℕ, zero, suc, ◌<◌, List, ◌∷◌, length, get_or, Ok, Err, sym, ap, ◌∙◌, subst, arith}
 use Rattle.std.specs.Fmt.{decimal}
 use Rattle.std.specs.declared.num.ParseIntError.{ParseIntError}
 use Rattle.std.specs.Int.{IsInRange}
@@ -10,6 +10,7 @@ use Rattle.std.proofs.lemmas.Str.{IsUtf8-from_ascii}
 use Rattle.std.proofs.lemmas.Str.Parse.{IsNumeralModel, numerals_by_value, tells_digits, parse_plain, not_in_digits}
 use Rattle.jm_base.specs.Ids.{IsId, IsNumberText, id_text}
 use Rattle.jm_base.specs.declared.identifiers.Id.{Id}
+use Rattle.jm_base.specs.declared.identifiers.TheConstants.{NUMBER_LIMIT}
 
 own : IsNumeralModel (AllDigits 10) (digits_value 10)
 own = numerals_by_value (AllDigits 10) tells_digits
@@ -21,11 +22,11 @@ read_back text m h plus zeros =
     sym (ap decimal k.1 ∙ decimal-digits_value own text k.0.0 k.0.1 zeros k.0.2)
 
 -- a decimal is read as its number
-pub reads_decimal : (text : List ℕ) (m n : ℕ) → ParsesUnsigned {E = ParseIntError} 64 10 text (Ok m) → n < 2 ^ 53 → text ≡ decimal n → m ≡ n
+pub reads_decimal : (text : List ℕ) (m n : ℕ) → ParsesUnsigned {E = ParseIntError} 64 10 text (Ok m) → n < NUMBER_LIMIT → text ≡ decimal n → m ≡ n
 reads_decimal text m n h lt e =
     let same = parse-decimal {E = ParseIntError} 64 n text (Ok m) (omega arith) (omega arith) e h in cc
 
-pub never_fails : (text : List ℕ) (f : ParseIntError) (n : ℕ) → ParsesUnsigned 64 10 text (Err f) → n < 2 ^ 53 → text ≡ decimal n → ⊥
+pub never_fails : (text : List ℕ) (f : ParseIntError) (n : ℕ) → ParsesUnsigned 64 10 text (Err f) → n < NUMBER_LIMIT → text ≡ decimal n → ⊥
 never_fails text f n h lt e =
     let same : Err f ≡ Ok n = parse-decimal {E = ParseIntError} 64 n text (Err f) (omega arith) (omega arith) e h in cc
 
@@ -38,11 +39,11 @@ pub record BeginsWell (text : List ℕ) : Type 0 where
 not_a_digit : IsInRange 48 57 43 → ⊥
 not_a_digit r = omega arith
 
-zero_alone : (n : ℕ) → n < 2 ^ 53 → get_or (decimal n) 0 0 ≡ 48 → length (decimal n) ≡ 1
+zero_alone : (n : ℕ) → n < NUMBER_LIMIT → get_or (decimal n) 0 0 ≡ 48 → length (decimal n) ≡ 1
 zero_alone zero lt e = ap length (decimal_digit 0 (omega arith))
 zero_alone (suc n) lt e = let first = first_decimal (suc n) (omega arith) (omega arith) in absurd (omega arith)
 
-begins : (n : ℕ) → n < 2 ^ 53 → BeginsWell (decimal n)
+begins : (n : ℕ) → n < NUMBER_LIMIT → BeginsWell (decimal n)
 begins n lt = record {
   some = decimal_nonempty n (omega arith);
   no_plus = not_in_digits own (decimal n) 43 (digits_decimal own n (omega arith)) not_a_digit 0 (decimal_nonempty n (omega arith));

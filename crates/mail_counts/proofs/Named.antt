@@ -1,5 +1,5 @@
 -- A mailbox by its identifier, and by its number.
-use Rattle.std.proofs.Common.{◌≡◌, ◌≢◌, ℕ, ◌<◌, ◌≤◌, ◌^◌, List, [], ◌∷◌, Bool, true, false, ◌&&◌, cond, Some, None, Decides, refl, arith, sym, ap, subst, ◌∙◌, decimal}
+use Rattle.std.proofs.Common.{◌≡◌, ◌≢◌, ℕ, ◌<◌, ◌≤◌, List, [], ◌∷◌, Bool, true, false, ◌&&◌, cond, Some, None, Decides, refl, arith, sym, ap, subst, ◌∙◌, decimal}
 use Rattle.std.specs.Prelude.{nat_le, nat_lt, ◌==◌}
 use Rattle.std.specs.Str.{bytes_eq}
 use Rattle.std.proofs.lemmas.Fmt.{decimal_injective}
@@ -9,6 +9,7 @@ use Rattle.jm_base.specs.Ids.{IsId, id_text, kind_letter}
 use Rattle.jm_base.specs.declared.identifiers.Id.{Id}
 use Rattle.jm_base.specs.declared.identifiers.Kind.{Kind}
 use Rattle.jm_base.specs.declared.identifiers.Kind.TheVariants.{Mailbox as OfMailbox, Email as OfEmail, Thread as OfThread}
+use Rattle.jm_base.specs.declared.identifiers.TheConstants.{NUMBER_LIMIT}
 use Rattle.mail_records.specs.Contents.{mailbox_number}
 use Rattle.mail_records.specs.Tables.{lookup}
 use Rattle.mail_records.specs.declared.records.Mailbox.{Mailbox}
@@ -16,29 +17,29 @@ use Rattle.mail_counts.specs.Views.{mailbox_id, mailbox_named}
 
 -- the text is the identifier of this number
 abbrev is_id_text : List ℕ → ℕ → Bool
-is_id_text id a = nat_le 1 a && nat_lt a (2 ^ 53) && bytes_eq (mailbox_id a) id
+is_id_text id a = nat_le 1 a && nat_lt a NUMBER_LIMIT && bytes_eq (mailbox_id a) id
 
 abbrev pub IsIdText : List ℕ → ℕ → Type 0
-IsIdText id a = ((1 ≤ a) × (a < 2 ^ 53)) × (mailbox_id a ≡ id)
+IsIdText id a = ((1 ≤ a) × (a < NUMBER_LIMIT)) × (mailbox_id a ≡ id)
 
 decides_from_one : (a : ℕ) → Decides (nat_le 1 a) (1 ≤ a)
 decides_from_one a = (λ e. grind (arith, nat_tests), λ h. grind (arith, nat_tests))
 
 decides_text : (id : List ℕ) (a : ℕ) → Decides (is_id_text id a) (IsIdText id a)
-decides_text id a = Decides-and _ _ (Decides-and _ _ (decides_from_one a) (Decides-ltb a (2 ^ 53))) (bytes_eq-Decides (mailbox_id a) id)
+decides_text id a = Decides-and _ _ (Decides-and _ _ (decides_from_one a) (Decides-ltb a NUMBER_LIMIT)) (bytes_eq-Decides (mailbox_id a) id)
 
-one_number : (n a : ℕ) → n < 2 ^ 53 → IsIdText (mailbox_id n) a → a ≡ n
+one_number : (n a : ℕ) → n < NUMBER_LIMIT → IsIdText (mailbox_id n) a → a ≡ n
 one_number n a below w = decimal_injective a n (omega (arith, w.0.1)) (omega (arith, below)) (let same = w.1 in cc)
 
-is_text_of : (n a : ℕ) → 1 ≤ n → n < 2 ^ 53 → a ≡ n → IsIdText (mailbox_id n) a
+is_text_of : (n a : ℕ) → 1 ≤ n → n < NUMBER_LIMIT → a ≡ n → IsIdText (mailbox_id n) a
 is_text_of n a one below e = subst (IsIdText (mailbox_id n)) (sym e) ((one, below), refl)
 
-same_test : (n a : ℕ) → 1 ≤ n → n < 2 ^ 53 → is_id_text (mailbox_id n) a ≡ (a == n)
+same_test : (n a : ℕ) → 1 ≤ n → n < NUMBER_LIMIT → is_id_text (mailbox_id n) a ≡ (a == n)
 same_test n a one below =
     same_from_decides _ _ (Decides-like _ (one_number n a below) (is_text_of n a one below) (decides_text (mailbox_id n) a)) (Decides-eqb a n)
 
 -- an identifier of a mailbox names the one of its number
-pub named_by_number : (n : ℕ) (rows : List Mailbox) → 1 ≤ n → n < 2 ^ 53 → mailbox_named rows (mailbox_id n) ≡ lookup mailbox_number n rows
+pub named_by_number : (n : ℕ) (rows : List Mailbox) → 1 ≤ n → n < NUMBER_LIMIT → mailbox_named rows (mailbox_id n) ≡ lookup mailbox_number n rows
 named_by_number n [] one below = refl
 named_by_number n (m ∷ ms) one below = rw (same_test n m.number one below) (ap (λ o. cond (m.number == n) (Some m) o) (named_by_number n ms one below))
 

@@ -24,6 +24,7 @@ use Rattle.mail_counts.specs.Tidy.{AreEmailsTidy, AreMailboxesTidy, AreThreadsTi
 use Rattle.mail_counts.specs.TidyBut.{AreInTurn, AreMailboxesTidyButCounts, DerivedEditsMakeTidy, IsPlacedBelow, LeaveTidyButThreadsAndCounts, LeavesThreads}
 use Rattle.mail_counts.specs.Touched.{emails_of, in_order, is_one_of, list_of_thread, threads_named, touched_threads}
 use Rattle.mail_counts.specs.declared.mailbox_counts.MailboxCounts.{MailboxCounts}
+use Rattle.mail_counts.specs.declared.limits.TheConstants.{MAX_EMAILS_PER_ACCOUNT}
 use Rattle.mail_counts.proofs.Covers.{table_of_numbers}
 use Rattle.mail_counts.proofs.Followed.{IsRecounted, IsThreaded, all_recounted, mailbox_with, puts_of, thread_now, threaded}
 use Rattle.mail_counts.proofs.Groups.{filter_within, table_kept}
@@ -108,10 +109,10 @@ record AreSmall (counts : MailboxCounts) : Type 0 where
   total_threads : counts.total_threads < 2 ^ 64
   unread_threads : counts.unread_threads < 2 ^ 64
 
-small_from : (a b n : ℕ) → a ≤ b → b ≤ n → n ≤ 100000 → a < 2 ^ 64
+small_from : (a b n : ℕ) → a ≤ b → b ≤ n → n ≤ MAX_EMAILS_PER_ACCOUNT → a < 2 ^ 64
 small_from a b n one other few = omega arith
 
-small_counts : (emails : List Email) (n : ℕ) → length emails ≤ 100000 → AreSmall (counts_over emails n)
+small_counts : (emails : List Email) (n : ℕ) → length emails ≤ MAX_EMAILS_PER_ACCOUNT → AreSmall (counts_over emails n)
 small_counts emails n few =
     let in_it : length (emails_in n emails) ≤ length emails = filter_le (is_in n) emails in
     let threads : length (threads_in n emails) ≤ length (emails_in n emails) =
@@ -126,7 +127,7 @@ small_counts emails n few =
 
 -- ---- the counts by difference are those over all emails
 
-right_counts : (before after : List Email) (ts : List ℕ) (m : Mailbox) → filter (outside ts) after ≡ filter (outside ts) before → length after ≤ 100000
+right_counts : (before after : List Email) (ts : List ℕ) (m : Mailbox) → filter (outside ts) after ≡ filter (outside ts) before → length after ≤ MAX_EMAILS_PER_ACCOUNT
     → HasCounts before m → HasCounts after (mailbox_with (counts_between (emails_of ts before) (emails_of ts after)) m)
 right_counts before after ts m stay few has =
     let q = is_one_of ts in
@@ -245,7 +246,7 @@ module _ (counts : Mailbox → MailboxCounts) where
 
     emails-again : d.emails ≡ c.emails → AreEmailsTidy c → AreEmailsTidy d
     emails-again same tidy = record {
-      few = subst (λ (es : List Email). length es ≤ 100000) (sym same) tidy.few;
+      few = subst (λ (es : List Email). length es ≤ MAX_EMAILS_PER_ACCOUNT) (sym same) tidy.few;
       each = subst (AllByRecursion (IsTidyEmail d)) (sym same) (all_map (IsTidyEmail c) (IsTidyEmail d) c.emails (λ (e : Email) (t : IsTidyEmail c e). email-again e t) tidy.each);
     }
 
@@ -390,7 +391,7 @@ same_at : (after : Content) (ts : List ℕ) → AllByRecursion (λ t. thread_at 
 same_at after [] = tt
 same_at after (t ∷ ts) = (refl, same_at after ts)
 
-counts_right : (c d : Content) (ts : List ℕ) (ms : List Mailbox) → filter (outside ts) d.emails ≡ filter (outside ts) c.emails → length d.emails ≤ 100000
+counts_right : (c d : Content) (ts : List ℕ) (ms : List Mailbox) → filter (outside ts) d.emails ≡ filter (outside ts) c.emails → length d.emails ≤ MAX_EMAILS_PER_ACCOUNT
     → AllByRecursion (HasCounts c.emails) ms → AllByRecursion (λ (m : Mailbox). HasCounts d.emails (mailbox_with (counts_between (emails_of ts c.emails) (emails_of ts d.emails)) m)) ms
 counts_right c d ts [] stay few all = tt
 counts_right c d ts (m ∷ ms) stay few all = (right_counts c.emails d.emails ts m stay few all.0, counts_right c d ts ms stay few all.1)

@@ -1,5 +1,5 @@
 -- The record that an identifier is of, and its index in a list.
-use Rattle.std.proofs.Common.{◌≡◌, ◌≢◌, ℕ, ◌+◌, ◌<◌, ◌≤◌, ◌^◌, List, [], ◌∷◌, Bool, true, false, if◌then◌else◌, None, Decides, refl, arith, sym, ap, subst, ◌∙◌, decimal}
+use Rattle.std.proofs.Common.{◌≡◌, ◌≢◌, ℕ, ◌+◌, ◌<◌, ◌≤◌, List, [], ◌∷◌, Bool, true, false, if◌then◌else◌, None, Decides, refl, arith, sym, ap, subst, ◌∙◌, decimal}
 use Rattle.std.specs.Prelude.{nat_le, ◌==◌}
 use Rattle.std.proofs.lemmas.Bool.{true≢false}
 use Rattle.std.proofs.lemmas.Fmt.{decimal_injective}
@@ -9,6 +9,7 @@ use Rattle.jm_base.specs.Ids.{IsId, id_text, kind_letter}
 use Rattle.jm_base.specs.declared.identifiers.Id.{Id}
 use Rattle.jm_base.specs.declared.identifiers.Kind.{Kind}
 use Rattle.jm_base.specs.declared.identifiers.Kind.TheVariants.{Mailbox as OfMailbox, Email as OfEmail, Thread as OfThread}
+use Rattle.jm_base.specs.declared.identifiers.TheConstants.{NUMBER_LIMIT}
 use Rattle.mail_records.specs.States.{is_kind}
 use Rattle.query_engine.specs.Windows.{index_where, is_id_of}
 
@@ -16,14 +17,14 @@ abbrev id_at : Kind → ℕ → List ℕ
 id_at kind n = id_text (record { kind = kind; number = n })
 
 abbrev IsIdText : Kind → List ℕ → ℕ → Type 0
-IsIdText kind id a = ((1 ≤ a) × (a < 2 ^ 53)) × (id_at kind a ≡ id)
+IsIdText kind id a = ((1 ≤ a) × (a < NUMBER_LIMIT)) × (id_at kind a ≡ id)
 
 decides_from_one : (a : ℕ) → Decides (nat_le 1 a) (1 ≤ a)
 decides_from_one a = (λ e. grind (arith, nat_tests), λ h. grind (arith, nat_tests))
 
 decides_text : (kind : Kind) (id : List ℕ) (a : ℕ) → Decides (is_id_of kind id a) (IsIdText kind id a)
 decides_text kind id a =
-    Decides-and _ _ (Decides-and _ _ (decides_from_one a) (Decides-ltb a (2 ^ 53))) (bytes_eq-Decides (id_at kind a) id)
+    Decides-and _ _ (Decides-and _ _ (decides_from_one a) (Decides-ltb a NUMBER_LIMIT)) (bytes_eq-Decides (id_at kind a) id)
 
 abbrev rest_of : List ℕ → List ℕ
 rest_of [] = []
@@ -33,13 +34,13 @@ abbrev first_of : List ℕ → ℕ
 first_of [] = 0
 first_of (x ∷ xs) = x
 
-one_number : (kind : Kind) (n a : ℕ) → n < 2 ^ 53 → IsIdText kind (id_at kind n) a → a ≡ n
+one_number : (kind : Kind) (n a : ℕ) → n < NUMBER_LIMIT → IsIdText kind (id_at kind n) a → a ≡ n
 one_number kind n a below w = decimal_injective a n (omega (arith, w.0.1)) (omega (arith, below)) (ap rest_of w.1)
 
-is_text_of : (kind : Kind) (n a : ℕ) → 1 ≤ n → n < 2 ^ 53 → a ≡ n → IsIdText kind (id_at kind n) a
+is_text_of : (kind : Kind) (n a : ℕ) → 1 ≤ n → n < NUMBER_LIMIT → a ≡ n → IsIdText kind (id_at kind n) a
 is_text_of kind n a one below e = subst (λ m. IsIdText kind (id_at kind n) m) (sym e) ((one, below), refl)
 
-same_test : (kind : Kind) (n a : ℕ) → 1 ≤ n → n < 2 ^ 53 → is_id_of kind (id_at kind n) a ≡ (a == n)
+same_test : (kind : Kind) (n a : ℕ) → 1 ≤ n → n < NUMBER_LIMIT → is_id_of kind (id_at kind n) a ≡ (a == n)
 same_test kind n a one below =
     same_from_decides _ _ (Decides-like _ (one_number kind n a below) (is_text_of kind n a one below) (decides_text kind (id_at kind n) a)) (Decides-eqb a n)
 

@@ -7,11 +7,13 @@ use Rattle.std.proofs.lemmas.Bool.{true≢false, cases_lt, cases_eq, or_parts, e
 use Rattle.std.proofs.lemmas.List.{take-append-drop, length-take}
 use Rattle.jm_base.specs.declared.identifiers.UtcDate.{UtcDate}
 use Rattle.jm_base.specs.UtcDates.{IsUtcDate}
+use Rattle.jm_base.specs.declared.utc_dates.TheConstants.{FIRST_TIMESTAMP, LAST_TIMESTAMP}
 use Rattle.record_codec.specs.Offsets.{AreBytes}
 use Rattle.record_codec.specs.Encoding.{number, blob, truth, optional, since_year_one, date}
 use Rattle.record_codec.specs.Widths.{FitsIn64Bits, LengthFitsIn64Bits}
 use Rattle.record_codec.specs.Reading.{Read, then}
 use Rattle.record_codec.specs.Readers.{number_at, number_between, truth_at, optional_at, tag_at, date_from, date_at, bytes_at, blob_at}
+use Rattle.record_codec.specs.declared.write_fields.TheConstants.{LAST_SECOND, SECONDS_BEFORE_1970}
 use Rattle.record_codec.proofs.OneForm.{OneForm, number_one, blob_one, truth_one, optional_one}
 use Rattle.record_codec.proofs.Exact.{IsInput, bytes_left, bytes_both, Stops, stops_later, stops_here, stops_short, Encoded, Exact, Field, ok_is, ok_no_err, bind_ok, bind_err, then_exact, made_exact, made_field}
 use Rattle.record_codec.proofs.Items.{exact_same, second_of}
@@ -163,44 +165,44 @@ module _ {A : Type 0} (P : A → Type 0) (encode : A → List ℕ) (read : List 
   optional_field = record { one = optional_one P encode f.one; some = (None, none_has); exact = record { found = optional_found; fault = optional_fault } }
 
 -- ---- dates
-date_early : (n : ℕ) → n < 62135596800 → (date_from n).seconds ≡ negsuc (62135596800 - suc n)
-date_early n h = rw (lt-ltb n 62135596800 h) refl
+date_early : (n : ℕ) → n < SECONDS_BEFORE_1970 → (date_from n).seconds ≡ negsuc (SECONDS_BEFORE_1970 - suc n)
+date_early n h = rw (lt-ltb n SECONDS_BEFORE_1970 h) refl
 
-date_late : (n : ℕ) → 62135596800 ≤ n → (date_from n).seconds ≡ pos (n - 62135596800)
-date_late n h = rw (le-ltb n 62135596800 h) refl
+date_late : (n : ℕ) → SECONDS_BEFORE_1970 ≤ n → (date_from n).seconds ≡ pos (n - SECONDS_BEFORE_1970)
+date_late n h = rw (le-ltb n SECONDS_BEFORE_1970 h) refl
 
-moment_early : (m : ℕ) → m ≤ 62135596799 → (negsuc 62135596799 ≤ℤ negsuc m) × (negsuc m ≤ℤ pos 253402300799)
+moment_early : (m : ℕ) → m ≤ SECONDS_BEFORE_1970 - 1 → (FIRST_TIMESTAMP ≤ℤ negsuc m) × (negsuc m ≤ℤ pos LAST_TIMESTAMP)
 moment_early m h = (omega (arith, ints), omega (arith, ints))
 
-moment_late : (m : ℕ) → m ≤ 253402300799 → (negsuc 62135596799 ≤ℤ pos m) × (pos m ≤ℤ pos 253402300799)
+moment_late : (m : ℕ) → m ≤ LAST_TIMESTAMP → (FIRST_TIMESTAMP ≤ℤ pos m) × (pos m ≤ℤ pos LAST_TIMESTAMP)
 moment_late m h = (omega (arith, ints), omega (arith, ints))
 
 abbrev Dated : ℕ → ℤ → Type 0
-Dated n z = ((negsuc 62135596799 ≤ℤ z) × (z ≤ℤ pos 253402300799)) × (since_year_one z ≡ n)
+Dated n z = ((FIRST_TIMESTAMP ≤ℤ z) × (z ≤ℤ pos LAST_TIMESTAMP)) × (since_year_one z ≡ n)
 
-dated : (n : ℕ) → n ≤ 315537897599 → Dated n (date_from n).seconds
-dated n h = elim (cases_lt n 62135596800) [
-  | inl lt ↦ subst (Dated n) (sym (date_early n lt)) (moment_early (62135596800 - suc n) (omega arith), omega arith)
-  | inr ge ↦ subst (Dated n) (sym (date_late n ge)) (moment_late (n - 62135596800) (omega arith), omega arith)
+dated : (n : ℕ) → n ≤ LAST_SECOND → Dated n (date_from n).seconds
+dated n h = elim (cases_lt n SECONDS_BEFORE_1970) [
+  | inl lt ↦ subst (Dated n) (sym (date_early n lt)) (moment_early (SECONDS_BEFORE_1970 - suc n) (omega arith), omega arith)
+  | inr ge ↦ subst (Dated n) (sym (date_late n ge)) (moment_late (n - SECONDS_BEFORE_1970) (omega arith), omega arith)
 ]
 
-date_to : (n : ℕ) → IsWithin 0 315537897599 n → IsUtcDate (date_from n) × (date (date_from n) ≡ number n)
+date_to : (n : ℕ) → IsWithin 0 LAST_SECOND n → IsUtcDate (date_from n) × (date (date_from n) ≡ number n)
 date_to n p = let d = dated n p.upto in (record { not_before = d.0.0; not_after = d.0.1 }, ap number d.1)
 
-seconds_back : (z : ℤ) → negsuc 62135596799 ≤ℤ z → z ≤ℤ pos 253402300799 → (since_year_one z ≤ 315537897599) × ((date_from (since_year_one z)).seconds ≡ z)
+seconds_back : (z : ℤ) → FIRST_TIMESTAMP ≤ℤ z → z ≤ℤ pos LAST_TIMESTAMP → (since_year_one z ≤ LAST_SECOND) × ((date_from (since_year_one z)).seconds ≡ z)
 seconds_back (pos m) low high =
-    let below : m ≤ 253402300799 = leb_yes high.le in
-    (omega arith, date_late (m + 62135596800) (omega arith) ∙ ap pos (omega arith))
+    let below : m ≤ LAST_TIMESTAMP = leb_yes high.le in
+    (omega arith, date_late (m + SECONDS_BEFORE_1970) (omega arith) ∙ ap pos (omega arith))
 seconds_back (negsuc m) low high =
-    let below : m ≤ 62135596799 = leb_yes low.le in
-    (omega arith, date_early (62135596799 - m) (omega arith) ∙ ap negsuc (omega arith))
+    let below : m ≤ SECONDS_BEFORE_1970 - 1 = leb_yes low.le in
+    (omega arith, date_early (SECONDS_BEFORE_1970 - 1 - m) (omega arith) ∙ ap negsuc (omega arith))
 
-date_back : (d : UtcDate) → IsUtcDate d → (n : ℕ) × IsWithin 0 315537897599 n × (date_from n ≡ d)
+date_back : (d : UtcDate) → IsUtcDate d → (n : ℕ) × IsWithin 0 LAST_SECOND n × (date_from n ≡ d)
 date_back d m = let b = seconds_back d.seconds m.not_before m.not_after in (since_year_one d.seconds, record { from = omega arith; upto = b.0 }, λ i. record { seconds = b.1 i })
 
 pub date_field : Field IsUtcDate date date_at
-date_field = made_field (IsWithin 0 315537897599) number (number_between 0 315537897599) IsUtcDate date date_from date_to date_back
-    (record { one = between_one 0 315537897599 (lit< tt); some = (0, record { from = lit≤ tt; upto = lit≤ tt }); exact = between_exact 0 315537897599 (lit≤ tt) (lit< tt) })
+date_field = made_field (IsWithin 0 LAST_SECOND) number (number_between 0 LAST_SECOND) IsUtcDate date date_from date_to date_back
+    (record { one = between_one 0 LAST_SECOND (lit< tt); some = (0, record { from = lit≤ tt; upto = lit≤ tt }); exact = between_exact 0 LAST_SECOND (lit≤ tt) (lit< tt) })
 
 -- ---- tags
 abbrev pub IsTag : ℕ → ℕ → Type 0

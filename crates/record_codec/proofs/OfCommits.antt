@@ -1,10 +1,11 @@
 -- The same of dates, records, edits and commits.
-use Rattle.std.proofs.Common.{◌≡◌, ℕ, ◌^◌, ◌<◌, ◌≤◌, Bool, List, [], ◌∷◌, ◌++◌, ap, arith}
+use Rattle.std.proofs.Common.{◌≡◌, ℕ, ◌^◌, ◌-◌, ◌<◌, ◌≤◌, Bool, List, [], ◌∷◌, ◌++◌, ap, arith}
 use Rattle.std.specs.Prelude.{ℤ, pos, negsuc, ◌≤ℤ◌}
 use Rattle.std.specs.List.{AllByRecursion}
 use Rattle.std.proofs.Math.Facts.{leb_yes}
 use Rattle.std.specs.Option.{ForSome}
 use Rattle.jm_base.specs.UtcDates.{IsUtcDate}
+use Rattle.jm_base.specs.declared.utc_dates.TheConstants.{FIRST_TIMESTAMP, LAST_TIMESTAMP}
 use Rattle.mail_records.specs.declared.records.Summary.{Summary}
 use Rattle.mail_records.specs.declared.records.Email.{Email}
 use Rattle.mail_records.specs.declared.edits.Edit.{Edit}
@@ -13,21 +14,22 @@ use Rattle.mail_records.specs.declared.edits.Commit.{Commit}
 use Rattle.mail_records.specs.Commits.{IsFormedEmail, IsFormedEdit, IsFormed}
 use Rattle.record_codec.specs.Encoding.{number, blob, listed, truth, optional, since_year_one, date, summary, mailbox, email, thread, edit, encoding}
 use Rattle.record_codec.specs.Widths.{FitsIn64Bits, LengthFitsIn64Bits, AreAll, IsWideSummary, IsWideMailbox, IsWideEmail, IsWideThread, IsWideEdit, IsWide}
+use Rattle.record_codec.specs.declared.write_fields.TheConstants.{SECONDS_BEFORE_1970}
 use Rattle.record_codec.proofs.OneForm.{OneForm, first, number_one, blob_one, truth_one, optional_one, listed_one}
 
-moment_fits : (s : ℤ) → negsuc 62135596799 ≤ℤ s → s ≤ℤ pos 253402300799 → since_year_one s < 2 ^ 64
+moment_fits : (s : ℤ) → FIRST_TIMESTAMP ≤ℤ s → s ≤ℤ pos LAST_TIMESTAMP → since_year_one s < 2 ^ 64
 moment_fits (pos n) low high =
-    let below : n ≤ 253402300799 = leb_yes high.le in
+    let below : n ≤ LAST_TIMESTAMP = leb_yes high.le in
     omega arith
 moment_fits (negsuc n) low high = omega arith
 
-moment_one : (s t : ℤ) → negsuc 62135596799 ≤ℤ s → negsuc 62135596799 ≤ℤ t → since_year_one s ≡ since_year_one t → s ≡ t
+moment_one : (s t : ℤ) → FIRST_TIMESTAMP ≤ℤ s → FIRST_TIMESTAMP ≤ℤ t → since_year_one s ≡ since_year_one t → s ≡ t
 moment_one (pos m) (pos n) p q e = ap pos (omega (arith, e))
 moment_one (pos m) (negsuc n) p q e = absurd (omega (arith, e))
 moment_one (negsuc m) (pos n) p q e = absurd (omega (arith, e))
 moment_one (negsuc m) (negsuc n) p q e =
-    let low : m ≤ 62135596799 = leb_yes p.le in
-    let low' : n ≤ 62135596799 = leb_yes q.le in
+    let low : m ≤ SECONDS_BEFORE_1970 - 1 = leb_yes p.le in
+    let low' : n ≤ SECONDS_BEFORE_1970 - 1 = leb_yes q.le in
     ap negsuc (omega (arith, e))
 
 pub date_one : OneForm IsUtcDate date

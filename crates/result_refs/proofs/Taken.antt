@@ -8,6 +8,7 @@ use Rattle.jm_json.specs.Pointer.{cut, child}
 use Rattle.result_refs.specs.References.{own_items, gathered, step, walked, picked, response_of, taken, text_at, asked, referred}
 use Rattle.result_refs.specs.Room.{value_bytes, items_bytes}
 use Rattle.result_refs.specs.Made.{bytes_if, sum_bytes, gathered_bytes, child_bytes, scan_bytes, step_bytes, parts_bytes, path_bytes, taken_bytes, asked_bytes, referred_bytes}
+use Rattle.result_refs.specs.declared.room.TheConstants.{VALUE_BYTES}
 
 items_bytes_append : (xs ys : List Tree) → items_bytes (trees_of (xs ++ ys)) ≡ items_bytes (trees_of xs) + items_bytes (trees_of ys)
 items_bytes_append [] ys = omega arith
@@ -51,7 +52,7 @@ gathered_made f n h [] rs e =
     omega (arith, sym (ap (λ (ts : List Tree). items_bytes (trees_of ts)) same))
 gathered_made f n h (t ∷ ts) rs e = one_more (f t) (gathered f ts) (n t) (sum_bytes n ts) rs (h t) (gathered_made f n h ts) e
 
-list_made : (g : Option (List Tree)) (n k : ℕ) (r : Tree) → ((rs : List Tree) → g ≡ Some rs → items_bytes (trees_of rs) ≤ n) → 64 + n ≤ k → option_map (λ rs. list (trees_of rs)) g ≡ Some r → value_bytes r ≤ k
+list_made : (g : Option (List Tree)) (n k : ℕ) (r : Tree) → ((rs : List Tree) → g ≡ Some rs → items_bytes (trees_of rs) ≤ n) → VALUE_BYTES + n ≤ k → option_map (λ rs. list (trees_of rs)) g ≡ Some r → value_bytes r ≤ k
 list_made None n k r h le e = absurd (cc)
 list_made (Some rs) n k r h le e =
     let same : list (trees_of rs) ≡ r = cc in

@@ -3,6 +3,7 @@ use Rattle.jm_json.specs.Json.{tree_of}
 use Rattle.result_refs.specs.References.{gathered, walked}
 use Rattle.result_refs.specs.Parts.{later_parts}
 use Rattle.result_refs.specs.Made.{parts_bytes, sum_bytes}
+use Rattle.result_refs.specs.declared.room.TheConstants.{VALUE_BYTES}
 use Rattle.result_refs.proofs.path.+walk.Given as goal
 
 abbrev pub decreases-walk : goal.decreases-walk
@@ -27,7 +28,7 @@ abbrev pub invariant-gather-loop-item : goal.invariant-gather-loop-item
 invariant-gather-loop-item l = record {
   found : gathered (walked (later_parts l.path)) (map tree_of l.items)
       ≡ option_map (λ rs. l.found ++ rs) (gathered (walked (later_parts l.path)) (map tree_of (drop l.item-index l.items)));
-  room : 64 * (length l.items + 1) + sum_bytes (parts_bytes (later_parts l.path)) (map tree_of l.items) + l.room
+  room : VALUE_BYTES * (length l.items + 1) + sum_bytes (parts_bytes (later_parts l.path)) (map tree_of l.items) + l.room
       ≤ sum_bytes (parts_bytes (later_parts l.path)) (map tree_of (drop l.item-index l.items)) + l.fn.room;
   less : l.room ≤ l.fn.room;
 }

@@ -1,10 +1,11 @@
-use Rattle.std.proofs.Common.{rules, ◌≡◌, ◌≤◌, ◌^◌, arith, ◌+◌, ◌++◌, ◌∷◌, [], ap, sym, ◌∙◌, subst}
+use Rattle.std.proofs.Common.{rules, ◌≡◌, ◌≤◌, arith, ◌+◌, ◌++◌, ◌∷◌, [], ap, sym, ◌∙◌, subst}
 use Rattle.mail_records.specs.Edits.{AllFit, after_edits}
 use Rattle.mail_records.specs.Histories.{Committed, IsSound, blobs_of, content_of, edits_of, grown}
 use Rattle.record_codec.specs.Sizes.{edit_bytes}
 use Rattle.blob_store.specs.Blobs.{AreBlobsFew}
 use Rattle.account_book.specs.Accounts.{IsAccountOf, history_of, kept_entry}
 use Rattle.account_book.specs.Replies.{IsWithin}
+use Rattle.account_book.specs.declared.limits.TheConstants.{MAX_EDIT_BYTES}
 use Rattle.account_book.proofs.Entering.{IsAccountOf-commit, capped_within, history_of-commit, noted, threads_sound}
 use Rattle.account_book.proofs.account.Account.commit_ready.Goals as goal
 
@@ -30,7 +31,7 @@ invariant_of-self c =
     let bytes = subst (λ v. c.args.bytes ≡ edit_bytes (edits_of v.history) + edit_bytes commit.edits) (sym c.self.view_is) c.requires.bytes in
     let h = history_of inside.log inside.base.content inside.base_blobs inside.entries.items inside.blobs.blobs in
     let within : IsWithin edit_bytes h commit.edits = subst (λ v. IsWithin edit_bytes v.history commit.edits) (sym c.self.view_is) c.requires.within in
-    let low : edit_bytes (edits_of h) + edit_bytes commit.edits ≤ 2 ^ 60 = omega (arith, within) in
+    let low : edit_bytes (edits_of h) + edit_bytes commit.edits ≤ MAX_EDIT_BYTES = within in
     let sound : IsSound (grown h (Committed commit)) = subst (λ v. IsSound (grown v.history (Committed commit))) (sym c.self.view_is) c.requires.sound in
     let threads = threads_sound h commit inside.keeps_threads c.self.invariant.threads sound in
     let fits : AllFit (content_of (history_of inside.log inside.base.content inside.base_blobs inside.entries.items inside.blobs.blobs)) commit.edits = subst (λ v. AllFit (content_of v.history) commit.edits) (sym c.self.view_is) c.requires.fits in
