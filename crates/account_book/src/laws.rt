@@ -1,12 +1,11 @@
 // What holds of every account, whatever its rules.
-ghost use Rattle.std.specs.Prelude.{◌≡◌, ◌≤◌, ◌^◌, ◌⊎◌, ℕ, List, length};
+ghost use Rattle.std.specs.Prelude.{◌≡◌, ◌≤◌, ◌^◌, ◌⊎◌, ℕ, List, Some, length};
 ghost use Rattle.mail_records.specs.Histories.{History, Entry, IsFounded, IsSound, blobs_of, content_at, content_of, end_after, end_of, grown_by, max_floor};
 ghost use Rattle.mail_records.specs.FloorMoves.{moved_up};
 ghost use Rattle.mail_records.specs.States.{state_at, state_of};
 ghost use Rattle.mail_records.specs.declared.edits.Edit.{Edit};
 ghost use Rattle.mail_records.specs.declared.edits.Stamp.{Stamp};
 ghost use Rattle.jm_base.specs.declared.identifiers.Kind.{Kind};
-ghost use Rattle.keep_port.specs.Keeping.{LeavesContent};
 ghost use Rattle.keep_port.specs.declared.kept.Kept.{Kept};
 ghost use Rattle.account_book.specs.Accounts.{without_refusals};
 ghost use Rattle.account_book.specs.Keeping.{IsOneMore, IsReady, KeepsHistory, no_base_encoding};
@@ -64,12 +63,13 @@ pub fn kept_accounts_open_again<R: Rules>(rules: &R)
     let _rules = rules;
 }
 
-/// A keeper of which a crash leaves its content, and nothing else, is ready for every account, as
-/// after an `append` or a `replace` that returned Ok. So is a [`keep_port::MemoryKeeper`] that was
-/// just made.
+/// A keeper of which a crash leaves nothing but its content is ready for every account. So is a
+/// keeper right after an `append` or a `replace` that returned Ok, if it knows its content then, and
+/// a [`keep_port::MemoryKeeper`] that was just made.
 pub fn clean_keepers_are_ready<K: Keeper, R: Rules>(keeper: &K, rules: &R)
-    ensures { LeavesContent (K.kept keeper.now) (K.image keeper.now) → IsReady no_base_encoding
-        (R.is_whole rules.now) (K.kept keeper.now) (K.image keeper.now) }
+    ensures { ((k : Kept) → K.image keeper.now k → K.kept keeper.now ≡ Some k)
+        → IsReady no_base_encoding (R.is_whole rules.now) (K.kept keeper.now)
+        (K.image keeper.now) }
 {
     let _keeper = keeper;
     let _rules = rules;
