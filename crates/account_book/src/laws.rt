@@ -64,8 +64,8 @@ pub fn kept_accounts_open_again<R: Rules>(rules: &R)
 }
 
 /// A keeper of which a crash leaves nothing but its content is ready for every account. So is a
-/// keeper right after an `append` or a `replace` that returned Ok, if it knows its content then, and
-/// a [`keep_port::MemoryKeeper`] that was just made.
+/// keeper right after an `append` or a `replace` that returned Ok, if it knows its content then,
+/// and a [`keep_port::MemoryKeeper`] that was just made.
 pub fn clean_keepers_are_ready<K: Keeper, R: Rules>(keeper: &K, rules: &R)
     ensures { ((k : Kept) → K.image keeper.now k → K.kept keeper.now ≡ Some k)
         → IsReady no_base_encoding (R.is_whole rules.now) (K.kept keeper.now)
