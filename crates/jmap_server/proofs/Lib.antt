@@ -1,4 +1,7 @@
 pub mod Told
+pub mod Unmoved
+pub mod Leaving
+pub mod Openings
 pub mod Served
 pub mod Workers
 mod Sharing

@@ -1,5 +1,5 @@
 -- What a world was told, call after call.
-use Rattle.std.proofs.Common.{◌≡◌, ℕ, List, [], ◌∷◌, ◌++◌, Option, None, Some, refl, sym, ap, ◌∙◌, subst, append_assoc, append-nil}
+use Rattle.std.proofs.Common.{◌≡◌, List, [], ◌∷◌, ◌++◌, Option, None, Some, refl, sym, ap, ◌∙◌, append_assoc, append-nil}
 use Rattle.std.specs.Prelude.{option_map}
 use Rattle.jmap_server.specs.Deeds.{Deed, GaveClock, GaveGate, GaveLine, IsTold}
 use Rattle.jmap_server.specs.Lines.{taken_of, taking}

@@ -1,4 +1,6 @@
 pub mod Deeds
+pub mod Fronts
+pub mod Openings
 pub mod Lines
 pub mod Workers
 pub mod Serving

@@ -1,10 +1,11 @@
 // The accounts of a server are opened and closed.
-ghost use Rattle.std.specs.Prelude.{◌≡◌, ◌≤◌, ◌∷◌, [], List, IfErr, IfOk, OnOk, length, map, vec_capacity, vec_len};
+ghost use Rattle.std.specs.Prelude.{◌≡◌, ◌≤◌, ◌∷◌, [], reverse, List, IfErr, IfOk, OnOk, length, map, vec_capacity, vec_len};
 ghost use Rattle.std.specs.List.{AllByRecursion};
 ghost use Rattle.account_hall.specs.Building.{IsFresh};
-ghost use Rattle.account_hall.specs.Halls.{AreOf};
+ghost use Rattle.account_hall.specs.Halls.{AreOf, entries_of};
 ghost use Rattle.jmap_server.specs.Deeds.{Deed, GotKeeper, IsTold, lent_for};
-ghost use Rattle.jmap_server.specs.Serving.{AreClosed, HasOpened, HasOpenedAll, IsCaused, IsGivenBack, OpensOne, fault_of, name_of, names_in, start_fault_of};
+ghost use Rattle.jmap_server.specs.Openings.{AreTakenOut, Closing, IsKeptBy, IsOpening, keepers_back, keepers_of, lent_of, opening_of, openings_of};
+ghost use Rattle.jmap_server.specs.Serving.{HasOpened, HasOpenedAll, IsCaused, IsGivenBack, OpensOne, fault_of, names_in, start_fault_of};
 
 use crate::fault::ServeFault;
 use crate::rules_source::RulesSource;
@@ -47,6 +48,8 @@ fn open_over<W: World, R: Rules>(
     requires { W.Keep.load_faults keeper ≡ 0 }
     ensures name { IfOk result (λ account. account.name ≡ name) }
     ensures fresh { IfOk result IsFresh }
+    ensures opened { IfOk result (λ account. IsOpening W.Keep.kept (R.is_whole rules)
+        (lent_for name keeper) (opening_of account)) }
     ensures told { OnOk result (W.told world.new ≡ W.told world.old) }
     ensures back { IfErr result (λ fault. IsGivenBack W.Keep.kept (R.is_whole rules)
         (W.told world.old) (W.told world.new) name keeper fault) }
@@ -56,7 +59,10 @@ fn open_over<W: World, R: Rules>(
     ensures later { W.load_faults world.old ≤ W.load_faults world.new }
 {
     match Book::start(alloc, keeper, rules) {
-        Ok(book) => Ok(Named { name, book }),
+        Ok(book) => {
+            book.keeps();
+            Ok(Named { name, book })
+        }
         Err((fault, keeper)) => {
             world.return_keeper(&name, keeper);
             Err(start_fault_of(fault))
@@ -93,8 +99,8 @@ fn open_account<W: World, F: RulesSource>(
 
 /// Closes accounts, the last one first, and gives their keepers back to the world.
 pub(crate) fn close_accounts<W: World, R: Rules>(world: &mut W, accounts: Vec<Named<W::Keep, R>>)
-    ensures told { (did : List (Deed W.Keep W.Line W.Time)) × IsTold (W.told world.old)
-        (W.told world.new) did × AreClosed (names_in accounts.items) did }
+    ensures told { IsTold (W.told world.old) (W.told world.new)
+        (map GotKeeper (reverse (keepers_of (openings_of accounts.items)))) }
     ensures count { W.faults world.new ≡ W.faults world.old }
     ensures later { W.load_faults world.old ≤ W.load_faults world.new }
 {
@@ -107,12 +113,15 @@ pub(crate) fn close_accounts<W: World, R: Rules>(world: &mut W, accounts: Vec<Na
 
 // Closes an account, and gives its keeper back to the world.
 fn close_account<W: World, R: Rules>(world: &mut W, account: Named<W::Keep, R>)
-    ensures told { (k : W.Keep) × IsTold (W.told world.old) (W.told world.new)
-        (GotKeeper (lent_for account.name k) ∷ []) }
+    ensures told { IsTold (W.told world.old) (W.told world.new)
+        (GotKeeper (lent_of (opening_of account)) ∷ []) }
+    ensures kept_by { IsKeptBy W.Keep.kept W.Keep.append_faults account.book.opened
+        (entries_of account.book) account.book.keeper }
     ensures count { W.faults world.new ≡ W.faults world.old }
     ensures later { W.load_faults world.old ≤ W.load_faults world.new }
 {
     let Named { name, book } = account;
+    book.keeps();
     world.return_keeper(&name, book.end());
 }
 
@@ -130,7 +139,7 @@ fn open_each<W: World, F: RulesSource>(
     requires room { length ids.now ≤ vec_capacity accounts.old }
     ensures told { (did : List (Deed W.Keep W.Line W.Time)) × IsTold (W.told world.old)
         (W.told world.new) did × HasOpened W.Keep.kept (F.Rules.is_whole (F.rules source.now))
-        folder.now ids.now (names_in accounts.new.items) did result }
+        folder.now ids.now (openings_of accounts.new.items) did result }
     ensures fresh { AllByRecursion IsFresh accounts.new.items }
     ensures cause { IfErr result (IsCaused (W.faults world.old) (W.faults world.new)
         (W.load_faults world.old) (W.load_faults world.new)) }
@@ -157,7 +166,7 @@ pub(crate) fn open_accounts<W: World, F: RulesSource>(
 ) -> Result<Vec<Named<W::Keep, F::Rules>>, ServeFault>
     ensures told { (did : List (Deed W.Keep W.Line W.Time)) × IsTold (W.told world.old)
         (W.told world.new) did × HasOpenedAll W.Keep.kept (F.Rules.is_whole (F.rules source.now))
-        folder.now ids.now did result }
+        folder.now ids.now (λ v. openings_of v.items) did result }
     ensures names { IfOk result (λ v. names_in v.items ≡ ids.now) }
     ensures fresh { IfOk result (λ v. AllByRecursion IsFresh v.items) }
     ensures cause { IfErr result (IsCaused (W.faults world.old) (W.faults world.new)
@@ -182,8 +191,9 @@ pub(crate) fn open_accounts<W: World, F: RulesSource>(
 pub(crate) fn close_hall<W: World, R: Rules>(world: &mut W, hall: Hall<W::Keep, R>, front: Front)
     requires hall { AreOf hall front.roots }
     requires none_in { front.inside ≡ 0 }
-    ensures told { (did : List (Deed W.Keep W.Line W.Time)) × IsTold (W.told world.old)
-        (W.told world.new) did × AreClosed (map name_of hall) did }
+    ensures told { (closings : List (Closing W.Keep)) × IsTold (W.told world.old)
+        (W.told world.new) (map GotKeeper (keepers_back closings)) × AreTakenOut W.Keep.kept
+        W.Keep.append_faults hall front.roots closings }
     ensures count { W.faults world.new ≡ W.faults world.old }
     ensures later { W.load_faults world.old ≤ W.load_faults world.new }
 {

@@ -6,7 +6,10 @@ ghost use Rattle.jm_base.specs.declared.limits.TheConstants.{MAX_SESSIONS as The
 ghost use Rattle.account_lock.specs.declared.limits.TheConstants.{MAX_NAMES as TheMaxNames};
 ghost use Rattle.jm_edge.specs.Causes.{IsCounted};
 ghost use Rattle.jmap_server.specs.Deeds.{Deed, IsTold};
+ghost use Rattle.account_hall.specs.Sessions.{SessionView};
+ghost use Rattle.jmap_server.specs.Fronts.{FrontGoes};
 ghost use Rattle.jmap_server.specs.Lines.{Goes, HasServedLines, HasTakenNext, HaveGone, sight_of};
+ghost use Rattle.jmap_server.specs.Openings.{opened_by};
 ghost use Rattle.jmap_server.specs.Workers.{IsHandedOver, IsWorker, taken_by};
 
 use crate::ends::Ends;
@@ -52,14 +55,17 @@ fn hand_over<
     requires front { AreOf hall.now front.old.roots }
     requires hall { AreOf hall.now passes.passes }
     requires fresh { passes.trail ≡ [] }
+    requires openings { map opened_by passes.passes ≡ map opened_by front.old.roots }
     requires accounts { length users.now.account_ids ≤ length hall.now }
     requires room { vec_len workers.old < vec_capacity workers.old }
     requires inside { front.old.inside ≡ vec_len workers.old + 1 }
-    ensures handed { IsHandedOver (sight_of L.left L.held L.read_faults L.put_faults C.times
-        K.kept) R.plan_of hall.now users.now line clock workers.old.items workers.new.items
-        result }
+    ensures handed { (left : List SessionView) × IsHandedOver (sight_of L.left L.held L.read_faults
+        L.put_faults C.times K.kept K.append_faults) R.plan_of hall.now users.now (map opened_by
+        front.old.roots) line clock workers.old.items workers.new.items left result
+        × FrontGoes front.old.roots front.new.roots left }
     ensures capacity { vec_capacity workers.new ≡ vec_capacity workers.old }
     ensures front { AreOf hall.now front.new.roots }
+    ensures openings { map opened_by front.new.roots ≡ map opened_by front.old.roots }
     ensures inside { front.new.inside ≡ vec_len workers.new }
     ensures admitted { front.new.admitted ≡ front.old.admitted }
 {
@@ -103,11 +109,13 @@ fn serve_line<
     requires room { vec_len workers.old < vec_capacity workers.old }
     requires inside { front.old.inside ≡ vec_len workers.old }
     requires names { front.old.admitted < TheMaxNames }
-    ensures handed { IsHandedOver (sight_of L.left L.held L.read_faults L.put_faults C.times
-        K.kept) R.plan_of hall.now users.now line clock workers.old.items workers.new.items
-        result }
+    ensures handed { (left : List SessionView) × IsHandedOver (sight_of L.left L.held L.read_faults
+        L.put_faults C.times K.kept K.append_faults) R.plan_of hall.now users.now (map opened_by
+        front.old.roots) line clock workers.old.items workers.new.items left result
+        × FrontGoes front.old.roots front.new.roots left }
     ensures capacity { vec_capacity workers.new ≡ vec_capacity workers.old }
     ensures front { AreOf hall.now front.new.roots }
+    ensures openings { map opened_by front.new.roots ≡ map opened_by front.old.roots }
     ensures inside { front.new.inside ≡ vec_len workers.new }
     ensures admitted { front.new.admitted ≤ front.old.admitted + 1 }
 {
@@ -142,17 +150,22 @@ where
     requires few { vec_len workers.old < TheMaxSessions }
     requires inside { front.old.inside ≡ vec_len workers.old }
     requires names { front.old.admitted < TheMaxNames }
-    requires workers { AllByRecursion (IsWorker hall.now users.now) workers.old.items }
-    ensures told { (did : List (Deed W.Keep W.Line W.Time)) × IsTold (W.told world.old)
+    requires workers { AllByRecursion (IsWorker hall.now users.now (map opened_by
+        front.old.roots)) workers.old.items }
+    ensures told { (did : List (Deed W.Keep W.Line W.Time)) × (left : List SessionView)
+        × FrontGoes front.old.roots front.new.roots left × IsTold (W.told world.old)
         (W.told world.new) did × HasTakenNext (sight_of W.Line.left W.Line.held
-        W.Line.read_faults W.Line.put_faults W.Time.times W.Keep.kept) R.plan_of hall.now
-        users.now (map taken_by workers.old.items) (map taken_by workers.new.items) did result }
+        W.Line.read_faults W.Line.put_faults W.Time.times W.Keep.kept W.Keep.append_faults)
+        R.plan_of hall.now users.now (map taken_by workers.old.items) (map taken_by
+        workers.new.items) left did result }
     ensures cause { IsCounted (W.faults world.old) (W.faults world.new) result }
     ensures later { W.faults world.old ≤ W.faults world.new }
     ensures load_count { W.load_faults world.new ≡ W.load_faults world.old }
-    ensures workers { AllByRecursion (IsWorker hall.now users.now) workers.new.items }
+    ensures workers { AllByRecursion (IsWorker hall.now users.now (map opened_by
+        front.old.roots)) workers.new.items }
     ensures capacity { vec_capacity workers.new ≡ vec_capacity workers.old }
     ensures front { AreOf hall.now front.new.roots }
+    ensures openings { map opened_by front.new.roots ≡ map opened_by front.old.roots }
     ensures inside { front.new.inside ≡ vec_len workers.new }
     ensures admitted { front.new.admitted ≤ front.old.admitted + 1 }
 {
@@ -189,17 +202,21 @@ fn return_one<H: Threads, W: World, R: Rules>(
     requires place { i < vec_len workers.old }
     requires front { AreOf hall.now front.old.roots }
     requires inside { front.old.inside ≡ vec_len workers.old }
-    requires workers { AllByRecursion (IsWorker hall.now users.now) workers.old.items }
-    ensures told { (did : List (Deed W.Keep W.Line W.Time)) × IsTold (W.told world.old)
+    requires workers { AllByRecursion (IsWorker hall.now users.now (map opened_by
+        front.old.roots)) workers.old.items }
+    ensures told { (did : List (Deed W.Keep W.Line W.Time)) × (left : List SessionView)
+        × FrontGoes front.old.roots front.new.roots left × IsTold (W.told world.old)
         (W.told world.new) did × Goes (sight_of W.Line.left W.Line.held W.Line.read_faults
-        W.Line.put_faults W.Time.times W.Keep.kept) R.plan_of hall.now users.now 0
-        (map taken_by workers.old.items) (map taken_by workers.new.items) did }
+        W.Line.put_faults W.Time.times W.Keep.kept W.Keep.append_faults) R.plan_of hall.now
+        users.now 0 (map taken_by workers.old.items) (map taken_by workers.new.items) left did }
     ensures count { W.faults world.new ≡ W.faults world.old }
     ensures load_count { W.load_faults world.new ≡ W.load_faults world.old }
-    ensures workers { AllByRecursion (IsWorker hall.now users.now) workers.new.items }
+    ensures workers { AllByRecursion (IsWorker hall.now users.now (map opened_by
+        front.old.roots)) workers.new.items }
     ensures len { vec_len workers.new + 1 ≡ vec_len workers.old }
     ensures capacity { vec_capacity workers.new ≡ vec_capacity workers.old }
     ensures front { AreOf hall.now front.new.roots }
+    ensures openings { map opened_by front.new.roots ≡ map opened_by front.old.roots }
     ensures inside { front.new.inside ≡ vec_len workers.new }
     ensures admitted { front.new.admitted ≡ front.old.admitted }
 {
@@ -223,17 +240,21 @@ fn return_lines<H: Threads + Wait, W: World, R: Rules>(
 )
     requires front { AreOf hall.now front.old.roots }
     requires inside { front.old.inside ≡ vec_len workers.old }
-    requires workers { AllByRecursion (IsWorker hall.now users.now) workers.old.items }
+    requires workers { AllByRecursion (IsWorker hall.now users.now (map opened_by
+        front.old.roots)) workers.old.items }
     ensures few { vec_len workers.new ≤ most }
-    ensures told { (did : List (Deed W.Keep W.Line W.Time)) × IsTold (W.told world.old)
+    ensures told { (did : List (Deed W.Keep W.Line W.Time)) × (left : List SessionView)
+        × FrontGoes front.old.roots front.new.roots left × IsTold (W.told world.old)
         (W.told world.new) did × Goes (sight_of W.Line.left W.Line.held W.Line.read_faults
-        W.Line.put_faults W.Time.times W.Keep.kept) R.plan_of hall.now users.now 0
-        (map taken_by workers.old.items) (map taken_by workers.new.items) did }
+        W.Line.put_faults W.Time.times W.Keep.kept W.Keep.append_faults) R.plan_of hall.now
+        users.now 0 (map taken_by workers.old.items) (map taken_by workers.new.items) left did }
     ensures count { W.faults world.new ≡ W.faults world.old }
     ensures load_count { W.load_faults world.new ≡ W.load_faults world.old }
-    ensures workers { AllByRecursion (IsWorker hall.now users.now) workers.new.items }
+    ensures workers { AllByRecursion (IsWorker hall.now users.now (map opened_by
+        front.old.roots)) workers.new.items }
     ensures capacity { vec_capacity workers.new ≡ vec_capacity workers.old }
     ensures front { AreOf hall.now front.new.roots }
+    ensures openings { map opened_by front.new.roots ≡ map opened_by front.old.roots }
     ensures inside { front.new.inside ≡ vec_len workers.new }
     ensures admitted { front.new.admitted ≡ front.old.admitted }
 {
@@ -264,16 +285,21 @@ where
     requires room { vec_capacity workers.old ≡ TheMaxSessions }
     requires inside { front.old.inside ≡ vec_len workers.old }
     requires names { front.old.admitted + count ≤ TheMaxNames }
-    requires workers { AllByRecursion (IsWorker hall.now users.now) workers.old.items }
-    ensures told { (did : List (Deed W.Keep W.Line W.Time)) × IsTold (W.told world.old)
+    requires workers { AllByRecursion (IsWorker hall.now users.now (map opened_by
+        front.old.roots)) workers.old.items }
+    ensures told { (did : List (Deed W.Keep W.Line W.Time)) × (left : List SessionView)
+        × FrontGoes front.old.roots front.new.roots left × IsTold (W.told world.old)
         (W.told world.new) did × HaveGone (sight_of W.Line.left W.Line.held W.Line.read_faults
-        W.Line.put_faults W.Time.times W.Keep.kept) R.plan_of hall.now users.now
-        (map taken_by workers.old.items) (map taken_by workers.new.items) count did result }
+        W.Line.put_faults W.Time.times W.Keep.kept W.Keep.append_faults) R.plan_of hall.now
+        users.now (map taken_by workers.old.items) (map taken_by workers.new.items) left count did
+        result }
     ensures cause { IsCounted (W.faults world.old) (W.faults world.new) result }
     ensures later { W.faults world.old ≤ W.faults world.new }
     ensures load_count { W.load_faults world.new ≡ W.load_faults world.old }
-    ensures workers { AllByRecursion (IsWorker hall.now users.now) workers.new.items }
+    ensures workers { AllByRecursion (IsWorker hall.now users.now (map opened_by
+        front.old.roots)) workers.new.items }
     ensures front { AreOf hall.now front.new.roots }
+    ensures openings { map opened_by front.new.roots ≡ map opened_by front.old.roots }
     ensures inside { front.new.inside ≡ vec_len workers.new }
 {
     let mut taken = 0u64;
@@ -308,14 +334,16 @@ where
     requires none_in { front.old.inside ≡ 0 }
     requires names { front.old.admitted + count ≤ TheMaxNames }
     requires accounts { length users.now.account_ids ≤ length hall.now }
-    ensures told { (did : List (Deed W.Keep W.Line W.Time)) × IsTold (W.told world.old)
+    ensures told { (did : List (Deed W.Keep W.Line W.Time)) × (left : List SessionView)
+        × FrontGoes front.old.roots front.new.roots left × IsTold (W.told world.old)
         (W.told world.new) did × HasServedLines (sight_of W.Line.left W.Line.held
-        W.Line.read_faults W.Line.put_faults W.Time.times W.Keep.kept) R.plan_of hall.now users.now
-        count did result }
+        W.Line.read_faults W.Line.put_faults W.Time.times W.Keep.kept W.Keep.append_faults)
+        R.plan_of hall.now users.now left count did result }
     ensures cause { IsCounted (W.faults world.old) (W.faults world.new) result }
     ensures later { W.faults world.old ≤ W.faults world.new }
     ensures load_count { W.load_faults world.new ≡ W.load_faults world.old }
     ensures front { AreOf hall.now front.new.roots }
+    ensures openings { map opened_by front.new.roots ≡ map opened_by front.old.roots }
     ensures none_in { front.new.inside ≡ 0 }
 {
     if count == 0 {
@@ -361,14 +389,16 @@ pub(crate) fn serve_lines<H: Threads + Wait + Sync, W: World, R: Rules>(
     requires none_in { front.old.inside ≡ 0 }
     requires names { front.old.admitted + count ≤ TheMaxNames }
     requires accounts { length users.now.account_ids ≤ length hall.now }
-    ensures told { (did : List (Deed W.Keep W.Line W.Time)) × IsTold (W.told world.old)
+    ensures told { (did : List (Deed W.Keep W.Line W.Time)) × (left : List SessionView)
+        × FrontGoes front.old.roots front.new.roots left × IsTold (W.told world.old)
         (W.told world.new) did × HasServedLines (sight_of W.Line.left W.Line.held
-        W.Line.read_faults W.Line.put_faults W.Time.times W.Keep.kept) R.plan_of hall.now users.now
-        count did result }
+        W.Line.read_faults W.Line.put_faults W.Time.times W.Keep.kept W.Keep.append_faults)
+        R.plan_of hall.now users.now left count did result }
     ensures cause { IsCounted (W.faults world.old) (W.faults world.new) result }
     ensures later { W.faults world.old ≤ W.faults world.new }
     ensures load_count { W.load_faults world.new ≡ W.load_faults world.old }
     ensures front { AreOf hall.now front.new.roots }
+    ensures openings { map opened_by front.new.roots ≡ map opened_by front.old.roots }
     ensures none_in { front.new.inside ≡ 0 }
 {
     let ends = Ends::new();
@@ -382,17 +412,20 @@ pub(crate) fn serve_lines<H: Threads + Wait + Sync, W: World, R: Rules>(
                 × (length users.now.account_ids ≤ length hall.now) }
             ensures world { result.0.ghost_name ≡ world.entry.ghost_name }
             ensures front { result.1.ghost_name ≡ front.entry.ghost_name }
-            ensures told { (did : List (Deed W.Keep W.Line W.Time)) × IsTold
+            ensures told { (did : List (Deed W.Keep W.Line W.Time)) × (left : List SessionView)
+                × FrontGoes front.entry.now.roots result.1.now.roots left × IsTold
                 (W.told world.entry.now) (W.told result.0.now) did × HasServedLines
                 (sight_of W.Line.left W.Line.held W.Line.read_faults W.Line.put_faults
-                W.Time.times W.Keep.kept) R.plan_of hall.entry.now users.entry.now count did
-                result.2 }
+                W.Time.times W.Keep.kept W.Keep.append_faults) R.plan_of hall.entry.now
+                users.entry.now left count did result.2 }
             ensures cause { IsCounted (W.faults world.entry.now) (W.faults result.0.now)
                 result.2 }
             ensures later { W.faults world.entry.now ≤ W.faults result.0.now }
             ensures load_count { W.load_faults result.0.now ≡ W.load_faults world.entry.now }
             ensures none_in { AreOf hall.entry.now result.1.now.roots
                 × (result.1.now.inside ≡ 0) }
+            ensures openings { map opened_by result.1.now.roots
+                ≡ map opened_by front.entry.now.roots }
         {
             let done = serve_scoped(scope, rt, alloc, world, users, hall, ends, front, count);
             (world, front, done)

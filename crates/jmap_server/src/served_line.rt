@@ -1,8 +1,10 @@
 // A line is served by a session of a hall.
-ghost use Rattle.std.specs.Prelude.{◌≡◌, ◌-◌, ◌≤◌, [], length};
+ghost use Rattle.std.specs.Prelude.{◌≡◌, ◌-◌, ◌≤◌, [], ◌∷◌, length, map};
 ghost use Rattle.account_hall.specs.Halls.{AreOf};
 ghost use Rattle.account_hall.specs.Sessions.{IsSession};
+ghost use Rattle.jmap_server.specs.Fronts.{FrontGoes};
 ghost use Rattle.jmap_server.specs.Lines.{IsUnread, sight_of};
+ghost use Rattle.jmap_server.specs.Openings.{opened_by};
 ghost use Rattle.jmap_server.specs.Workers;
 
 use crate::finished::Finished;
@@ -40,7 +42,8 @@ pub(crate) fn serve_by_session<H: Wait, K: Keeper, R: Rules, L: Link, C: Clock, 
     requires fresh { passes.trail ≡ [] }
     requires accounts { length users.now.account_ids ≤ length hall.now }
     ensures { Rattle.jmap_server.specs.Workers.IsServedLine (sight_of L.left L.held L.read_faults
-        L.put_faults C.times K.kept) R.plan_of hall.now users.now line clock result }
+        L.put_faults C.times K.kept K.append_faults) R.plan_of hall.now users.now passes line clock
+        result }
 {
     let mut line = line;
     let mut clock = clock;
@@ -67,6 +70,9 @@ pub(crate) fn let_out<K: Keeper, R: Rules, L: Link>(
     ensures points { result.http_points ≡ length result.trail }
     ensures in_order { IsSession done.passes }
     ensures front { AreOf hall.now front.new.roots }
+    ensures heard { map opened_by done.passes.passes ≡ map opened_by front.old.roots
+        → FrontGoes front.old.roots front.new.roots (done.passes ∷ []) }
+    ensures openings { map opened_by front.new.roots ≡ map opened_by front.old.roots }
     ensures inside { front.new.inside ≡ front.old.inside - 1 }
     ensures admitted { front.new.admitted ≡ front.old.admitted }
 {

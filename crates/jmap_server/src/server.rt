@@ -6,8 +6,11 @@ ghost use Rattle.account_hall.specs.Halls.{AreOf};
 ghost use Rattle.account_lock.specs.declared.limits.TheConstants.{MAX_NAMES as TheMaxNames};
 ghost use Rattle.jm_edge.specs.Causes.{IsCounted};
 ghost use Rattle.jmap_server.specs.Deeds.{Deed, IsTold};
+ghost use Rattle.account_hall.specs.Sessions.{SessionView};
+ghost use Rattle.jmap_server.specs.Fronts.{FrontGoes};
 ghost use Rattle.jmap_server.specs.Lines.{sight_of};
-ghost use Rattle.jmap_server.specs.Serving.{HasRun, HasServedOpen, HasServedPort, HasServedUsers, IsCaused, config_fault_of, end_of, name_of, names_in};
+ghost use Rattle.jmap_server.specs.Openings.{opened_by, openings_of};
+ghost use Rattle.jmap_server.specs.Serving.{HasRun, HasServedHall, HasServedOrNot, HasServedPort, HasServedUsers, IsCaused, config_fault_of, end_of, names_in};
 
 use crate::accounts::{close_accounts, close_hall, fault_of, open_accounts};
 use crate::fault::ServeFault;
@@ -38,14 +41,16 @@ fn serve_port<H: Threads + Wait + Sync, W: World, R: Rules>(
     requires none_in { front.old.inside ≡ 0 }
     requires names { front.old.admitted + count ≤ TheMaxNames }
     requires accounts { length users.now.account_ids ≤ length hall.now }
-    ensures told { (did : List (Deed W.Keep W.Line W.Time)) × IsTold (W.told world.old)
+    ensures told { (did : List (Deed W.Keep W.Line W.Time)) × (left : List SessionView)
+        × FrontGoes front.old.roots front.new.roots left × IsTold (W.told world.old)
         (W.told world.new) did × HasServedPort (sight_of W.Line.left W.Line.held
-        W.Line.read_faults W.Line.put_faults W.Time.times W.Keep.kept) R.plan_of hall.now users.now
-        port count did result }
+        W.Line.read_faults W.Line.put_faults W.Time.times W.Keep.kept W.Keep.append_faults)
+        R.plan_of hall.now users.now left port count did result }
     ensures cause { IsCounted (W.faults world.old) (W.faults world.new) result }
     ensures later { W.faults world.old ≤ W.faults world.new }
     ensures load_count { W.load_faults world.new ≡ W.load_faults world.old }
     ensures front { AreOf hall.now front.new.roots }
+    ensures openings { map opened_by front.new.roots ≡ map opened_by front.old.roots }
     ensures none_in { front.new.inside ≡ 0 }
 {
     match world.listen(alloc, port) {
@@ -70,9 +75,9 @@ fn serve_hall<H: Threads + Wait + Sync, W: World, R: Rules>(
     requires names { front.admitted + count ≤ TheMaxNames }
     requires accounts { length users.now.account_ids ≤ length hall }
     ensures told { (did : List (Deed W.Keep W.Line W.Time)) × IsTold (W.told world.old)
-        (W.told world.new) did × HasServedOpen (sight_of W.Line.left W.Line.held
-        W.Line.read_faults W.Line.put_faults W.Time.times W.Keep.kept) R.plan_of users.now
-        (map name_of hall) port count did result }
+        (W.told world.new) did × HasServedHall (sight_of W.Line.left W.Line.held
+        W.Line.read_faults W.Line.put_faults W.Time.times W.Keep.kept W.Keep.append_faults)
+        R.plan_of users.now hall front.roots port count did result }
     ensures cause { IfErr result (IsCaused (W.faults world.old) (W.faults world.new)
         (W.load_faults world.old) (W.load_faults world.new)) }
     ensures later { (W.faults world.old ≤ W.faults world.new)
@@ -108,9 +113,9 @@ fn serve_accounts<H: Threads + Wait + Sync, W: World, R: Rules>(
     requires accounts { users.now.account_ids ≡ names_in accounts.items }
     requires count { count ≤ TheMaxNames }
     ensures told { (did : List (Deed W.Keep W.Line W.Time)) × IsTold (W.told world.old)
-        (W.told world.new) did × HasServedOpen (sight_of W.Line.left W.Line.held
-        W.Line.read_faults W.Line.put_faults W.Time.times W.Keep.kept) R.plan_of users.now
-        (names_in accounts.items) port count did result }
+        (W.told world.new) did × HasServedOrNot (sight_of W.Line.left W.Line.held
+        W.Line.read_faults W.Line.put_faults W.Time.times W.Keep.kept W.Keep.append_faults)
+        R.plan_of users.now (openings_of accounts.items) port count did result }
     ensures cause { IfErr result (IsCaused (W.faults world.old) (W.faults world.new)
         (W.load_faults world.old) (W.load_faults world.new)) }
     ensures later { (W.faults world.old ≤ W.faults world.new)
@@ -139,8 +144,9 @@ fn serve_users<H: Threads + Wait + Sync, W: World, F: RulesSource>(
     requires { count ≤ TheMaxNames }
     ensures told { (did : List (Deed W.Keep W.Line W.Time)) × IsTold (W.told world.old)
         (W.told world.new) did × HasServedUsers (sight_of W.Line.left W.Line.held
-        W.Line.read_faults W.Line.put_faults W.Time.times W.Keep.kept) F.Rules.plan_of
-        (F.Rules.is_whole (F.rules source.now)) users.now folder.now port count did result }
+        W.Line.read_faults W.Line.put_faults W.Time.times W.Keep.kept W.Keep.append_faults)
+        F.Rules.plan_of (F.Rules.is_whole (F.rules source.now)) users.now folder.now port count did
+        result }
     ensures cause { IfErr result (IsCaused (W.faults world.old) (W.faults world.new)
         (W.load_faults world.old) (W.load_faults world.new)) }
     ensures later { (W.faults world.old ≤ W.faults world.new)
@@ -162,6 +168,10 @@ fn serve_users<H: Threads + Wait + Sync, W: World, F: RulesSource>(
 /// back. What each line was served is in `specs/Lines.antt`. A line whose connection fails does not
 /// end the server.
 ///
+/// If an account is refused, each keeper that comes back keeps what it kept. Otherwise it keeps
+/// what its account opened with, which is what it loaded, and the entries that the sessions of the
+/// lines gave it (`specs/Openings.antt`, `specs/Fronts.antt`).
+///
 /// Fails with `BadConfig` if and only if the bytes of the configuration are not of the form, and
 /// with `Damaged` if and only if what a keeper loaded is no valid account, as [`Book::start`] says.
 /// Fails with `DeskFault` only if the world's count of faults rose, with `KeeperFault` only if a
@@ -181,7 +191,7 @@ pub fn serve<H: Threads + Wait + Sync, W: World, F: RulesSource>(
     requires { count ≤ TheMaxNames }
     ensures told { (did : List (Deed W.Keep W.Line W.Time)) × IsTold (W.told world.old)
         (W.told world.new) did × HasRun (sight_of W.Line.left W.Line.held W.Line.read_faults
-        W.Line.put_faults W.Time.times W.Keep.kept) F.Rules.plan_of
+        W.Line.put_faults W.Time.times W.Keep.kept W.Keep.append_faults) F.Rules.plan_of
         (F.Rules.is_whole (F.rules source.now)) config.now folder.now port count did result }
     ensures cause { IfErr result (IsCaused (W.faults world.old) (W.faults world.new)
         (W.load_faults world.old) (W.load_faults world.new)) }

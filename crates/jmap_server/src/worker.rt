@@ -23,6 +23,7 @@ pub(crate) struct LinePromise<K: Keeper, R: Rules, L: Drop, C: Drop> {
     pub(crate) users: Snapshot<Users>,
     pub(crate) line: Snapshot<L>,
     pub(crate) clock: Snapshot<C>,
+    pub(crate) passes: Snapshot<Passes>,
 }
 
 impl<K: Keeper, R: Rules, L: Link, C: Clock> Promise<ServedLine<L>> for LinePromise<K, R, L, C> {
@@ -30,7 +31,8 @@ impl<K: Keeper, R: Rules, L: Link, C: Clock> Promise<ServedLine<L>> for LineProm
     ghost use Rattle.jmap_server.specs.Workers.{IsServedLine};
 
     ghost kept_by = { λ p done. IsServedLine (sight_of L.left L.held L.read_faults L.put_faults
-        C.times K.kept) R.plan_of p.hall.value p.users.value p.line.value p.clock.value done };
+        C.times K.kept K.append_faults) R.plan_of p.hall.value p.users.value p.passes.value
+        p.line.value p.clock.value done };
 }
 
 /// A thread that serves a line, and the bit by which it says that it has ended.
@@ -60,7 +62,8 @@ fn work<H: Wait, K: Keeper, R: Rules, L: Link, C: Clock, G: Gate>(
     requires fresh { passes.trail ≡ [] }
     requires accounts { length users.now.account_ids ≤ length hall.now }
     ensures { Rattle.jmap_server.specs.Workers.IsServedLine (sight_of L.left L.held L.read_faults
-        L.put_faults C.times K.kept) R.plan_of hall.now users.now line clock result }
+        L.put_faults C.times K.kept K.append_faults) R.plan_of hall.now users.now passes line clock
+        result }
 {
     let done = serve_by_session(rt, alloc, users, hall, passes, line, clock, gate);
     ends.signal(bit);
@@ -95,23 +98,24 @@ pub(crate) fn start_worker<
     requires fresh { passes.trail ≡ [] }
     requires accounts { length users.now.account_ids ≤ length hall.now }
     ensures started { IfOk result (λ handle. Rattle.jmap_server.specs.Workers.IsPromiseOf hall.now
-        users.now line clock handle.promise) }
+        users.now passes line clock handle.promise) }
     ensures served { IfErr result (Rattle.jmap_server.specs.Workers.IsServedLine (sight_of L.left
-        L.held L.read_faults L.put_faults C.times K.kept) R.plan_of hall.now users.now line
-        clock) }
+        L.held L.read_faults L.put_faults C.times K.kept K.append_faults) R.plan_of hall.now
+        users.now passes line clock) }
 {
     let promise = LinePromise {
         hall: Snapshot::of(hall),
         users: Snapshot::of(users),
         line: Snapshot::of(&line),
         clock: Snapshot::of(&clock),
+        passes: Snapshot::of(&passes),
     };
     let serve = move || -> ServedLine<L>
         requires { AreOf hall.now passes.passes × (passes.trail ≡ [])
             × (length users.now.account_ids ≤ length hall.now) }
         ensures { Rattle.jmap_server.specs.Workers.IsServedLine (sight_of L.left L.held
-            L.read_faults L.put_faults C.times K.kept) R.plan_of hall.entry.now users.entry.now
-            line clock result }
+            L.read_faults L.put_faults C.times K.kept K.append_faults) R.plan_of hall.entry.now
+            users.entry.now passes line clock result }
     { work(rt, alloc, users, hall, ends, bit, passes, line, clock, gate) };
     match scope.spawn_with(promise, serve) {
         Ok(handle) => Ok(handle),
@@ -180,7 +184,8 @@ pub(crate) fn join_worker<H: Threads, K: Keeper, R: Rules, L: Link, C: Clock>(
 ) -> ServedLine<L>
     requires { i < vec_len workers.old }
     ensures joined { Rattle.jmap_server.specs.Workers.IsJoined (sight_of L.left L.held L.read_faults
-        L.put_faults C.times K.kept) R.plan_of workers.old.items workers.new.items result }
+        L.put_faults C.times K.kept K.append_faults) R.plan_of workers.old.items workers.new.items
+        result }
     ensures len { vec_len workers.new + 1 ≡ vec_len workers.old }
     ensures capacity { vec_capacity workers.new ≡ vec_capacity workers.old }
 {

@@ -1,4 +1,6 @@
-use Rattle.std.proofs.Common.{[], ◌∷◌, ◌++◌, None, Some, arith}
+use Rattle.std.proofs.Common.{[], ◌∷◌, ◌++◌, map, refl, None, Some, arith}
+use Rattle.jmap_server.specs.Openings.{opened_by}
+use Rattle.jmap_server.proofs.Leaving.{front_still}
 use Rattle.jmap_server.specs.Deeds.{GotLine}
 use Rattle.jmap_server.specs.Lines.{sight_of, taken_of, taking}
 use Rattle.jmap_server.proofs.Told.{told_on, told_taking}
@@ -13,8 +15,10 @@ returns-in-Some-clause-told g c =
     let finished = c.in-Some.finished in
     let given = told_taking (told c.args.world.now) (told c.line.new.self) (told c.clock-clock.new.self) (told c.gate-gate.new.self) line clock c.in-Ok.ensures.told c.clock-clock.ensures.told c.gate-gate.ensures.told in (
       taking (taken_of line clock) ++ GotLine finished ∷ [],
+      c.in-Some.ensures.handed.0,
+      c.in-Some.ensures.handed.2,
       told_on (told c.args.world.now) (told c.gate-gate.new.self) (told c.return_line.new.self) (taking (taken_of line clock)) (GotLine finished ∷ []) given c.return_line.ensures.told,
-      handed_back (sight_of g.W.Line.Link.left g.W.Line.Link.held g.W.Line.Link.read_faults g.W.Line.Link.put_faults g.W.Time.Clock.times g.W.Keep.Keeper.kept) g.R.Rules.plan_of c.args.hall.now c.args.users.now line clock finished c.args.workers.now.items c.serve_line.new.workers.items (omega (arith, c.requires.few, c.args.workers.now.ok.0)) c.in-Some.ensures.handed,
+      handed_back (sight_of g.W.Line.Link.left g.W.Line.Link.held g.W.Line.Link.read_faults g.W.Line.Link.put_faults g.W.Time.Clock.times g.W.Keep.Keeper.kept g.W.Keep.Keeper.append_faults) g.R.Rules.plan_of c.args.hall.now c.args.users.now (map opened_by c.args.front.now.roots) line clock finished c.args.workers.now.items c.serve_line.new.workers.items c.in-Some.ensures.handed.0 (omega (arith, c.requires.few, c.args.workers.now.ok.0)) c.in-Some.ensures.handed.1,
     )
 
 pub returns-in-None-clause-told : goal.returns-in-None-clause-told
@@ -23,14 +27,19 @@ returns-in-None-clause-told g c =
     let line = c.in-Ok.line in
     let clock = c.clock-clock.result in (
       taking (taken_of line clock),
+      c.in-None.ensures.handed.0,
+      c.in-None.ensures.handed.2,
       told_taking (told c.args.world.now) (told c.line.new.self) (told c.clock-clock.new.self) (told c.gate-gate.new.self) line clock c.in-Ok.ensures.told c.clock-clock.ensures.told c.gate-gate.ensures.told,
-      handed_taken (sight_of g.W.Line.Link.left g.W.Line.Link.held g.W.Line.Link.read_faults g.W.Line.Link.put_faults g.W.Time.Clock.times g.W.Keep.Keeper.kept) g.R.Rules.plan_of c.args.hall.now c.args.users.now line clock c.args.workers.now.items c.serve_line.new.workers.items (omega (arith, c.requires.few, c.args.workers.now.ok.0)) c.in-None.ensures.handed,
+      handed_taken (sight_of g.W.Line.Link.left g.W.Line.Link.held g.W.Line.Link.read_faults g.W.Line.Link.put_faults g.W.Time.Clock.times g.W.Keep.Keeper.kept g.W.Keep.Keeper.append_faults) g.R.Rules.plan_of c.args.hall.now c.args.users.now (map opened_by c.args.front.now.roots) line clock c.args.workers.now.items c.serve_line.new.workers.items c.in-None.ensures.handed.0 (omega (arith, c.requires.few, c.args.workers.now.ok.0)) c.in-None.ensures.handed.1,
     )
 
 pub returns-in-Some-clause-workers : goal.returns-in-Some-clause-workers
 returns-in-Some-clause-workers g c =
-    handed_all (sight_of g.W.Line.Link.left g.W.Line.Link.held g.W.Line.Link.read_faults g.W.Line.Link.put_faults g.W.Time.Clock.times g.W.Keep.Keeper.kept) g.R.Rules.plan_of c.args.hall.now c.args.users.now c.in-Ok.line c.clock-clock.result c.args.workers.now.items c.serve_line.new.workers.items (Some c.in-Some.finished) c.in-Some.ensures.handed c.requires.workers
+    handed_all (sight_of g.W.Line.Link.left g.W.Line.Link.held g.W.Line.Link.read_faults g.W.Line.Link.put_faults g.W.Time.Clock.times g.W.Keep.Keeper.kept g.W.Keep.Keeper.append_faults) g.R.Rules.plan_of c.args.hall.now c.args.users.now (map opened_by c.args.front.now.roots) c.in-Ok.line c.clock-clock.result c.args.workers.now.items c.serve_line.new.workers.items c.in-Some.ensures.handed.0 (Some c.in-Some.finished) c.in-Some.ensures.handed.1 c.requires.workers
 
 pub returns-in-None-clause-workers : goal.returns-in-None-clause-workers
 returns-in-None-clause-workers g c =
-    handed_all (sight_of g.W.Line.Link.left g.W.Line.Link.held g.W.Line.Link.read_faults g.W.Line.Link.put_faults g.W.Time.Clock.times g.W.Keep.Keeper.kept) g.R.Rules.plan_of c.args.hall.now c.args.users.now c.in-Ok.line c.clock-clock.result c.args.workers.now.items c.serve_line.new.workers.items None c.in-None.ensures.handed c.requires.workers
+    handed_all (sight_of g.W.Line.Link.left g.W.Line.Link.held g.W.Line.Link.read_faults g.W.Line.Link.put_faults g.W.Time.Clock.times g.W.Keep.Keeper.kept g.W.Keep.Keeper.append_faults) g.R.Rules.plan_of c.args.hall.now c.args.users.now (map opened_by c.args.front.now.roots) c.in-Ok.line c.clock-clock.result c.args.workers.now.items c.serve_line.new.workers.items c.in-None.ensures.handed.0 None c.in-None.ensures.handed.1 c.requires.workers
+
+pub returns-in-Err-clause-told : goal.returns-in-Err-clause-told
+returns-in-Err-clause-told g c = ([], [], front_still c.args.front.now.roots c.args.front.now.roots refl, c.in-Err.ensures.told, (refl, refl, refl))
