@@ -74,10 +74,10 @@ pub fn run<S: Source, O: Sink, E: Sink, W: World>(
     // error output is that of the end, as far as it can be written.
     ensures served { (e : TheEnding) × (result.0 ≡ status_of e) × WritesOrFails (E.held err.old)
         (E.held err.new) (E.faults err.old) (E.faults err.new) (text_of e) × HasUsed (sight_of
-        W.Line.left W.Line.held W.Line.read_faults W.Line.put_faults W.Time.times W.Keep.kept)
-        mail_plan is_mail (command_of (map string_bytes words.now)) (map string_bytes words.now)
-        (W.told world.old) (W.told world.new) (W.faults world.old) (W.faults world.new)
-        (W.load_faults world.old) (W.load_faults world.new) e }
+        W.Line.left W.Line.held W.Line.read_faults W.Line.put_faults W.Time.times W.Keep.kept
+        W.Keep.append_faults) mail_plan is_mail (command_of (map string_bytes words.now))
+        (map string_bytes words.now) (W.told world.old) (W.told world.new) (W.faults world.old)
+        (W.faults world.new) (W.load_faults world.old) (W.load_faults world.new) e }
 
     // Status 6 comes only if a keeper that came back had failed to load, and 13 only if the world
     // failed in this run.
@@ -107,10 +107,10 @@ fn perform<H: Threads + Wait + Sync, S: Source, O: Sink, W: World, F: RulesSourc
     ensures begun { HasBegunBy (command_of (map string_bytes words.now))
         (seen S.left S.faults source.old source.new O.held O.faults out.old out.new) }
     ensures used { HasUsed (sight_of W.Line.left W.Line.held W.Line.read_faults W.Line.put_faults
-        W.Time.times W.Keep.kept) F.Rules.plan_of (F.Rules.is_whole (F.rules rules.now))
-        (command_of (map string_bytes words.now)) (map string_bytes words.now) (W.told world.old)
-        (W.told world.new) (W.faults world.old) (W.faults world.new) (W.load_faults world.old)
-        (W.load_faults world.new) result }
+        W.Time.times W.Keep.kept W.Keep.append_faults) F.Rules.plan_of (F.Rules.is_whole (F.rules
+        rules.now)) (command_of (map string_bytes words.now)) (map string_bytes words.now)
+        (W.told world.old) (W.told world.new) (W.faults world.old) (W.faults world.new)
+        (W.load_faults world.old) (W.load_faults world.new) result }
 {
     match Command::of_arguments(words) {
         Some(command) => perform_command(rt, alloc, command, words, source, out, world, rules),
@@ -134,8 +134,8 @@ fn perform_command<H: Threads + Wait + Sync, S: Source, O: Sink, W: World, F: Ru
     ensures begun { HasBegun command
         (seen S.left S.faults source.old source.new O.held O.faults out.old out.new) }
     ensures used { HasUsed (sight_of W.Line.left W.Line.held W.Line.read_faults W.Line.put_faults
-        W.Time.times W.Keep.kept) F.Rules.plan_of (F.Rules.is_whole (F.rules rules.now))
-        (Some command) (map string_bytes words.now) (W.told world.old) (W.told world.new)
+        W.Time.times W.Keep.kept W.Keep.append_faults) F.Rules.plan_of (F.Rules.is_whole (F.rules
+        rules.now)) (Some command) (map string_bytes words.now) (W.told world.old) (W.told world.new)
         (W.faults world.old) (W.faults world.new) (W.load_faults world.old)
         (W.load_faults world.new) result }
 {

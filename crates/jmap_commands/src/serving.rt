@@ -105,7 +105,7 @@ fn serve_texts<H: Threads + Wait + Sync, W: World, F: RulesSource, O: Sink>(
 ) -> Ending
     requires { count ≤ TheMaxConnections }
     ensures served { HasServed (sight_of W.Line.left W.Line.held W.Line.read_faults
-        W.Line.put_faults W.Time.times W.Keep.kept) F.Rules.plan_of
+        W.Line.put_faults W.Time.times W.Keep.kept W.Keep.append_faults) F.Rules.plan_of
         (F.Rules.is_whole (F.rules rules.now)) config.now folder.now port count (W.told world.old)
         (W.told world.new) (W.faults world.old) (W.faults world.new) (W.load_faults world.old)
         (W.load_faults world.new) result }
@@ -133,7 +133,7 @@ pub(crate) fn serve_words<H: Threads + Wait + Sync, W: World, F: RulesSource, O:
     requires words { 2 < length words.now }
     requires count { count ≤ TheMaxConnections }
     ensures served { HasServed (sight_of W.Line.left W.Line.held W.Line.read_faults
-        W.Line.put_faults W.Time.times W.Keep.kept) F.Rules.plan_of
+        W.Line.put_faults W.Time.times W.Keep.kept W.Keep.append_faults) F.Rules.plan_of
         (F.Rules.is_whole (F.rules rules.now)) (slice_index_or (map string_bytes words.now) 1 [])
         (slice_index_or (map string_bytes words.now) 2 []) port count (W.told world.old)
         (W.told world.new) (W.faults world.old) (W.faults world.new) (W.load_faults world.old)

@@ -31,10 +31,10 @@ returns-in-Read-clause-cause g c =
     c.read_message.ensures.cause
 
 pub returns-in-Batch-clause-used : goal.returns-in-Batch-clause-used
-returns-in-Batch-clause-used g c = subst (λ (w : Command). HasUsed (sight_of g.W.Line.Link.left g.W.Line.Link.held g.W.Line.Link.read_faults g.W.Line.Link.put_faults g.W.Time.Clock.times g.W.Keep.Keeper.kept) g.F.Rules.Rules.plan_of (g.F.Rules.Rules.is_whole (g.F.RulesSource.rules c.args.rules.now)) (Some w) (map string_bytes c.args.words.now) (g.W.World.told c.args.world.now) (g.W.World.told c.args.world.now) (g.W.World.faults c.args.world.now) (g.W.World.faults c.args.world.now) (g.W.World.load_faults c.args.world.now) (g.W.World.load_faults c.args.world.now) c.answer_batch.result) (sym c.in-Batch.is) refl
+returns-in-Batch-clause-used g c = subst (λ (w : Command). HasUsed (sight_of g.W.Line.Link.left g.W.Line.Link.held g.W.Line.Link.read_faults g.W.Line.Link.put_faults g.W.Time.Clock.times g.W.Keep.Keeper.kept g.W.Keep.Keeper.append_faults) g.F.Rules.Rules.plan_of (g.F.Rules.Rules.is_whole (g.F.RulesSource.rules c.args.rules.now)) (Some w) (map string_bytes c.args.words.now) (g.W.World.told c.args.world.now) (g.W.World.told c.args.world.now) (g.W.World.faults c.args.world.now) (g.W.World.faults c.args.world.now) (g.W.World.load_faults c.args.world.now) (g.W.World.load_faults c.args.world.now) c.answer_batch.result) (sym c.in-Batch.is) refl
 
 pub returns-in-Read-clause-used : goal.returns-in-Read-clause-used
-returns-in-Read-clause-used g c = subst (λ (w : Command). HasUsed (sight_of g.W.Line.Link.left g.W.Line.Link.held g.W.Line.Link.read_faults g.W.Line.Link.put_faults g.W.Time.Clock.times g.W.Keep.Keeper.kept) g.F.Rules.Rules.plan_of (g.F.Rules.Rules.is_whole (g.F.RulesSource.rules c.args.rules.now)) (Some w) (map string_bytes c.args.words.now) (g.W.World.told c.args.world.now) (g.W.World.told c.args.world.now) (g.W.World.faults c.args.world.now) (g.W.World.faults c.args.world.now) (g.W.World.load_faults c.args.world.now) (g.W.World.load_faults c.args.world.now) c.read_message.result) (sym c.in-Read.is) refl
+returns-in-Read-clause-used g c = subst (λ (w : Command). HasUsed (sight_of g.W.Line.Link.left g.W.Line.Link.held g.W.Line.Link.read_faults g.W.Line.Link.put_faults g.W.Time.Clock.times g.W.Keep.Keeper.kept g.W.Keep.Keeper.append_faults) g.F.Rules.Rules.plan_of (g.F.Rules.Rules.is_whole (g.F.RulesSource.rules c.args.rules.now)) (Some w) (map string_bytes c.args.words.now) (g.W.World.told c.args.world.now) (g.W.World.told c.args.world.now) (g.W.World.faults c.args.world.now) (g.W.World.faults c.args.world.now) (g.W.World.load_faults c.args.world.now) (g.W.World.load_faults c.args.world.now) c.read_message.result) (sym c.in-Read.is) refl
 
 pub serve_words-requires-clause-words : goal.serve_words-requires-clause-words
 serve_words-requires-clause-words g c = λ κs. omega (
@@ -60,4 +60,4 @@ returns-in-Serve-clause-begun g c =
     subst (λ (w : Command). HasBegun w v) (sym c.in-Serve.is) (serve_begun c.serve_words.result c.in-Serve.port c.in-Serve.count v (consumes_none (g.S.Source.left c.args.source.now)) c.serve_words.ensures.written)
 
 pub returns-in-Serve-clause-used : goal.returns-in-Serve-clause-used
-returns-in-Serve-clause-used g c = subst (λ (w : Command). HasUsed (sight_of g.W.Line.Link.left g.W.Line.Link.held g.W.Line.Link.read_faults g.W.Line.Link.put_faults g.W.Time.Clock.times g.W.Keep.Keeper.kept) g.F.Rules.Rules.plan_of (g.F.Rules.Rules.is_whole (g.F.RulesSource.rules c.args.rules.now)) (Some w) (map string_bytes c.args.words.now) (g.W.World.told c.args.world.now) (g.W.World.told c.serve_words.new.world) (g.W.World.faults c.args.world.now) (g.W.World.faults c.serve_words.new.world) (g.W.World.load_faults c.args.world.now) (g.W.World.load_faults c.serve_words.new.world) c.serve_words.result) (sym c.in-Serve.is) c.serve_words.ensures.served
+returns-in-Serve-clause-used g c = subst (λ (w : Command). HasUsed (sight_of g.W.Line.Link.left g.W.Line.Link.held g.W.Line.Link.read_faults g.W.Line.Link.put_faults g.W.Time.Clock.times g.W.Keep.Keeper.kept g.W.Keep.Keeper.append_faults) g.F.Rules.Rules.plan_of (g.F.Rules.Rules.is_whole (g.F.RulesSource.rules c.args.rules.now)) (Some w) (map string_bytes c.args.words.now) (g.W.World.told c.args.world.now) (g.W.World.told c.serve_words.new.world) (g.W.World.faults c.args.world.now) (g.W.World.faults c.serve_words.new.world) (g.W.World.load_faults c.args.world.now) (g.W.World.load_faults c.serve_words.new.world) c.serve_words.result) (sym c.in-Serve.is) c.serve_words.ensures.served

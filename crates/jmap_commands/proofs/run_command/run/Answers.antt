@@ -33,12 +33,12 @@ returns-clause-write g c =
 
 pub returns-clause-keeper : goal.returns-clause-keeper
 returns-clause-keeper g c =
-    λ same. keeper_of (sight_of g.W.Line.Link.left g.W.Line.Link.held g.W.Line.Link.read_faults g.W.Line.Link.put_faults g.W.Time.Clock.times g.W.Keep.Keeper.kept) mail_plan is_mail (map string_bytes c.args.words.now) (g.W.World.told c.args.world.now) (g.W.World.told c.perform.new.world) (g.W.World.faults c.args.world.now) (g.W.World.faults c.perform.new.world) (g.W.World.load_faults c.args.world.now) (g.W.World.load_faults c.perform.new.world)
+    λ same. keeper_of (sight_of g.W.Line.Link.left g.W.Line.Link.held g.W.Line.Link.read_faults g.W.Line.Link.put_faults g.W.Time.Clock.times g.W.Keep.Keeper.kept g.W.Keep.Keeper.append_faults) mail_plan is_mail (map string_bytes c.args.words.now) (g.W.World.told c.args.world.now) (g.W.World.told c.perform.new.world) (g.W.World.faults c.args.world.now) (g.W.World.faults c.perform.new.world) (g.W.World.load_faults c.args.world.now) (g.W.World.load_faults c.perform.new.world)
     (command_of (map string_bytes c.args.words.now)) c.perform.result (seen g.S.Source.left g.S.Source.faults c.args.source.now c.perform.new.source g.O.Sink.held g.O.Sink.faults c.args.out.now c.perform.new.out) c.perform.ensures.cause c.perform.ensures.used (sym c.say.ensures.status ∙ same)
 
 pub returns-clause-desk : goal.returns-clause-desk
 returns-clause-desk g c =
-    λ same. desk_of (sight_of g.W.Line.Link.left g.W.Line.Link.held g.W.Line.Link.read_faults g.W.Line.Link.put_faults g.W.Time.Clock.times g.W.Keep.Keeper.kept) mail_plan is_mail (map string_bytes c.args.words.now) (g.W.World.told c.args.world.now) (g.W.World.told c.perform.new.world) (g.W.World.faults c.args.world.now) (g.W.World.faults c.perform.new.world) (g.W.World.load_faults c.args.world.now) (g.W.World.load_faults c.perform.new.world)
+    λ same. desk_of (sight_of g.W.Line.Link.left g.W.Line.Link.held g.W.Line.Link.read_faults g.W.Line.Link.put_faults g.W.Time.Clock.times g.W.Keep.Keeper.kept g.W.Keep.Keeper.append_faults) mail_plan is_mail (map string_bytes c.args.words.now) (g.W.World.told c.args.world.now) (g.W.World.told c.perform.new.world) (g.W.World.faults c.args.world.now) (g.W.World.faults c.perform.new.world) (g.W.World.load_faults c.args.world.now) (g.W.World.load_faults c.perform.new.world)
     (command_of (map string_bytes c.args.words.now)) c.perform.result (seen g.S.Source.left g.S.Source.faults c.args.source.now c.perform.new.source g.O.Sink.held g.O.Sink.faults c.args.out.now c.perform.new.out) c.perform.ensures.cause c.perform.ensures.used (sym c.say.ensures.status ∙ same)
 
 pub returns-clause-served : goal.returns-clause-served
