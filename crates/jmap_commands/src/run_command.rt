@@ -135,8 +135,8 @@ fn perform_command<H: Threads + Wait + Sync, S: Source, O: Sink, W: World, F: Ru
         (seen S.left S.faults source.old source.new O.held O.faults out.old out.new) }
     ensures used { HasUsed (sight_of W.Line.left W.Line.held W.Line.read_faults W.Line.put_faults
         W.Time.times W.Keep.kept W.Keep.append_faults) F.Rules.plan_of (F.Rules.is_whole (F.rules
-        rules.now)) (Some command) (map string_bytes words.now) (W.told world.old) (W.told world.new)
-        (W.faults world.old) (W.faults world.new) (W.load_faults world.old)
+        rules.now)) (Some command) (map string_bytes words.now) (W.told world.old)
+        (W.told world.new) (W.faults world.old) (W.faults world.new) (W.load_faults world.old)
         (W.load_faults world.new) result }
 {
     match command {
