@@ -43,6 +43,6 @@ def view_of(content):
 
 
 content = sys.stdin.buffer.read()
-if content:
+if content or "--empty" in sys.argv[1:]:
     line = json.dumps(view_of(content), ensure_ascii=False, separators=(",", ":"), sort_keys=True)
     sys.stdout.buffer.write(line.encode() + b"\n")
