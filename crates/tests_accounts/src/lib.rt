@@ -8,6 +8,8 @@ mod account_book_tests;
 #[cfg(test)]
 mod mail_calls_hostile_tests;
 #[cfg(test)]
+mod mail_calls_memory_tests;
+#[cfg(test)]
 mod mail_calls_tests;
 #[cfg(test)]
 mod mail_calls_valid_tests;
