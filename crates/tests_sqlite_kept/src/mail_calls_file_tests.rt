@@ -125,7 +125,7 @@ fn answer_of<A: Abort, K: Keeper, R: Rules>(
     sure(rt, shown(alloc, &done.out))
 }
 
-// The answers to what is asked in turn, each with a line feed after it.
+// The answers to what is asked in turn, each with a line feed after it. An error ends the test.
 fn answers<A: Abort, K: Keeper, R: Rules>(
     rt: &A,
     alloc: Global,
@@ -135,13 +135,14 @@ fn answers<A: Abort, K: Keeper, R: Rules>(
     let mut all = Vec::new(alloc);
     for asking in askings {
         let answer = answer_of(rt, alloc, book, *asking);
+        assert!(rt; !answer.as_slice().starts_with(b"{\"type\":"));
         sure(rt, all.extend_from_slice(answer.as_slice()));
         sure(rt, all.push(b'\n'));
     }
     all
 }
 
-// The answers of an account over this keeper after these changes. It is closed then.
+// The answers of an account over this keeper after these changes. Then the account ends.
 fn answers_over<A: Abort, K: Keeper, R: Rules>(
     rt: &A,
     alloc: Global,
@@ -154,7 +155,9 @@ fn answers_over<A: Abort, K: Keeper, R: Rules>(
         Err(_) => stop(rt),
     };
     let _ = answers(rt, alloc, &mut book, changes);
-    answers(rt, alloc, &mut book, ASKED)
+    let all = answers(rt, alloc, &mut book, ASKED);
+    drop(book.end());
+    all
 }
 
 // The same by the rules of mail over a database.
