@@ -1,4 +1,4 @@
-use Rattle.std.proofs.Common.{◌+◌, eqb, length, get_or, ap, sym, subst, ◌∙◌, arith}
+use Rattle.std.proofs.Common.{eqb, length, get_or, ap, sym, subst, ◌∙◌, arith}
 use Rattle.std.proofs.lemmas.List.{get_or-drop, length-drop}
 use Rattle.memchr.specs.Find.{Nowhere, Passes, is_byte}
 use Rattle.mime_lines.proofs.Feeds.{none_then}
