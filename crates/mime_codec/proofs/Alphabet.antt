@@ -1,5 +1,5 @@
 -- The table of letters gives what the alphabet does.
-use Rattle.std.proofs.Common.{◌≡◌, ◌≢◌, ℕ, zero, suc, ◌+◌, ◌<◌, ◌≤◌, List, [], ◌∷◌, get_or, map, Option, None, Some, unwrap_or, refl, sym, ap, ◌∙◌, arith}
+use Rattle.std.proofs.Common.{◌≡◌, ◌≢◌, ℕ, ◌+◌, ◌<◌, ◌≤◌, get_or, map, Option, None, Some, unwrap_or, refl, sym, ap, ◌∙◌, arith}
 use Rattle.std.proofs.Common.{Bool, true, false, cond, leb, eqb, ◌&&◌, ◌-◌, IfSome, lit<}
 use Rattle.std.proofs.lemmas.Bool.{leb-true, true≢false}
 use Rattle.mime_codec.specs.Quoted.{is_between}

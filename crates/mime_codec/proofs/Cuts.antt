@@ -1,8 +1,8 @@
 -- What of a line encodes nothing, and the escapes of a line.
 use Rattle.std.proofs.Common.{◌≡◌, ℕ, zero, suc, ◌+◌, ◌-◌, ◌*◌, ◌<◌, ◌≤◌, Bool, true, false, eqb, cond, ◌&&◌, ◌||◌, ◌⊎◌, inl, inr, List, [], ◌∷◌, ◌++◌, length, get_or, take, drop, reverse, refl, ap, sym, subst, ◌∙◌, add-zero, append-nil, append_assoc, length-append, arith}
-use Rattle.std.specs.List.{flat_map, onto_first, prefix_len, suffix_len}
+use Rattle.std.specs.List.{onto_first, suffix_len}
 use Rattle.std.proofs.lemmas.Bool.{cases_lt, eqb-true, false≢true}
-use Rattle.std.proofs.lemmas.List.{take-append-drop, length-take-le, length-drop, length-reverse, get_or-take, get_or-drop, get_or-reverse, take-take}
+use Rattle.std.proofs.lemmas.List.{take-append-drop, length-take-le, length-drop, get_or-take, get_or-drop, get_or-reverse, take-take}
 use Rattle.std.proofs.lemmas.List.Sums.{prefix_len_passes, suffix_len-le-length}
 use Rattle.mime_lines.specs.Lines.{lines, text, is_blank, is_line_end}
 use Rattle.mime_codec.specs.Quoted.{unescaped, without_end_blanks, is_soft, text_with_end, quoted_line}

@@ -1,5 +1,5 @@
 -- The table of hexadecimal digits gives what their definition does.
-use Rattle.std.proofs.Common.{◌≡◌, ◌≢◌, ℕ, ◌<◌, ◌≤◌, Bool, true, false, cond, eqb, leb, not, List, get_or, map, refl, sym, ap, ◌∙◌, arith}
+use Rattle.std.proofs.Common.{◌≡◌, ◌≢◌, ℕ, ◌<◌, ◌≤◌, Bool, true, false, cond, eqb, leb, not, get_or, map, refl, sym, ap, ◌∙◌, arith}
 use Rattle.std.proofs.lemmas.Bool.{leb-true, ne_eqb}
 use Rattle.mime_codec.specs.Quoted.{is_hex, hex_value}
 use Rattle.mime_codec.specs.declared.quoted.TheConstants.{DIGITS}

@@ -1,4 +1,4 @@
-use Rattle.std.proofs.Common.{◌≡◌, ◌+◌, ◌-◌, ◌++◌, length, take, drop, append_assoc, sym, ap, ◌∙◌, arith}
+use Rattle.std.proofs.Common.{◌≡◌, ◌-◌, ◌++◌, length, take, drop, append_assoc, sym, ap, ◌∙◌}
 use Rattle.mime_codec.specs.Quoted.{unescaped}
 use Rattle.mime_codec.proofs.Runs.{cut_block, left_of, left_after}
 use Rattle.mime_codec.proofs.quoted.push_block.Goals as goal

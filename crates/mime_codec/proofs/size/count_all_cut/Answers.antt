@@ -1,4 +1,4 @@
-use Rattle.std.proofs.Common.{◌++◌, length, length-append, ap, arith}
+use Rattle.std.proofs.Common.{length, length-append, ap, arith}
 use Rattle.std.specs.List.{flat_map}
 use Rattle.mime_lines.specs.Lines.{lines}
 use Rattle.mime_codec.specs.Quoted.{quoted_line}

@@ -1,8 +1,8 @@
-use Rattle.std.proofs.Common.{◌≡◌, ◌-◌, ◌+◌, ◌*◌, length, ap, sym, ◌∙◌, arith}
+use Rattle.std.proofs.Common.{◌≡◌, ◌-◌, ◌+◌, ◌*◌, length, ap, sym, ◌∙◌}
 use Rattle.mime_lines.specs.Lines.{text}
 use Rattle.mime_codec.specs.Quoted.{without_end_blanks, quoted_line}
 use Rattle.mime_codec.specs.Escapes.{escapes}
-use Rattle.mime_codec.proofs.Cuts.{cut_soft, cut_plain, soft_has_some}
+use Rattle.mime_codec.proofs.Cuts.{cut_soft, cut_plain}
 use Rattle.mime_codec.proofs.size.count_cut.Goals as goal
 
 pub returns-then-ends_soft : goal.returns-then-ends_soft
