@@ -4,9 +4,7 @@ use Rattle.std.specs.Fmt.{signed_decimal}
 use Rattle.serde_json.specs.Data.{Num}
 use Rattle.serde_json.specs.Find.{of_integer}
 use Rattle.serde_json.specs.Read.{number_of}
-use Rattle.serde_json.specs.Written.{number_text, unless_float}
 use Rattle.serde_json.proofs.Numbers.{number_of-decimal, number_of-negative}
-use Rattle.serde_json.proofs.Texts.{unless_float-number_of}
 use Rattle.jm_json.specs.Integers.{is_whole}
 
 -- a number that one encoding reads as is read from the same encoding
@@ -17,8 +15,3 @@ told r a b e h = rw (← e) h
 pub number_of-signed_decimal : (z : ℤ) → SFits w64 z → number_of (signed_decimal z) ≡ Some (of_integer z)
 number_of-signed_decimal (pos n) fits = number_of-decimal n (grind arith)
 number_of-signed_decimal (negsuc n) fits = number_of-negative n (grind arith)
-
--- and is no float
-pub unless_float-signed_decimal : (z : ℤ) → SFits w64 z → unless_float (signed_decimal z) ≡ number_text (of_integer z)
-unless_float-signed_decimal (pos n) fits = unless_float-number_of _ _ (number_of-signed_decimal (pos n) fits)
-unless_float-signed_decimal (negsuc n) fits = unless_float-number_of _ _ (number_of-signed_decimal (negsuc n) fits)

@@ -4,6 +4,7 @@ pub mod Size
 pub mod Json
 pub mod Depths
 pub mod JsonValues
+pub mod Printed
 pub mod Order
 pub mod KeyIndices
 pub mod FirstMembers

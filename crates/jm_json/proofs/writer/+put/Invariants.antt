@@ -1,14 +1,11 @@
-use Rattle.std.proofs.Common.{◌≡◌, ◌≤◌, ◌+◌, ◌*◌, List, ◌++◌, map, take, drop, Some}
-use Rattle.json.specs.Token.{Token}
-use Rattle.json.specs.Json as json
-use Rattle.json.specs.Tree as tree
-use Rattle.serde_json.specs.Data.{members_depth}
-use Rattle.serde_json.specs.Read.{of_members}
-use Rattle.serde_json.specs.Written.{blank_members, members_outline, WritesItems, WritesMembers}
+use Rattle.std.proofs.Common.{◌≡◌, ◌+◌, ◌*◌, ◌++◌, map, take, drop}
+use Rattle.serde_json.specs.Data.{array, object, no_members}
+use Rattle.serde_json.specs.Written.{compact_text, items_text, members_text}
 use Rattle.jm_json.specs.Tree.{trees_of, fields_of}
 use Rattle.jm_json.specs.Size.{size_of, trees_size, fields_size}
 use Rattle.jm_json.specs.Json.{tree_of, member_of}
 use Rattle.jm_json.specs.JsonValues.{items_of, members_of}
+use Rattle.jm_json.specs.Printed.{ArePrinted, MembersPrinted}
 use Rattle.jm_json.proofs.writer.+put.Given as goal
 
 abbrev pub decreases-put_tree : goal.decreases-put_tree
@@ -20,16 +17,19 @@ decreases-put_items l = 2 * trees_size (trees_of (map tree_of l.items.now)) + 1
 abbrev pub decreases-put_members : goal.decreases-put_members
 decreases-put_members l = 2 * fields_size (fields_of (map member_of l.members.now)) + 1
 
--- whatever ends the list well from here ends it well from the start
+-- what is left is the text of the items from here on; if these are printed, all are
 abbrev pub invariant-put_items-loop-item : goal.invariant-put_items-loop-item
-invariant-put_items-loop-item l =
-    (l.out.before ≡ l.initial.out.before)
-    × ((end : List Token) → WritesItems (items_of (trees_of (map tree_of (drop l.item-index l.items)))) l.out.tokens end → WritesItems (items_of (trees_of (map tree_of l.items))) l.initial.out.tokens end)
+invariant-put_items-loop-item l = record {
+  text : l.out.items ++ items_text l.later (items_of (trees_of (map tree_of (drop l.item-index l.items))))
+      ≡ l.fn.out.items ++ compact_text (array (items_of (trees_of (map tree_of l.items))));
+  printed : ArePrinted (items_of (trees_of (map tree_of (drop l.item-index l.items)))) → ArePrinted (items_of (trees_of (map tree_of l.items)));
+}
 
 abbrev pub invariant-put_members-loop-member : goal.invariant-put_members-loop-member
-invariant-put_members-loop-member l =
-    (l.out.before ≡ l.initial.out.before)
-    × ((ms : json.Members) → of_members ms (members_of (fields_of (map member_of (take l.member-index l.members)))) ≡ Some (members_of (fields_of (map member_of l.members)))
-    → tree.members_depth ms ≤ members_depth (members_of (fields_of (map member_of (drop l.member-index l.members))))
-    → blank_members ms ≡ members_outline (members_of (fields_of (map member_of (drop l.member-index l.members))))
-    → WritesMembers (members_of (fields_of (map member_of l.members))) l.initial.out.tokens (l.out.tokens ++ tree.members_tokens ms))
+invariant-put_members-loop-member l = record {
+  text : l.out.items ++ members_text l.later (members_of (fields_of (map member_of (drop l.member-index l.members))))
+      ≡ l.fn.out.items ++ compact_text (object (members_of (fields_of (map member_of l.members))));
+  printed : MembersPrinted (members_of (fields_of (map member_of (take l.member-index l.members)))) (members_of (fields_of (map member_of (drop l.member-index l.members))))
+      (members_of (fields_of (map member_of l.members)))
+      → MembersPrinted no_members (members_of (fields_of (map member_of l.members))) (members_of (fields_of (map member_of l.members)));
+}
