@@ -1,5 +1,5 @@
 -- What is read of the members of a request (RFC 8620, section 3.3).
-use Rattle.std.specs.Prelude.{◌≡◌, ⊤, ℕ, List, [], ◌∷◌, map, Option, Some, None, option_map, codes}
+use Rattle.std.specs.Prelude.{◌≡◌, ◌-◌, ⊤, ℕ, List, [], ◌∷◌, map, Option, Some, None, option_map, codes}
 use Rattle.json.specs.Token.{Token}
 use Rattle.jm_json.specs.Tree.{Tree, text, list, object, trees_of, fields_of}
 use Rattle.jm_json.specs.Json.{tree_of}
@@ -11,6 +11,7 @@ use Rattle.jm_json.specs.Find.{find, as_object}
 use Rattle.jm_json.specs.Order.{put}
 use Rattle.jm_json.specs.Responses.{call_list}
 use Rattle.jm_json.specs.Tokens.{IsTaken}
+use Rattle.jm_json.specs.declared.parser.TheConstants.{MAX_DEPTH}
 use Rattle.jm_json.specs.declared.requests.RequestMembers.{RequestMembers}
 
 abbrev pub texts_tree : List (List ℕ) → Tree
@@ -48,5 +49,5 @@ AreMembersOf bytes r =
 abbrev pub TakesMember : List ℕ → RequestMembers → RequestMembers → List Token → List Token
     → Type 0
 TakesMember k found found' old new =
-    (t : Tree) × IsTaken 126 t old new × (first_invalid (data_of t) ≡ None)
+    (t : Tree) × IsTaken (MAX_DEPTH - 1) t old new × (first_invalid (data_of t) ≡ None)
     × ((ms : List (List ℕ × Tree)) → HasMembers found ms → HasMembers found' (put k t ms))

@@ -20,7 +20,7 @@ mod writer;
 pub use copies::copy;
 pub use invocation::{Created, Invocation, Invocations, Made, Replied};
 pub use member_runs::MemberRuns;
-pub use parser::Scratch;
+pub use parser::{MAX_DEPTH, Scratch};
 pub use patches::{PatchFault, patch};
 pub use paths::{find_child, part_end, pointer};
 pub use reader::{ReadFault, read, read_with};

@@ -18,8 +18,8 @@ use jm_base::{NUMBER_LIMIT, NoMemory, Text};
 use json::{Invalid, Reader, Token};
 use std::alloc::{AllocError, Global};
 
-// The most arrays and objects that may be open at one byte of a text.
-const MAX_DEPTH: usize = 127;
+/// How many arrays and objects may be open at one byte of a text that is read.
+pub const MAX_DEPTH: usize = 127;
 
 // An object with this many members is irregular if its next key does not come after the others, so
 // that inserting a member costs little.

@@ -57,9 +57,9 @@ impl From<NoMemory> for Misfit {
     }
 }
 
-/// Reads JSON bytes, nested at most 127 deep, all of whose numbers are integers below 2^53 and
-/// above -2^53. Of members with one key the last counts. The pointer of `NotWhole` names the first
-/// number of another form in the order of the keys.
+/// Reads JSON bytes, nested at most `MAX_DEPTH` deep, all of whose numbers are integers below 2^53
+/// and above -2^53. Of members with one key the last counts. The pointer of `NotWhole` names the
+/// first number of another form in the order of the keys.
 pub fn read(alloc: Global, bytes: &[u8]) -> Result<Json, ReadFault>
     ensures { MatchResult result (λ t. reading_of bytes.now ≡ reading.whole (tree_of t))
         (λ e. IsCauseOf e (reading_of bytes.now)) }

@@ -1,6 +1,6 @@
 // Reads the members of a request (RFC 8620, section 3.3) from the tokens of its text, with no tree
 // around its calls. What is irregular is left to the reader of trees.
-ghost use Rattle.std.specs.Prelude.{◌≡◌, ◌<◌, [], ◌∷◌, ℕ, List, length, map, None, true, false, codes, bytes_eq, IfOk, IfSome, OnOk};
+ghost use Rattle.std.specs.Prelude.{◌≡◌, ◌<◌, ◌-◌, [], ◌∷◌, ℕ, List, length, map, None, true, false, codes, bytes_eq, IfOk, IfSome, OnOk};
 ghost use Rattle.json.specs.Token.{Token as SpecToken, begin_array, begin_object, string};
 ghost use Rattle.jm_json.specs.Tree.{Tree, text, object, trees_of, fields_of};
 ghost use Rattle.jm_json.specs.JsonValues.{data_of, items_of, members_of};
@@ -9,20 +9,22 @@ ghost use Rattle.jm_json.specs.Tokens.{IsTaken, AreTaken, MembersTaken};
 ghost use Rattle.jm_json.specs.Invocations.{call_of};
 ghost use Rattle.jm_json.specs.Responses.{call_list};
 ghost use Rattle.jm_json.specs.Requests.{AreMembersOf, HasMembers, HaveObjects, TakesMember};
+ghost use Rattle.jm_json.specs.declared.parser.TheConstants.{MAX_DEPTH};
 ghost use Rattle.jm_json.specs.declared.requests.RequestMembers.{RequestMembers as TheMembers};
 
 use crate::invocation::{Invocation, Invocations};
-use crate::parser::{Scratch, Stop, take_members, take_tree};
+use crate::parser::{MAX_DEPTH, Scratch, Stop, take_members, take_tree};
 use crate::tree::{Json, Members};
 use jm_base::{NoMemory, Text, Texts};
 use json::{Reader, Token};
 use std::alloc::Global;
 
-// Of the 127 arrays and objects that may be open at one byte, the request's own object is one: so
-// many may be open in a member, and the list of calls, a call and its arguments are three of them.
-const MEMBER_DEPTH: usize = 126;
+// Of the `MAX_DEPTH` arrays and objects that may be open at one byte, the request's own object is
+// one: so many may be open in a member, and the list of calls, a call and its arguments are three
+// of them.
+const MEMBER_DEPTH: usize = MAX_DEPTH - 1;
 
-const ARGUMENTS_DEPTH: usize = 123;
+const ARGUMENTS_DEPTH: usize = MAX_DEPTH - 4;
 
 /// The members of a request that are read: `using`, `methodCalls` and `createdIds`, each if the
 /// request has it. The arguments of each call are an object.
@@ -66,7 +68,7 @@ fn read_regular(alloc: Global, scratch: &mut Scratch, bytes: &[u8]) -> Result<Re
 
 fn take_request(alloc: Global, reader: &mut Reader<'_>) -> Result<RequestMembers, Stop>
     ensures { IfOk result (λ r. (ms : List (List ℕ × Tree))
-        × IsTaken 127 (object (fields_of ms)) reader.old reader.new
+        × IsTaken MAX_DEPTH (object (fields_of ms)) reader.old reader.new
         × (first_invalid_member (members_of (fields_of ms)) ≡ None) × HasMembers r ms) }
 {
     let token = reader.next().ok_or(Stop::Irregular)?;
@@ -79,7 +81,7 @@ fn take_request(alloc: Global, reader: &mut Reader<'_>) -> Result<RequestMembers
 // With the brace that closes the object.
 fn take_request_members(alloc: Global, reader: &mut Reader<'_>) -> Result<RequestMembers, Stop>
     ensures { IfOk result (λ r. (ms : List (List ℕ × Tree))
-        × MembersTaken 126 ms reader.old reader.new
+        × MembersTaken (MAX_DEPTH - 1) ms reader.old reader.new
         × (first_invalid_member (members_of (fields_of ms)) ≡ None) × HasMembers r ms) }
 {
     let mut found = RequestMembers {
@@ -178,7 +180,7 @@ fn take_other(alloc: Global, reader: &mut Reader<'_>, name: &str) -> Result<(), 
 
 // Takes the strings of a list, with the bracket that closes it.
 fn take_texts(alloc: Global, reader: &mut Reader<'_>) -> Result<Texts, Stop>
-    ensures { IfOk result (λ ss. AreTaken 125 (map text ss) reader.old reader.new) }
+    ensures { IfOk result (λ ss. AreTaken (MAX_DEPTH - 2) (map text ss) reader.old reader.new) }
 {
     let mut found = Texts::new(alloc);
     'items: while !reader.take_end_array() {
@@ -190,7 +192,8 @@ fn take_texts(alloc: Global, reader: &mut Reader<'_>) -> Result<Texts, Stop>
 
 // Takes the calls of a list, with the bracket that closes it.
 fn take_calls(alloc: Global, reader: &mut Reader<'_>) -> Result<Invocations, Stop>
-    ensures ok { IfOk result (λ cs. AreTaken 125 (map call_list cs) reader.old reader.new) }
+    ensures ok { IfOk result
+        (λ cs. AreTaken (MAX_DEPTH - 2) (map call_list cs) reader.old reader.new) }
     ensures objects { IfOk result (λ cs. HaveObjects cs) }
     ensures whole { IfOk result
         (λ cs. first_invalid_item 0 (items_of (trees_of (map call_list cs))) ≡ None) }
@@ -205,7 +208,8 @@ fn take_calls(alloc: Global, reader: &mut Reader<'_>) -> Result<Invocations, Sto
 
 // Takes a list of a string, an object and a string.
 fn take_call(alloc: Global, reader: &mut Reader<'_>) -> Result<Invocation, Stop>
-    ensures ok { IfOk result (λ i. IsTaken 125 (call_list (call_of i)) reader.old reader.new) }
+    ensures ok { IfOk result
+        (λ i. IsTaken (MAX_DEPTH - 2) (call_list (call_of i)) reader.old reader.new) }
     ensures object { IfOk result (λ i. HaveObjects (call_of i ∷ [])) }
     ensures whole { IfOk result (λ i. first_invalid (data_of (call_list (call_of i))) ≡ None) }
     ensures shorter { OnOk result (length reader.new < length reader.old) }
@@ -227,7 +231,7 @@ fn take_call(alloc: Global, reader: &mut Reader<'_>) -> Result<Invocation, Stop>
 // Takes an object.
 fn take_arguments(alloc: Global, reader: &mut Reader<'_>) -> Result<Members, Stop>
     ensures ok { IfOk result (λ ms. (more : List SpecToken) × (reader.old ≡ begin_object ∷ more)
-        × MembersTaken 123 ms more reader.new) }
+        × MembersTaken (MAX_DEPTH - 4) ms more reader.new) }
     ensures whole { IfOk result (λ ms. first_invalid_member (members_of (fields_of ms)) ≡ None) }
 {
     let token = reader.next().ok_or(Stop::Irregular)?;
