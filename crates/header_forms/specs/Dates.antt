@@ -6,7 +6,7 @@ use Rattle.std.specs.Str.{str_to_ascii_lowercase}
 use Rattle.jiff.specs.Words.{days_in_month}
 use Rattle.jm_base.specs.UtcDates.{date_time_seconds}
 use Rattle.jm_base.specs.declared.identifiers.UtcDate.{UtcDate}
-use Rattle.jm_base.specs.declared.utc_dates.TheConstants.{FIRST_TIMESTAMP, LAST_TIMESTAMP}
+use Rattle.jm_base.specs.declared.utc_dates.TheConstants.{FIRST_TIMESTAMP, LAST_TIMESTAMP, LAST_YEAR}
 use Rattle.mail_text.specs.declared.comment.State.{State}
 use Rattle.mail_text.specs.declared.comment.State.TheVariants.{Outside, Inside, Escaped}
 use Rattle.mail_text.specs.Comments.{next}
@@ -163,7 +163,7 @@ if_day m =
 
 -- the calendar has the day of a date-time
 pub record IsReal (m : ZonedDateTime) : Type 0 where
-  pub to_year : m.year < 10000
+  pub to_year : m.year ≤ LAST_YEAR
   pub from_month : 1 ≤ m.month
   pub to_month : m.month ≤ 12
   pub from_day : 1 ≤ m.day

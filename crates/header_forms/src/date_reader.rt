@@ -1,6 +1,7 @@
 // A date-time, read word by word (RFC 5322, section 3.3).
 ghost use Rattle.std.specs.Prelude.{◌≡◌, ◌<◌, ◌≤◌, ◌∷◌, IfSome, pos, ◌&&◌, nat_le};
 ghost use Rattle.jiff.specs.Words.{days_in_month};
+ghost use Rattle.jm_base.specs.declared.utc_dates.TheConstants.{LAST_YEAR};
 ghost use Rattle.header_forms.specs.Dates;
 ghost use Rattle.header_forms.specs.Dates.{IsReal, date_time_of_words, date_time_in};
 ghost use Rattle.header_forms.specs.DateWords.{date_time_from};
@@ -12,7 +13,7 @@ use jiff::civil::Date;
 
 /// Returns whether the month of the year has the day.
 fn has_day(year: u16, month: u16, day: u16) -> bool
-    requires year { year < 10000 }
+    requires year { year ≤ LAST_YEAR }
     requires from_month { 1 ≤ month }
     requires to_month { month ≤ 12 }
     requires day { day < 100 }
@@ -23,7 +24,7 @@ fn has_day(year: u16, month: u16, day: u16) -> bool
 
 /// Returns the date-time, if the calendar has its day.
 fn if_day(date_time: ZonedDateTime) -> Option<ZonedDateTime>
-    requires year { date_time.year < 10000 }
+    requires year { date_time.year ≤ LAST_YEAR }
     requires from_month { 1 ≤ date_time.month }
     requires to_month { date_time.month ≤ 12 }
     requires day { date_time.day < 100 }
