@@ -1,6 +1,7 @@
 -- The passes of a book's entries. Who shares a book has a number, from 1 on, that no other had
 -- since the book was opened. The pass of its stamps is that number counted from the greatest pass
--- of the entries that the book was opened with. So no pass of an earlier opening comes again.
+-- of the entries that the book was opened with, modulo 2^64. So no pass of an earlier opening comes
+-- again while that sum is below 2^64.
 use Rattle.std.specs.Prelude.{ℕ, ◌+◌, ◌-◌, ◌%◌, ◌^◌, ◌<◌, List, [], ◌∷◌, max, map}
 use Rattle.mail_records.specs.Histories.{Entry, Committed, Refused, History, entry_pass}
 

@@ -124,7 +124,7 @@ impl Account {
         self.entries.as_slice()
     }
 
-    /// How many entries there are.
+    /// Returns how many entries there are.
     pub fn count(&self) -> u64
         ensures count { result ≡ length self.now.history.entries }
         ensures fits { length self.now.history.entries ≤ 2 ^ 64 - 1 }

@@ -41,7 +41,7 @@ pub struct Plan {
 }
 
 impl Plan {
-    /// Whether it changes nothing.
+    /// Returns whether the plan changes nothing.
     pub fn is_idle(&self) -> bool
         ensures { IsTrue result ↔ IsIdle self.now }
     {

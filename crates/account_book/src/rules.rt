@@ -52,7 +52,8 @@ pub trait Rules: Drop + Send + Sync {
     ghost fits: { (r : Self) (h : History) (call : TheCall) (moment : ℕ) → moment ≤ last_moment
         → is_whole r h → AllFit (content_of h) (plan_of r h call moment).edits };
 
-    /// Each email that they put has at most 64 mailboxes and 100 links.
+    /// Each email that they put has at most `MAX_MAILBOXES_PER_EMAIL` mailboxes and
+    /// `MAX_LINKS_PER_EMAIL` links.
     ghost small: { (r : Self) (h : History) (call : TheCall) (moment : ℕ) → moment ≤ last_moment
         → is_whole r h → AllByRecursion IsSmall (plan_of r h call moment).edits };
 

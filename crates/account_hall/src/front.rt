@@ -119,8 +119,8 @@ impl Front {
     /// Lets a session in. It has seen of each account what the front has seen, and its trail is
     /// empty.
     ///
-    /// Fails with `Full` if and only if 64 sessions are in, and with `NoMemory` if memory runs out.
-    /// Then the front stays as it was.
+    /// Fails with `Full` if and only if `MAX_SESSIONS` sessions are in, and with `NoMemory` if
+    /// memory runs out. Then the front stays as it was.
     pub fn admit<K: Keeper, R: Rules>(
         &mut self,
         alloc: Global,

@@ -147,7 +147,7 @@ fn push_first(responses: &mut Vec<Invocation>, answer: Out)
     }
 }
 
-// Asks the account of the originals the set that follows a copy, which was replied so far.
+// Asks the account of the originals the set that follows a copy. `placed` is the reply to the copy.
 fn ask_set<K: Keeper, R: Rules>(
     alloc: Global,
     from: &mut Held<K, R>,

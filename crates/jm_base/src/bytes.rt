@@ -40,7 +40,7 @@ impl PartialEq for Bytes {
 }
 
 impl Bytes {
-    /// No bytes. It takes no memory.
+    /// Returns the empty list of bytes. It takes no memory.
     pub fn new(alloc: Global) -> Bytes
         ensures { result ≡ [] }
     {
@@ -49,14 +49,14 @@ impl Bytes {
         }
     }
 
-    /// The bytes of a vector. It takes no memory.
+    /// Returns the bytes of a vector. It takes no memory.
     pub fn from_vec(items: Vec<u8>) -> Bytes
         ensures { result ≡ items.items }
     {
         Bytes { items }
     }
 
-    /// The bytes of a slice, in memory of their own.
+    /// Returns a copy of the bytes of a slice, in memory of its own.
     pub fn from_slice(alloc: Global, bytes: &[u8]) -> Result<Bytes, NoMemory>
         ensures { IfOk result (λ b. b ≡ bytes.now) }
     {
@@ -65,7 +65,7 @@ impl Bytes {
         })
     }
 
-    /// The vector of the bytes. It takes no memory.
+    /// Returns the vector of the bytes. It takes no memory.
     pub fn into_vec(self) -> Vec<u8>
         ensures { result.items ≡ self }
     {
@@ -80,14 +80,14 @@ impl Bytes {
         self.items.as_slice()
     }
 
-    /// How many bytes there are.
+    /// Returns how many bytes there are.
     pub fn len(&self) -> usize
         ensures { result ≡ length self.now }
     {
         self.items.len()
     }
 
-    /// Whether there is no byte.
+    /// Returns whether there is no byte.
     pub fn is_empty(&self) -> bool
         ensures { result ≡ (length self.now == 0) }
     {

@@ -32,7 +32,7 @@ impl<T: Drop> Model for Sequence<T> {
 }
 
 impl<T: Drop> Sequence<T> {
-    /// The empty list. It takes no memory.
+    /// Returns the empty list. It takes no memory.
     pub fn new(alloc: Global) -> Sequence<T>
         ensures { result ≡ [] }
     {
@@ -41,14 +41,14 @@ impl<T: Drop> Sequence<T> {
         }
     }
 
-    /// The list of a vector's items. It takes no memory.
+    /// Returns the list of a vector's items. It takes no memory.
     pub fn from_vec(items: Vec<T>) -> Sequence<T>
         ensures { result ≡ items.items }
     {
         Sequence { items }
     }
 
-    /// The vector of the list's items. It takes no memory.
+    /// Returns the vector of the list's items. It takes no memory.
     pub fn into_vec(self) -> Vec<T>
         ensures { result.items ≡ self }
     {
@@ -63,14 +63,14 @@ impl<T: Drop> Sequence<T> {
         self.items.as_slice()
     }
 
-    /// How many items there are.
+    /// Returns how many items there are.
     pub fn len(&self) -> usize
         ensures { result ≡ length self.now }
     {
         self.items.len()
     }
 
-    /// Whether there is no item.
+    /// Returns whether there is no item.
     pub fn is_empty(&self) -> bool
         ensures { result ≡ (length self.now == 0) }
     {

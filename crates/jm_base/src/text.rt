@@ -40,14 +40,14 @@ impl PartialEq for Text {
 }
 
 impl Text {
-    /// The text of a string. It takes no memory.
+    /// Returns the text of a string. It takes no memory.
     pub fn from_string(string: String) -> Text
         ensures { result ≡ string_bytes string }
     {
         Text { string }
     }
 
-    /// The string of the text. It takes no memory.
+    /// Returns the string of the text. It takes no memory.
     pub fn into_string(self) -> String
         ensures { string_bytes result ≡ self }
     {
@@ -64,7 +64,7 @@ impl Text {
         })
     }
 
-    /// The text of bytes, where they are UTF-8. It takes no memory.
+    /// Returns the text of bytes, or `None` if they are not UTF-8. It takes no memory.
     pub fn from_utf8(bytes: Vec<u8>) -> Option<Text>
         ensures { MatchOption result (¬ IsUtf8 bytes.items) (λ t. t ≡ bytes.items) }
     {

@@ -140,8 +140,8 @@ unavailable_bytes =
     ++ (codes "Content-Type: application/problem+json\r\n" ++ (codes "Content-Length: 35\r\n" ++ (codes "Cache-Control: no-store\r\n"
     ++ (codes "Connection: close\r\n\r\n" ++ codes "{\"status\":503,\"type\":\"about:blank\"}"))))
 
--- The request at work ended out of memory before it was read whole: perhaps the interim response is
--- written, which it is only if it is due, and a prefix of the response that says so.
+-- The request being processed ended out of memory before all of it was read: perhaps the interim
+-- response is written, which it is only if it is due, and a prefix of the response that says so.
 pub record IsUnread {S : Type 0} (before after : Stage S) (written : List ℕ) : Type 0 where
   pub interim : List ℕ
   pub size : ℕ
@@ -149,7 +149,7 @@ pub record IsUnread {S : Type 0} (before after : Stage S) (written : List ℕ) :
   pub continued : (IsDue before.bytes × (interim ≡ continue_bytes)) ⊎ (interim ≡ [])
   pub written_is : written ≡ interim ++ take size unavailable_bytes
 
--- The request at work was read whole, and its response ended out of memory, or was lost.
+-- All of the request being processed was read, and its response ended out of memory, or was lost.
 pub record IsLost {S : Type 0} (steps : UserSteps S) (users : List User) (before after : Stage S)
     (written : List ℕ) : Type 0
   where

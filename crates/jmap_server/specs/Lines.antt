@@ -92,8 +92,8 @@ taken_of line clock = record { line = line; clock = clock }
 abbrev pub taking : {K L C : Type 0} → Taken L C → List (Deed K L C)
 taking t = GaveLine t.line ∷ GaveClock t.clock ∷ GaveGate ∷ []
 
--- A line was taken after these deeds, while fewer than 64 were out. It is the last of those that
--- are out now.
+-- A line was taken after these deeds, while fewer than `MAX_SESSIONS` were out. It is the last of
+-- those that are out now.
 pub record HasTaken {K L C : Type 0} (out out' : List (Taken L C)) (before did : List (Deed K L C))
     : Type 0 where
   pub next : Taken L C

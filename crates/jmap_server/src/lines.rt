@@ -227,7 +227,7 @@ fn return_one<H: Threads, W: World, R: Rules>(
 }
 
 // Gives the lines of workers that have ended back to the world, and waits for others to end while
-// more than so many are at work.
+// more than so many are working.
 fn return_lines<H: Threads + Wait, W: World, R: Rules>(
     rt: &H,
     world: &mut W,
@@ -263,7 +263,8 @@ fn return_lines<H: Threads + Wait, W: World, R: Rules>(
     }
 }
 
-// Takes so many lines of the world, each served by a worker, of which 64 at most are at work.
+// Takes so many lines of the world, each served by a worker. At most `MAX_SESSIONS` workers work at
+// once.
 fn take_lines<'s, E: 's, H: Threads + Wait + Sync, W: World, R: Rules>(
     scope: &Scope<'s, E>,
     rt: &'s H,
@@ -375,7 +376,7 @@ fn take_back<T>(x: &mut T)
 {}
 
 /// Serves so many lines of the world, each in a thread of its own, or here if none can be made. Up
-/// to 64 are served at once.
+/// to `MAX_SESSIONS` are served at once.
 pub(crate) fn serve_lines<H: Threads + Wait + Sync, W: World, R: Rules>(
     rt: &H,
     alloc: Global,

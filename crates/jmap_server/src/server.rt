@@ -159,8 +159,8 @@ fn serve_users<H: Threads + Wait + Sync, W: World, F: RulesSource>(
 }
 
 /// Serves so many connections of a port over the accounts of a configuration, whose keepers are in
-/// a folder. Up to 64 connections are served at once, each in a thread of its own; a connection for
-/// which no thread can be made is served before the next one is taken.
+/// a folder. Up to `MAX_SESSIONS` connections are served at once, each in a thread of its own; a
+/// connection for which no thread can be made is served before the next one is taken.
 ///
 /// The accounts are opened in the order of their numbers, and the first that is refused ends the
 /// server. Only then it listens. Whatever ends it, each line and each keeper that the world gave

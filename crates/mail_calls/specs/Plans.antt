@@ -236,6 +236,6 @@ ask_plan h (Place c carried) made read_only moment =
 ask_plan h States made read_only moment =
     reading (out.States (state_of h OfMailbox) (state_of h OfEmail) (state_of h OfThread))
 
--- what a call plans at a moment, in seconds since the beginning of 1970
+-- what a call plans at a timestamp, in Unix seconds
 abbrev pub call_plan : History → Call → ℕ → Plan
 call_plan h call moment = ask_plan h call.ask call.made call.read_only moment

@@ -53,7 +53,7 @@ pub(crate) fn plan_fetch(
     }
 }
 
-// Returns the plan of an Email/copy in the account of the copies, at a moment.
+// Returns the plan of an Email/copy in the account of the copies, at a timestamp.
 fn plan_copies(
     alloc: Global,
     account: &Account,
@@ -98,8 +98,8 @@ fn plan_blob_copies(
 }
 
 /// Returns the plan of the side of a copy that writes: what is made of what was carried, whatever
-/// it is, with what the request has made so far, at a moment in seconds since the beginning of
-/// 1970; or the error, which is `unknownMethod` if the method copies nothing.
+/// it is, with what the request has made up to here, at a timestamp in Unix seconds; or the error,
+/// which is `unknownMethod` if the method copies nothing.
 pub(crate) fn plan_placement(
     alloc: Global,
     account: &Account,

@@ -313,7 +313,7 @@ fn plan_emails(
     answer_set(alloc, call, returned)
 }
 
-// Returns the plan of an Email/import at a moment (RFC 8621, section 4.8).
+// Returns the plan of an Email/import at a timestamp (RFC 8621, section 4.8).
 fn plan_imports(
     alloc: Global,
     account: &Account,
@@ -331,8 +331,8 @@ fn plan_imports(
 }
 
 /// Returns the plan of a method over an account, with what the request has made up to here, of a
-/// user to whom the account is read-only or not, at a moment in seconds since the beginning of
-/// 1970. A name that no method has is answered with `unknownMethod` (RFC 8620, section 3.6.2).
+/// user to whom the account is read-only or not, at a timestamp in Unix seconds. A name that no
+/// method has is answered with `unknownMethod` (RFC 8620, section 3.6.2).
 pub(crate) fn plan_method(
     alloc: Global,
     account: &Account,

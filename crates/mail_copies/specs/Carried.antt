@@ -29,7 +29,7 @@ deliveries (t ∷ ts) (b ∷ bs) =
 
 -- ---- the keywords of the original
 
--- a keyword in the only spelling that Email/get has for it
+-- the keyword of a name, if it is written as Email/get writes that keyword
 abbrev pub kept_keyword : List ℕ → Option (List ℕ)
 kept_keyword s = option_and_then (only_if (bytes_eq s)) (keyword_meant s)
 
@@ -44,7 +44,7 @@ carried_keywords item =
 
 -- ---- the date of receipt of the original
 
--- a date in the only spelling that Email/get has for it
+-- the date of a string, if it is written as Email/get writes that date
 abbrev pub kept_date : List ℕ → Option UtcDate
 kept_date s = option_and_then (only_if (λ d. bytes_eq s (utc_text d))) (date_named s)
 

@@ -95,8 +95,9 @@ pub fn check_place(
     check_unless(alloc, members, copies, state, "ifInState")
 }
 
-/// The same as [`check_place`], of the account of the originals: the state of its emails is the one
-/// that `ifFromInState` asks for.
+/// Returns Ok if a call of so many copies with these arguments is not rejected as a whole by the
+/// account of the originals, with this state of its emails. Fails as [`check_place`] does, with
+/// `ifFromInState` in place of `ifInState`.
 pub fn check_fetch(
     alloc: Global,
     members: &Members,

@@ -98,7 +98,7 @@ fn find_member<'a>(item: &'a Json, name: &str) -> Option<&'a Json>
 
 // ---- keywords
 
-// Returns the keyword that a name is, in the only spelling that Email/get has for it.
+// Returns the keyword that a name is, if it is written as Email/get writes that keyword.
 fn read_kept_keyword(alloc: Global, name: &Text) -> Result<Option<Text>, NoMemory>
     ensures { IfOk result (λ k. k ≡ kept_keyword name.now) }
 {
@@ -155,7 +155,7 @@ pub fn read_carried_keywords(alloc: Global, item: &Json) -> Result<Texts, NoMemo
 
 // ---- the date of receipt
 
-// Returns the date that a string is, in the only spelling that Email/get has for it.
+// Returns the date that a string is, if it is written as Email/get writes that date.
 fn read_kept_date(alloc: Global, text: &Text) -> Result<Option<UtcDate>, NoMemory>
     ensures { IfOk result (λ d. d ≡ kept_date text.now) }
 {

@@ -20,7 +20,7 @@ pub enum SetFault {
     /// The argument of this name is missing or has a wrong form; with an empty name the arguments
     /// are no object.
     Invalid(Text),
-    /// It names more than 500 objects.
+    /// It names more than `MAX_OBJECTS_PER_CALL` objects.
     TooLarge,
     /// `ifInState` isn't the present state.
     StateMismatch,

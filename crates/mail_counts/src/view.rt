@@ -58,7 +58,8 @@ fn rights(alloc: Global, read_only: bool) -> Result<Members, NoMemory>
     Ok(rights)
 }
 
-/// The rights of a user on each mailbox of an account, which is read-only for the user or not.
+/// Returns the rights of a user on each mailbox of an account, which is read-only for the user or
+/// not.
 pub fn build_rights(alloc: Global, read_only: bool) -> Result<Json, NoMemory>
     ensures { IfOk result (λ t. tree_of t ≡ rights_tree read_only) }
 {
@@ -110,8 +111,8 @@ fn set_counts(alloc: Global, view: &mut Members, mailbox: &Mailbox) -> Result<()
     view.set(alloc, "unreadThreads", count(mailbox.unread_threads))
 }
 
-/// The members of a mailbox's object, in byte order of their names, for a user to whom the account
-/// is read-only or not.
+/// Returns the members of a mailbox's object, in byte order of their names, for a user to whom the
+/// account is read-only or not.
 pub fn build_mailbox_view(
     alloc: Global,
     mailbox: &Mailbox,

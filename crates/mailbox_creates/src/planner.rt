@@ -20,7 +20,7 @@ pub struct Planner<'a> {
     pub creates: Creates<'a>,
 }
 
-/// A planner before the first create.
+/// Returns a planner before the first create.
 pub fn start_planner<'a>(
     alloc: Global,
     content: &'a Content,
