@@ -1,43 +1,25 @@
 // What an Email/copy fetches from the account of the originals (RFC 8620, section 5.4; RFC 8621,
 // section 4.7).
-ghost use Rattle.std.specs.Prelude.{◌≡◌, ◌∷◌, ◌++◌, [], IfErr, IfOk, MatchOption, None, OnOk, Some, map, option_map, true};
+ghost use Rattle.std.specs.Prelude.{◌≡◌, ◌∷◌, ◌++◌, [], IfErr, IfOk, None, OnOk, Some, map, option_map};
 ghost use Rattle.jm_json.specs.Find.{as_object};
 ghost use Rattle.jm_json.specs.Json.{tree_of};
-ghost use Rattle.jm_json.specs.Tree.{boolean};
 ghost use Rattle.mail_records.specs.States.{state_of};
-ghost use Rattle.mail_view.specs.Emails.{blob_bytes, email_named};
-ghost use Rattle.mail_view.specs.Objects.{put_all};
-ghost use Rattle.mail_view.specs.View.{date_tree};
 ghost use Rattle.set_parts.specs.Outcomes.{ExplainsRejection};
 ghost use Rattle.set_parts.specs.Views.{create_of};
 ghost use Rattle.copy_calls.specs.Fetches.{carried_by, carried_of, fetch_rejection, fetched_in, item_of, messages_of, original_named, originals_in, rejection_by};
 
 use account_book::{Account, Carried};
 use blob_store::BlobList;
-use jm_base::{
-    Blobs, Bytes, FIRST_TIMESTAMP, Kind, LAST_TIMESTAMP, NoMemory, Text, UtcDate, read_id, utc_text,
-};
+use get_calls::{find_blob, find_email};
+use jm_base::{Blobs, Bytes, Kind, NoMemory, Text};
 use jm_json::{Items, Json, Members};
 use mail_copies::check_fetch;
 use mail_counts::SetFault;
 use mail_records::{Content, Email};
+use mail_view::{write_date, write_keyword_set};
 use method_args::read_text;
 use set_parts::{SentCreate, read_creates};
 use std::alloc::Global;
-
-// Returns the email that an id names.
-fn find_email<'a>(content: &'a Content, id: &str) -> Option<&'a Email>
-    ensures { MatchOption result (email_named content.now.content.emails id.now ≡ None)
-        (λ e. email_named content.now.content.emails id.now ≡ Some e.now) }
-{
-    match read_id(id.as_bytes()) {
-        Ok(id) => match id.kind {
-            Kind::Email => content.email(id.number),
-            _ => None,
-        },
-        Err(_) => None,
-    }
-}
 
 // Returns the original that a create names.
 fn find_original<'a>(content: &'a Content, create: &SentCreate) -> Option<&'a Email>
@@ -48,35 +30,6 @@ fn find_original<'a>(content: &'a Content, create: &SentCreate) -> Option<&'a Em
         Some(id) => find_email(content, id.as_str()),
         None => None,
     }
-}
-
-// Returns the bytes of a blob, none if no blob has the number.
-fn find_blob(blobs: &BlobList, number: u64) -> &[u8]
-    ensures { result.now ≡ blob_bytes blobs.now.blobs number }
-{
-    match blobs.get(number) {
-        Ok(bytes) => bytes,
-        Err(_) => &[],
-    }
-}
-
-fn write_keyword_set(alloc: Global, texts: &[Text]) -> Result<Members, NoMemory>
-    ensures { IfOk result (λ ms. ms ≡ put_all (map (λ k. (k, boolean true)) texts.now) []) }
-{
-    let mut set = Members::with_room(alloc, texts.len())?;
-    for text in texts {
-        set.put(text.copy()?, Json::Bool(true))?;
-    }
-    Ok(set)
-}
-
-fn write_date(alloc: Global, date: &UtcDate) -> Result<Json, NoMemory>
-    ensures { IfOk result (λ t. tree_of t ≡ date_tree date.now) }
-{
-    if date.seconds < FIRST_TIMESTAMP || date.seconds > LAST_TIMESTAMP as i64 {
-        return Ok(Json::Null);
-    }
-    Ok(Json::Text(utc_text(alloc, date)?))
 }
 
 // Builds the item of an original.

@@ -9,13 +9,13 @@ ghost use Rattle.method_args.specs.Arguments.{text_in};
 ghost use Rattle.set_parts.specs.Views.{create_of};
 ghost use Rattle.copy_calls.specs.Originals.{copied_id, copied_ids, created_in, destroys_originals, is_created, originals_call, set_call, set_members, set_of_originals, state_tree};
 
+use get_calls::list_first_mentions;
 use jm_base::{NoMemory, Text};
 use jm_json::{Invocation, Items, Json, Members};
 use mail_copies::read_from_account;
 use method_args::{read_flag, read_text};
 use set_parts::{SentCreate, read_creates};
 use std::alloc::Global;
-use std::collections::HashSet;
 
 fn destroys_originals(members: &Members) -> bool
     ensures { result ≡ destroys_originals members.now }
@@ -71,22 +71,6 @@ fn collect_copied<'a>(
         }
     }
     Ok(ids)
-}
-
-// Returns these ids, each once, in the order of their first mention.
-fn list_first_mentions<'a>(alloc: Global, ids: &[&'a str]) -> Result<Vec<&'a str>, NoMemory>
-    ensures { IfOk result (λ v.
-        map (λ t. t.now) v.items ≡ first_mentions (map (λ t. t.now) ids.now)) }
-{
-    let mut firsts = Vec::new(alloc);
-    let mut seen = HashSet::new(alloc);
-    for id in ids {
-        if !seen.insert(*id)? {
-            continue;
-        }
-        firsts.push(*id)?;
-    }
-    Ok(firsts)
 }
 
 fn build_ids(alloc: Global, ids: &[&str]) -> Result<Items, NoMemory>

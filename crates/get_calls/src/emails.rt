@@ -15,8 +15,8 @@ use mail_records::{Content, Email};
 use mail_view::view;
 use std::alloc::Global;
 
-// Returns the email that an id names.
-fn find_email<'a>(content: &'a Content, id: &str) -> Option<&'a Email>
+/// Returns the email that an id names, or `None` if it names none.
+pub fn find_email<'a>(content: &'a Content, id: &str) -> Option<&'a Email>
     ensures { MatchOption result (email_named content.now.content.emails id.now ≡ None)
         (λ e. email_named content.now.content.emails id.now ≡ Some e.now) }
 {
@@ -29,8 +29,8 @@ fn find_email<'a>(content: &'a Content, id: &str) -> Option<&'a Email>
     }
 }
 
-// Returns the bytes of a blob, none if no blob has the number.
-fn find_blob(blobs: &BlobList, number: u64) -> &[u8]
+/// Returns the bytes of a blob, none if no blob has the number.
+pub fn find_blob(blobs: &BlobList, number: u64) -> &[u8]
     ensures { result.now ≡ blob_bytes blobs.now.blobs number }
 {
     match blobs.get(number) {

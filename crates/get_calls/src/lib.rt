@@ -14,6 +14,8 @@ mod parses;
 mod records;
 mod threads;
 
+pub use emails::{find_blob, find_email};
 pub use fault::GetFault;
 pub use gets::{get, get_emails, get_mailboxes, get_threads};
+pub use mentions::list_first_mentions;
 pub use parses::{parse, parse_emails};

@@ -7,7 +7,7 @@ use std::alloc::Global;
 use std::collections::HashSet;
 
 /// Returns these ids, each once, in the order of their first mention.
-pub(crate) fn list_first_mentions<'a>(
+pub fn list_first_mentions<'a>(
     alloc: Global,
     ids: &[&'a str],
 ) -> Result<Vec<&'a str>, NoMemory>

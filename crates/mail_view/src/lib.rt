@@ -16,3 +16,4 @@ mod structure;
 mod values;
 
 pub use message_view::view;
+pub use metadata::{write_date, write_keyword_set};

@@ -61,7 +61,8 @@ fn write_mailbox_ids(alloc: Global, email: Option<&Email>) -> Result<Json, NoMem
     }
 }
 
-fn write_keyword_set(alloc: Global, texts: &[Text]) -> Result<Members, NoMemory>
+/// Returns the `keywords` of an email with these keywords: an object that has `true` at each.
+pub fn write_keyword_set(alloc: Global, texts: &[Text]) -> Result<Members, NoMemory>
     ensures { IfOk result (λ ms. ms ≡ put_all (map (λ k. (k, boolean true)) texts.now) []) }
 {
     let mut set = Members::with_room(alloc, texts.len())?;
@@ -83,7 +84,8 @@ fn write_keywords(alloc: Global, email: Option<&Email>) -> Result<Json, NoMemory
     }
 }
 
-fn write_date(alloc: Global, date: &UtcDate) -> Result<Json, NoMemory>
+/// Returns the text of a date (RFC 3339), or null if it is not of the years 0001 to 9999.
+pub fn write_date(alloc: Global, date: &UtcDate) -> Result<Json, NoMemory>
     ensures { IfOk result (λ t. json_of t ≡ date_tree date.now) }
 {
     if date.seconds < FIRST_TIMESTAMP || date.seconds > LAST_TIMESTAMP as i64 {
