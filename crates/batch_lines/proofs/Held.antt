@@ -8,12 +8,12 @@ use Rattle.jm_json.specs.Reading.{reading_of}
 use Rattle.jm_json.specs.declared.invocation.Created.{Created}
 use Rattle.jm_json.specs.declared.invocation.Replied.{Replied}
 use Rattle.batch_lines.specs.declared.upload.Uploaded.{Uploaded}
-use Rattle.method_batch.specs.Outcome.{IsAnswerBy, IsRefusal, HasBegunReading, HasBegunAnswer}
+use Rattle.method_batch.specs.Outcome.{IsAnswerBy, IsRefusal, HasBegunReading, HasBegunAnswer, limit_tree}
 use Rattle.jm_json.specs.Tree.{Tree}
 use Rattle.method_batch.specs.declared.outcome.Outcome.{Outcome}
 use Rattle.method_batch.specs.declared.outcome.Problem.TheVariants.{TooLarge}
 use Rattle.batch_lines.specs.Replies.{IsLineReply, IsUploadReply, IsRequestReply, HasBegunLine, StopsInLine, begins_with_plus, line_text}
-use Rattle.batch_lines.specs.Uploads.{HasBegunBytes, HasBegunUpload, IsAnswerToBytes, IsRejected, base64_bytes, limit_tree}
+use Rattle.batch_lines.specs.Uploads.{HasBegunBytes, HasBegunUpload, IsAnswerToBytes, IsRejected, base64_bytes}
 use Rattle.batch_lines.specs.Pieces.{IsHeld, most_held}
 use Rattle.batch_lines.specs.declared.limits.TheConstants.{MAX_HELD_REQUEST_BYTES, MAX_HELD_UPLOAD_BYTES, MAX_UPLOAD_CHARACTERS}
 use Rattle.jm_base.specs.declared.limits.TheConstants.{MAX_REQUEST_BYTES}

@@ -4,7 +4,7 @@ use Rattle.std.specs.Prelude.{◌≡◌, ◌⊎◌, ℕ, List, [], ◌∷◌, le
 use Rattle.base64.specs.GeneralPurpose.{decoded_of}
 use Rattle.base64.specs.Engines.{standard}
 use Rattle.jm_json.specs.Tree.{Tree, number, text, object, fields_of}
-use Rattle.method_batch.specs.Outcome.{problem_tree}
+use Rattle.method_batch.specs.Outcome.{limit_tree, problem_tree}
 use Rattle.method_batch.specs.declared.outcome.Problem.TheVariants.{NotRequest}
 use Rattle.blob_ids.specs.BlobIds.{blob_text}
 use Rattle.jm_base.specs.declared.limits.TheConstants.{MAX_UPLOAD_BYTES}
@@ -19,17 +19,6 @@ unfoldable pub base64_bytes : List ℕ → Option (List ℕ)
 base64_bytes string = decoded_of standard string
 
 -- ---- what is shown
-
--- the problem of a limit of this name that was passed (RFC 8620, 3.6.1; that its status is 413 is
--- our own)
-abbrev pub limit_tree : List ℕ → Tree
-limit_tree name =
-    object (fields_of (
-    (codes "limit", text name)
-    ∷ (codes "status", number (pos 413))
-    ∷ (codes "type", text (codes "urn:ietf:params:jmap:error:limit"))
-    ∷ []
-    ))
 
 -- the problem of an upload that could not be kept (RFC 7807)
 abbrev pub failure_tree : Tree

@@ -4,7 +4,7 @@ ghost use Rattle.jm_base.specs.declared.limits.TheConstants.{MAX_UPLOAD_BYTES};
 ghost use Rattle.jm_json.specs.Json.{tree_of};
 ghost use Rattle.method_batch.specs.Outcome.{problem_tree};
 ghost use Rattle.method_batch.specs.declared.outcome.Problem.TheVariants as problem;
-ghost use Rattle.batch_lines.specs.Uploads.{HasBegunBytes, HasBegunUpload, IsAnswerToBytes, IsUploadAnswer, base64_bytes, failure_tree, limit_tree, upload_tree};
+ghost use Rattle.batch_lines.specs.Uploads.{HasBegunBytes, HasBegunUpload, IsAnswerToBytes, IsUploadAnswer, base64_bytes, failure_tree, upload_tree};
 ghost use Rattle.batch_lines.specs.declared.upload.Uploaded.{Uploaded as TheUploaded};
 
 use crate::limits::MAX_UPLOAD_CHARACTERS;
@@ -13,7 +13,7 @@ use base64::engine::general_purpose::STANDARD;
 use blob_ids::{BlobId, write_blob_id};
 use jm_base::{Bytes, MAX_UPLOAD_BYTES, NoMemory, Text};
 use jm_json::{Json, Members};
-use method_batch::{Outcome, Port, Problem};
+use method_batch::{Outcome, Port, Problem, show_limit};
 use std::alloc::Global;
 
 /// What an account answers to an upload.
@@ -46,18 +46,6 @@ pub trait UploadPort: Port {
 
     /// An upload that ends out of memory may leave the state as it was.
     ghost rests: { (s : Self) (bytes : List ℕ) → halts s bytes s };
-}
-
-// Returns the problem of a limit of this name that was passed (RFC 8620, section 3.6.1).
-fn show_limit(alloc: Global, name: &str) -> Result<Json, NoMemory>
-    ensures { IfOk result (λ t. tree_of t ≡ limit_tree name.now) }
-{
-    let mut members = Members::new(alloc);
-    members.set(alloc, "limit", Json::Text(Text::from_str(alloc, name)?))?;
-    members.set(alloc, "status", Json::Int(413))?;
-    let kind = Text::from_str(alloc, "urn:ietf:params:jmap:error:limit")?;
-    members.set(alloc, "type", Json::Text(kind))?;
-    Ok(Json::Object(members))
 }
 
 // Returns the blob that holds an upload of so many bytes.

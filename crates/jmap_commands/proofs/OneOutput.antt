@@ -16,7 +16,7 @@ use Rattle.method_batch.specs.Method.{core_capability, mail_capability}
 use Rattle.method_batch.specs.Request.{request_of, problem_in, uses}
 use Rattle.method_batch.specs.Prepared.{Preparation, refused, ready, preparation}
 use Rattle.method_batch.specs.Answer.{Asked, Runs, RepliesPrepared, RepliesAlone, Answers, after_reply, is_echo}
-use Rattle.method_batch.specs.Outcome.{IsAnswerBy, IsRefusal, IsOutcomeBy, IsOutcomeUnless, beginning, problem_tree, response_tree}
+use Rattle.method_batch.specs.Outcome.{IsAnswerBy, IsRefusal, IsOutcomeBy, IsOutcomeUnless, beginning, limit_tree, problem_tree, response_tree}
 use Rattle.method_batch.specs.declared.request.Request.{Request}
 use Rattle.method_batch.specs.declared.progress.Progress.{Progress}
 use Rattle.method_batch.specs.declared.outcome.Outcome.{Outcome}
@@ -38,7 +38,7 @@ use Rattle.mail_calls.specs.declared.methods.Method.{Method as MailMethod}
 use Rattle.mail_calls.specs.declared.methods.Method.TheVariants.{Get, Changes, MailboxSet, EmailSet, EmailImport, EmailParse, Query, QueryChanges}
 use Rattle.batch_lines.specs.Lines.{lines_of}
 use Rattle.batch_lines.specs.Replies.{AreReplies, IsLineReply, IsRequestReply, IsUploadReply, line_text}
-use Rattle.batch_lines.specs.Uploads.{IsAnswerToBytes, IsRejected, IsUploaded, base64_bytes, limit_tree, upload_tree}
+use Rattle.batch_lines.specs.Uploads.{IsAnswerToBytes, IsRejected, IsUploaded, base64_bytes, upload_tree}
 use Rattle.batch_lines.specs.declared.limits.TheConstants.{MAX_UPLOAD_CHARACTERS}
 use Rattle.batch_lines.specs.declared.upload.Uploaded.{Uploaded}
 use Rattle.server_users.specs.declared.users.UserAccount.{UserAccount}

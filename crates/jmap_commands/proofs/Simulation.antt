@@ -9,7 +9,7 @@ use Rattle.jm_json.specs.declared.invocation.Created.{Created}
 use Rattle.jm_json.specs.declared.invocation.Replied.{Replied}
 use Rattle.method_batch.specs.Answer.{Asked, HasBegunCalls, Runs, StopsAtFirst, StopsPrepared, is_echo}
 use Rattle.method_batch.specs.Method.{core_capability, mail_capability}
-use Rattle.method_batch.specs.Outcome.{HasBegunAnswer, HasBegunBy, HasBegunReading, HasBegunUnless, IsAnswer, IsAnswerBy, IsOutcomeBy, IsOutcomeUnless, IsRefusal, beginning, problem_tree}
+use Rattle.method_batch.specs.Outcome.{HasBegunAnswer, HasBegunBy, HasBegunReading, HasBegunUnless, IsAnswer, IsAnswerBy, IsOutcomeBy, IsOutcomeUnless, IsRefusal, beginning, limit_tree, problem_tree}
 use Rattle.method_batch.specs.Prepared.{Preparation, preparation, ready, refused}
 use Rattle.method_batch.specs.Request.{problem_in, request_of, uses}
 use Rattle.method_batch.specs.declared.outcome.Outcome.{Outcome}
@@ -20,7 +20,7 @@ use Rattle.method_batch.specs.declared.request.Request.{Request}
 use Rattle.batch_lines.specs.Input.{HasAnsweredEnded, HasAnsweredInput, HasAnsweredWithin, HasBegunInput, HasReadAll, Seen}
 use Rattle.batch_lines.specs.Lines.{ended_lines, lines_of}
 use Rattle.batch_lines.specs.Replies.{AreReplies, HasBegunFirst, HasBegunLine, HasBegunReplies, IsLineReply, IsRequestReply, IsUploadReply, plus_sign}
-use Rattle.batch_lines.specs.Uploads.{HasBegunBytes, HasBegunUpload, HasHalted, IsAnswerToBytes, IsRejected, IsUploadAnswer, IsUploaded, base64_bytes, limit_tree}
+use Rattle.batch_lines.specs.Uploads.{HasBegunBytes, HasBegunUpload, HasHalted, IsAnswerToBytes, IsRejected, IsUploadAnswer, IsUploaded, base64_bytes}
 use Rattle.batch_lines.specs.declared.limits.TheConstants.{MAX_INPUT_BYTES, MAX_UPLOAD_CHARACTERS}
 use Rattle.batch_lines.specs.declared.upload.Uploaded.{Uploaded}
 

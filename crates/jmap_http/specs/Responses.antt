@@ -5,7 +5,7 @@ use Rattle.serde_json.specs.Written.{compact_text}
 use Rattle.jm_json.specs.Tree.{Tree, number, text, object, fields_of}
 use Rattle.jm_json.specs.JsonValues.{data_of}
 use Rattle.jm_json.specs.Json.{tree_of}
-use Rattle.method_batch.specs.Outcome.{IsAnswer, HasBegunAnswer}
+use Rattle.method_batch.specs.Outcome.{IsAnswer, HasBegunAnswer, limit_tree}
 use Rattle.method_batch.specs.declared.outcome.Outcome.{Outcome}
 use Rattle.blob_ids.specs.BlobIds.{blob_text}
 use Rattle.server_users.specs.declared.users.User.{User}
@@ -54,16 +54,7 @@ blank_tree status =
 abbrev pub blank_response : ℕ → Response
 blank_response status = problem_response status (blank_tree status)
 
--- a limit of this name was passed (RFC 8620, 3.6.1; that the status is 413 is our own)
-abbrev pub limit_tree : List ℕ → Tree
-limit_tree name =
-    object (fields_of (
-    (codes "limit", text name)
-    ∷ (codes "status", number (pos 413))
-    ∷ (codes "type", text (codes "urn:ietf:params:jmap:error:limit"))
-    ∷ []
-    ))
-
+-- a limit of this name was passed
 abbrev pub limit_response : List ℕ → Response
 limit_response name = problem_response 413 (limit_tree name)
 

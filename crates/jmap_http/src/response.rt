@@ -1,11 +1,11 @@
 // Responses, and those that a status or a JSON tree makes.
 ghost use Rattle.std.specs.Prelude.{◌≡◌, IfOk};
 ghost use Rattle.jm_json.specs.Json.{tree_of};
-ghost use Rattle.jmap_http.specs.Responses.{api_response, blank_response, blank_tree, json_response, limit_response, limit_tree, problem_response};
+ghost use Rattle.jmap_http.specs.Responses.{api_response, blank_response, blank_tree, json_response, limit_response, problem_response};
 
 use jm_base::{Bytes, NoMemory, Text};
 use jm_json::{Json, Members, write};
-use method_batch::Outcome;
+use method_batch::{Outcome, show_limit};
 use std::alloc::Global;
 
 /// A response: its status, its media type and its body.
@@ -59,18 +59,6 @@ pub(crate) fn write_blank(alloc: Global, status: u16) -> Result<Response, NoMemo
 {
     let tree = show_blank(alloc, status)?;
     write_problem(alloc, status, &tree)
-}
-
-// Returns the problem of a limit of this name that was passed.
-fn show_limit(alloc: Global, name: &str) -> Result<Json, NoMemory>
-    ensures { IfOk result (λ t. tree_of t ≡ limit_tree name.now) }
-{
-    let mut members = Members::new(alloc);
-    members.set(alloc, "limit", Json::Text(Text::from_str(alloc, name)?))?;
-    members.set(alloc, "status", Json::Int(413))?;
-    let kind = Text::from_str(alloc, "urn:ietf:params:jmap:error:limit")?;
-    members.set(alloc, "type", Json::Text(kind))?;
-    Ok(Json::Object(members))
 }
 
 /// Returns the response that says that a limit of this name was passed.

@@ -77,6 +77,17 @@ problem_tree p =
     (limit_member (problem_limit p) ++ (codes "status", number (pos (problem_status p)))
     ∷ (codes "type", text (problem_type p)) ∷ []))
 
+-- the problem of a limit of this name that was passed by what is no request of calls, as an upload
+-- (RFC 8620, 3.6.1; that its status is 413 is our own)
+abbrev pub limit_tree : List ℕ → Tree
+limit_tree name =
+    object (fields_of (
+    (codes "limit", text name)
+    ∷ (codes "status", number (pos 413))
+    ∷ (codes "type", text (codes "urn:ietf:params:jmap:error:limit"))
+    ∷ []
+    ))
+
 -- ---- the outcome
 
 abbrev pub IsReply : Outcome → ℕ → Tree → Type 0

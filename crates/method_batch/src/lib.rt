@@ -21,5 +21,5 @@ pub use answer::{
     answer_request, answer_request_with, answer_tree, write_answer, write_answer_over,
 };
 pub use limits::MAX_CALLS_PER_REQUEST;
-pub use outcome::{Outcome, Problem};
+pub use outcome::{Outcome, Problem, show_limit};
 pub use port::Port;

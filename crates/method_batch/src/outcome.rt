@@ -1,6 +1,8 @@
 // The outcome of a request, and the problems for which one is rejected (RFC 8620, section 3.6.1;
 // RFC 7807).
 ghost use Rattle.std.specs.Prelude.{◌≡◌, IfOk, option_map};
+ghost use Rattle.jm_json.specs.Json.{tree_of};
+ghost use Rattle.method_batch.specs.Outcome.{limit_tree};
 
 use jm_base::{NoMemory, Text};
 use jm_json::{Json, Members};
@@ -74,6 +76,19 @@ impl Problem {
             None => Ok(members),
         }
     }
+}
+
+/// Returns the problem of a limit of this name that was passed by what is no request of calls, as
+/// an upload (RFC 8620, section 3.6.1).
+pub fn show_limit(alloc: Global, name: &str) -> Result<Json, NoMemory>
+    ensures { IfOk result (λ t. tree_of t ≡ limit_tree name.now) }
+{
+    let mut members = Members::new(alloc);
+    members.set(alloc, "limit", Json::Text(Text::from_str(alloc, name)?))?;
+    members.set(alloc, "status", Json::Int(413))?;
+    let kind = Text::from_str(alloc, "urn:ietf:params:jmap:error:limit")?;
+    members.set(alloc, "type", Json::Text(kind))?;
+    Ok(Json::Object(members))
 }
 
 impl Outcome {
