@@ -2,7 +2,7 @@
 use Rattle.std.proofs.Common.{◌≡◌, ℕ, zero, suc, ◌<◌, ◌≤◌, Bool, true, List, [], ◌∷◌, ◌++◌, length, take, drop, get_or, refl, ap, append_assoc, append-nil, arith}
 use Rattle.std.specs.Prelude.{is_some, if◌then◌else◌}
 use Rattle.mime_type.specs.PartTrees.{Node, none, part_count}
-use Rattle.mime_type.specs.PartViews.{tree_of, joined}
+use Rattle.mime_type.specs.PartViews.{part_before, joined}
 use Rattle.mime_type.specs.declared.part.Part.{Part}
 use Rattle.body_lists.specs.Lists.{Lists, Open, Place, both, nothing, or_else, ended, inside, item_gives, leaf_gives}
 
@@ -21,7 +21,7 @@ both-assoc a b c = λ i. record {
   attachments = append_assoc a.attachments b.attachments c.attachments i;
 }
 
-pub part_size : (ps : List Part) (i : ℕ) (d : Part) → i < length ps → part_count (tree_of (get_or ps i d) none) ≤ part_count (joined ps none)
+pub part_size : (ps : List Part) (i : ℕ) (d : Part) → i < length ps → part_count (part_before (get_or ps i d) none) ≤ part_count (joined ps none)
 part_size [] i d h = absurd (omega arith)
 part_size (p ∷ ps) zero d h = omega arith
 part_size (p ∷ ps) (suc i) d h = omega (arith, part_size ps i d (omega arith))

@@ -4,13 +4,13 @@ use Rattle.std.specs.Prelude.{find, ◌||◌, if◌then◌else◌}
 use Rattle.std.specs.List.{list_any}
 use Rattle.std.specs.Option.{option_or}
 use Rattle.mime_type.specs.PartTrees.{Node, PartTrees, none, part, part_count}
-use Rattle.mime_type.specs.PartViews.{tree_of, joined, node_of}
+use Rattle.mime_type.specs.PartViews.{part_before, joined, node_of}
 use Rattle.mime_type.specs.declared.part.Part.{Part}
 use Rattle.mime_tree.specs.PartLimit.{walked}
 use Rattle.mime_tree.specs.Places.{IsPlaced, AllPlaced}
 use Rattle.mail_summary.specs.Leaves.{has_number, leaf_numbered}
 
-pub part_size : (ps : List Part) (i : ℕ) (d : Part) → i < length ps → part_count (tree_of (get_or ps i d) none) ≤ part_count (joined ps none)
+pub part_size : (ps : List Part) (i : ℕ) (d : Part) → i < length ps → part_count (part_before (get_or ps i d) none) ≤ part_count (joined ps none)
 part_size [] i d h = absurd (omega arith)
 part_size (p ∷ ps) zero d h = omega arith
 part_size (p ∷ ps) (suc i) d h = omega (arith, part_size ps i d (omega arith))
@@ -49,19 +49,19 @@ found_stands size n (x ∷ xs) y all e =
 pub leaf_placed : (size n : ℕ) (f : PartTrees) (y : Node) → AllPlaced size f → leaf_numbered n f ≡ Some y → IsPlaced size y
 leaf_placed size n f y all e = found_stands size n (walked f) y (stand_walked size f all) e
 
-find_node : (n : ℕ) (p : Part) (later : List Node) → find (has_number n) (node_of p ∷ (walked p.parts ++ later)) ≡ option_or (leaf_numbered n (tree_of p none)) (find (has_number n) later)
+find_node : (n : ℕ) (p : Part) (later : List Node) → find (has_number n) (node_of p ∷ (walked p.parts ++ later)) ≡ option_or (leaf_numbered n (part_before p none)) (find (has_number n) later)
 find_node n p later =
     find_append (has_number n) (node_of p ∷ walked p.parts) later
     ∙ ap (λ xs. option_or (find (has_number n) (node_of p ∷ xs)) (find (has_number n) later)) (sym (append-nil (walked p.parts)))
 
-found_first : (n i : ℕ) (ps : List Part) (d : Part) → i < length ps → leaf_numbered n (joined (drop i ps) none) ≡ option_or (leaf_numbered n (tree_of (get_or ps i d) none)) (leaf_numbered n (joined (drop (suc i) ps) none))
+found_first : (n i : ℕ) (ps : List Part) (d : Part) → i < length ps → leaf_numbered n (joined (drop i ps) none) ≡ option_or (leaf_numbered n (part_before (get_or ps i d) none)) (leaf_numbered n (joined (drop (suc i) ps) none))
 found_first n i [] d h = absurd (omega arith)
 found_first n zero (p ∷ ps) d h = find_node n p (walked (joined ps none))
 found_first n (suc i) (p ∷ ps) d h = found_first n i ps d (omega arith)
 
 -- a leaf of a part is before those of the later ones
-pub found_next : (n i : ℕ) (ps : List Part) (p : Part) → i < length ps → p ≡ get_or ps i p → leaf_numbered n (joined (drop i ps) none) ≡ option_or (leaf_numbered n (tree_of p none)) (leaf_numbered n (joined (drop (i + 1) ps) none))
+pub found_next : (n i : ℕ) (ps : List Part) (p : Part) → i < length ps → p ≡ get_or ps i p → leaf_numbered n (joined (drop i ps) none) ≡ option_or (leaf_numbered n (part_before p none)) (leaf_numbered n (joined (drop (i + 1) ps) none))
 found_next n i ps p h is =
     found_first n i ps p h
-    ∙ ap (λ q. option_or (leaf_numbered n (tree_of q none)) (leaf_numbered n (joined (drop (suc i) ps) none))) (sym is)
-    ∙ ap (λ k. option_or (leaf_numbered n (tree_of p none)) (leaf_numbered n (joined (drop k ps) none))) (sym (add-one i))
+    ∙ ap (λ q. option_or (leaf_numbered n (part_before q none)) (leaf_numbered n (joined (drop (suc i) ps) none))) (sym is)
+    ∙ ap (λ k. option_or (leaf_numbered n (part_before p none)) (leaf_numbered n (joined (drop k ps) none))) (sym (add-one i))

@@ -2,7 +2,7 @@
 ghost use Rattle.std.specs.Prelude.{◌≡◌, ◌≤◌, length, find, option_map, IfOk};
 ghost use Rattle.std.specs.List.{list_any};
 ghost use Rattle.mime_type.specs.PartTrees.{none};
-ghost use Rattle.mime_type.specs.PartViews.{node_of, tree_of, joined};
+ghost use Rattle.mime_type.specs.PartViews.{node_of, part_before, joined};
 ghost use Rattle.mime_tree.specs.PartLimit.{walked};
 ghost use Rattle.mime_tree.specs.Places.{IsPlaced};
 ghost use Rattle.mail_summary.specs.Leaves;
@@ -28,7 +28,7 @@ fn has_number(part: &Part, number: u64) -> bool
 /// Returns the leaf with this number (partId), of a part and those within it.
 #[cycle(find_leaf)]
 pub fn find_leaf(part: &Part, number: u64) -> Option<&Part>
-    ensures { option_map node_in result ≡ leaf_numbered number (tree_of part.now none) }
+    ensures { option_map node_in result ≡ leaf_numbered number (part_before part.now none) }
 {
     if has_number(part, number) {
         return Some(part);
@@ -100,7 +100,7 @@ fn shows(attachments: &[u64], part: &Part) -> bool
 #[cycle(attached)]
 fn any_shows(attachments: &[u64], part: &Part) -> bool
     ensures { result
-        ≡ list_any (shows_attachment attachments.now) (walked (tree_of part.now none)) }
+        ≡ list_any (shows_attachment attachments.now) (walked (part_before part.now none)) }
 {
     shows(attachments, part) || any_shows_within(attachments, part.parts.as_slice())
 }
@@ -121,7 +121,7 @@ fn any_shows_within(attachments: &[u64], parts: &[Part]) -> bool
 /// Returns whether a message has an attachment that isn't inline (RFC 8621, section 4.1.4:
 /// hasAttachment).
 pub fn has_attachment(alloc: Global, root: &Part) -> Result<bool, NoMemory>
-    ensures { IfOk result (λ b. b ≡ has_attachment_in (tree_of root.now none)) }
+    ensures { IfOk result (λ b. b ≡ has_attachment_in (part_before root.now none)) }
 {
     let found = lists(alloc, root)?;
     Ok(any_shows(found.attachments.as_slice(), root))

@@ -4,7 +4,7 @@ ghost use Rattle.std.specs.Str.{chars};
 ghost use Rattle.mime_codec.specs.Decoded.{decoded};
 ghost use Rattle.mime_codec.specs.Quoted.{quoted_printable};
 ghost use Rattle.mime_type.specs.PartTrees.{none};
-ghost use Rattle.mime_type.specs.PartViews.{node_of, tree_of};
+ghost use Rattle.mime_type.specs.PartViews.{node_of, part_before};
 ghost use Rattle.mime_tree.specs.Places.{IsPlaced, AllPlaced};
 ghost use Rattle.mime_words.specs.Charsets.{decoded_text};
 ghost use Rattle.mime_words.specs.declared.charset.Charset.{Charset};
@@ -34,7 +34,7 @@ fn is_text(part: &Part) -> bool
 
 /// Returns the leaf with this number, if it is plain text or HTML.
 fn text_numbered(root: &Part, number: u64) -> Option<&Part>
-    ensures { option_map node_in result ≡ if_text (leaf_numbered number (tree_of root.now none))
+    ensures { option_map node_in result ≡ if_text (leaf_numbered number (part_before root.now none))
         None }
 {
     let found = find_leaf(root, number)?;
@@ -44,7 +44,7 @@ fn text_numbered(root: &Part, number: u64) -> Option<&Part>
 /// Returns the first of the leaves with these numbers that is plain text or HTML, of a part and
 /// those within it.
 pub fn find_first_text<'a>(root: &'a Part, numbers: &[u64]) -> Option<&'a Part>
-    ensures { option_map node_in result ≡ first_text (tree_of root.now none) numbers.now }
+    ensures { option_map node_in result ≡ first_text (part_before root.now none) numbers.now }
 {
     for number in numbers {
         if let Some(found) = text_numbered(root, *number) {
@@ -149,9 +149,9 @@ pub fn build_preview(
     root: &Part,
     numbers: &[u64],
 ) -> Result<Text, NoMemory>
-    requires { AllPlaced (length bytes.now) (tree_of root.now none) }
+    requires { AllPlaced (length bytes.now) (part_before root.now none) }
     ensures { IfOk result (λ t. t ≡ preview_by bytes.now
-        (first_text (tree_of root.now none) numbers.now)) }
+        (first_text (part_before root.now none) numbers.now)) }
 {
     match find_first_text(root, numbers) {
         Some(first) => part_preview(alloc, bytes, first),

@@ -3,23 +3,23 @@ use Rattle.std.proofs.Common.{◌≡◌, ℕ, zero, suc, ◌<◌, ◌≤◌, Lis
 use Rattle.std.specs.Prelude.{find, IfSome}
 use denote.Ref.{Bor}
 use Rattle.mime_type.specs.PartTrees.{Node, PartTrees, none, part, part_count}
-use Rattle.mime_type.specs.PartViews.{tree_of, joined, node_of}
+use Rattle.mime_type.specs.PartViews.{part_before, joined, node_of}
 use Rattle.mime_type.specs.declared.part.Part.{Part}
 use Rattle.mime_tree.specs.PartLimit.{walked}
 use Rattle.mime_tree.specs.Places.{AllPlaced, IsPlaced}
 use Rattle.mail_view.specs.Views.{ArePlaced, nodes_of}
 
 -- a part before others
-pub walked-tree_of : (p : Part) (later : PartTrees) → walked (tree_of p later) ≡ walked (tree_of p none) ++ walked later
-walked-tree_of p later =
+pub walked-part_before : (p : Part) (later : PartTrees) → walked (part_before p later) ≡ walked (part_before p none) ++ walked later
+walked-part_before p later =
     ap (λ (xs : List Node). node_of p ∷ (xs ++ walked later)) (sym (append-nil (walked p.parts)))
 
-pub part_size : (ps : List Part) (i : ℕ) (d : Part) → i < length ps → part_count (tree_of (get_or ps i d) none) ≤ part_count (joined ps none)
+pub part_size : (ps : List Part) (i : ℕ) (d : Part) → i < length ps → part_count (part_before (get_or ps i d) none) ≤ part_count (joined ps none)
 part_size [] i d h = absurd (omega arith)
 part_size (p ∷ ps) zero d h = omega arith
 part_size (p ∷ ps) (suc i) d h = omega (arith, part_size ps i d (omega arith))
 
-pub placed_part : (n : ℕ) (ps : List Part) (i : ℕ) (d : Part) → i < length ps → AllPlaced n (joined ps none) → AllPlaced n (tree_of (get_or ps i d) none)
+pub placed_part : (n : ℕ) (ps : List Part) (i : ℕ) (d : Part) → i < length ps → AllPlaced n (joined ps none) → AllPlaced n (part_before (get_or ps i d) none)
 placed_part n [] i d h all = absurd (omega arith)
 placed_part n (p ∷ ps) zero d h all = (all.0, all.1, tt)
 placed_part n (p ∷ ps) (suc i) d h all = placed_part n ps i d (omega arith) all.2

@@ -4,7 +4,7 @@ use Rattle.jm_json.specs.Tree.{Tree}
 use Rattle.mime_lines.specs.Fields.{fields_of}
 use Rattle.mime_lines.specs.FieldOffsets.{IsWithin}
 use Rattle.mime_type.specs.PartTrees.{none}
-use Rattle.mime_type.specs.PartViews.{tree_of}
+use Rattle.mime_type.specs.PartViews.{part_before}
 use Rattle.mime_tree.specs.PartLimit.{parts_of, walked}
 use Rattle.mime_tree.specs.Places.{AllPlaced}
 use Rattle.body_lists.specs.Lists.{Lists, lists_in}
@@ -17,8 +17,8 @@ use Rattle.mail_view.specs.declared.message.Message.{Message}
 pub record IsRead (m : Message) : Type 0 where
   pub found : m.fields.now ≡ fields_of m.showing.bytes.now
   pub within : All (IsWithin m.showing.bytes.now) m.fields.now
-  pub tree : tree_of m.root.now none ≡ parts_of m.showing.bytes.now
-  pub placed : AllPlaced (length m.showing.bytes.now) (tree_of m.root.now none)
+  pub tree : part_before m.root.now none ≡ parts_of m.showing.bytes.now
+  pub placed : AllPlaced (length m.showing.bytes.now) (part_before m.root.now none)
   pub walk : nodes_of m.parts.now ≡ walked (parts_of m.showing.bytes.now)
   pub places : ArePlaced (length m.showing.bytes.now) (nodes_of m.parts.now)
   pub lists : lists_of m.lists.now ≡ lists_in (parts_of m.showing.bytes.now)

@@ -3,7 +3,7 @@ ghost use Rattle.std.specs.Prelude.{◌≡◌, ◌++◌, All, IfOk, OnOk, length
 ghost use Rattle.mime_tree.specs.PartLimit.{walked};
 ghost use Rattle.mime_tree.specs.Places.{AllPlaced};
 ghost use Rattle.mime_type.specs.PartTrees.{none};
-ghost use Rattle.mime_type.specs.PartViews.{joined, node_of, tree_of};
+ghost use Rattle.mime_type.specs.PartViews.{joined, node_of, part_before};
 ghost use Rattle.mail_summary.specs.Leaves.{is_number};
 ghost use Rattle.mail_view.specs.Parts.{leaves_among, part_numbered};
 ghost use Rattle.mail_view.specs.Sizes.{IsSizeOf};
@@ -19,7 +19,7 @@ use std::alloc::Global;
 #[cycle(walk)]
 fn add_part<'a>(walk: &mut Vec<&'a Part>, part: &'a Part) -> Result<(), NoMemory>
     ensures { OnOk result (nodes_of walk.new.items
-        ≡ nodes_of walk.old.items ++ walked (tree_of part.now none)) }
+        ≡ nodes_of walk.old.items ++ walked (part_before part.now none)) }
 {
     walk.push(part)?;
     add_parts(walk, part.parts.as_slice())
@@ -38,7 +38,7 @@ fn add_parts<'a>(walk: &mut Vec<&'a Part>, parts: &'a [Part]) -> Result<(), NoMe
 
 /// Returns the parts of a tree in walk order: a part before those within it.
 pub(crate) fn list_parts<'a>(alloc: Global, root: &'a Part) -> Result<Vec<&'a Part>, NoMemory>
-    ensures { IfOk result (λ ps. nodes_of ps.items ≡ walked (tree_of root.now none)) }
+    ensures { IfOk result (λ ps. nodes_of ps.items ≡ walked (part_before root.now none)) }
 {
     let mut walk = Vec::new(alloc);
     add_part(&mut walk, root)?;

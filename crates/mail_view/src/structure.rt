@@ -3,7 +3,7 @@ ghost use Rattle.std.specs.Prelude.{◌≡◌, ◌∷◌, [], All, IfOk, length}
 ghost use Rattle.jm_json.specs.Json.{tree_of as json_of};
 ghost use Rattle.mime_tree.specs.Places.{AllPlaced};
 ghost use Rattle.mime_type.specs.PartTrees.{none};
-ghost use Rattle.mime_type.specs.PartViews.{joined, node_of, tree_of};
+ghost use Rattle.mime_type.specs.PartViews.{joined, node_of, part_before};
 ghost use Rattle.mail_view.specs.Parts;
 ghost use Rattle.mail_view.specs.Sizes.{IsSizeOf};
 
@@ -38,11 +38,11 @@ pub(crate) fn write_structure(
     showing: &Showing<'_>,
     part: &Part,
 ) -> Result<Json, NoMemory>
-    requires placed { AllPlaced (length showing.now.bytes.now) (tree_of part.now none) }
+    requires placed { AllPlaced (length showing.now.bytes.now) (part_before part.now none) }
     requires sizes { All (IsSizeOf showing.now.bytes.now) showing.now.sizes.now }
     ensures { IfOk result (λ t.
         Parts.structures showing.now.bytes.now showing.now.blob.now showing.now.asked.now
-        (tree_of part.now none) ≡ json_of t ∷ []) }
+        (part_before part.now none) ≡ json_of t ∷ []) }
 {
     let inner = write_structures(alloc, showing, part.parts.as_slice())?;
     let members = write_part_members(alloc, showing, part)?;

@@ -1,7 +1,7 @@
 // The texts of the text parts of a message (RFC 8621, sections 4.1.4 and 4.4.1).
 ghost use Rattle.std.specs.Prelude.{◌≡◌, ◌++◌, ◌∷◌, [], IfOk, OnOk, length};
 ghost use Rattle.mime_type.specs.PartTrees.{none};
-ghost use Rattle.mime_type.specs.PartViews.{joined, node_of, tree_of};
+ghost use Rattle.mime_type.specs.PartViews.{joined, node_of, part_before};
 ghost use Rattle.mime_tree.specs.PartLimit.{parts_of, walked};
 ghost use Rattle.mime_tree.specs.Places.{AllPlaced, IsPlaced};
 ghost use Rattle.mail_summary.specs.Texts as Bodies;
@@ -66,9 +66,9 @@ fn push_own_text(
 #[tactic(auto, using(crate::proofs::Parts::own_and_inner))]
 #[cycle(bodies)]
 fn push_texts(alloc: Global, bytes: &[u8], part: &Part, texts: &mut Texts) -> Result<(), NoMemory>
-    requires { AllPlaced (length bytes.now) (tree_of part.now none) }
+    requires { AllPlaced (length bytes.now) (part_before part.now none) }
     ensures { OnOk result (texts.new
-        ≡ texts.old ++ part_texts bytes.now (walked (tree_of part.now none))) }
+        ≡ texts.old ++ part_texts bytes.now (walked (part_before part.now none))) }
 {
     push_own_text(alloc, bytes, part, texts)?;
     push_all_texts(alloc, bytes, part.parts.as_slice(), texts)

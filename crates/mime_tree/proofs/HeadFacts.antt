@@ -6,7 +6,7 @@ use Rattle.mime_lines.specs.Fields.{body_of}
 use Rattle.mime_cut.specs.Cut.{Piece, piece}
 use Rattle.mime_type.specs.declared.part.Part.{Part}
 use Rattle.mime_type.specs.PartTrees.{Node, none}
-use Rattle.mime_type.specs.PartViews.{tree_of, joined}
+use Rattle.mime_type.specs.PartViews.{part_before, joined}
 use Rattle.mime_type.specs.Head.{head_at}
 use Rattle.mime_tree.specs.Tree.{closed, node_at}
 use Rattle.mime_tree.specs.Places.{IsPlaced, AllPlaced}
@@ -115,6 +115,6 @@ pub numbered_placed : (size : ℕ) (x : Node) (v : Option ℕ) → IsPlaced size
 numbered_placed size x v h = record { begins = h.begins; ends = h.ends; inside = h.inside }
 
 -- one more part at its byte offsets
-pub placed_push : (size : ℕ) (ps : List Part) (p : Part) → AllPlaced size (joined ps none) → AllPlaced size (tree_of p none) → AllPlaced size (joined (ps ++ p ∷ []) none)
+pub placed_push : (size : ℕ) (ps : List Part) (p : Part) → AllPlaced size (joined ps none) → AllPlaced size (part_before p none) → AllPlaced size (joined (ps ++ p ∷ []) none)
 placed_push size [] p h k = k
 placed_push size (q ∷ qs) p h k = (h.0, h.1, placed_push size qs p h.2 k)

@@ -5,7 +5,7 @@ use Rattle.mime_cut.specs.declared.line_kind.LineKind.{LineKind}
 use Rattle.mime_cut.specs.declared.line_kind.LineKind.TheVariants.{Other, DelimiterLine, CloseDelimiter}
 use Rattle.mime_cut.specs.Cut.{Piece, piece, after_line}
 use Rattle.mime_type.specs.PartTrees.{Node, PartTrees, none, part}
-use Rattle.mime_type.specs.PartViews.{node_of, tree_of, joined}
+use Rattle.mime_type.specs.PartViews.{node_of, part_before, joined}
 use Rattle.mime_type.specs.declared.part.Part.{Part}
 use Rattle.mime_tree.specs.Tree.{is_digest, node_at, within, part_tree}
 use Rattle.mime_tree.specs.PartLimit.{kept, numbered, number_of, next_number, parts_of}
@@ -105,12 +105,12 @@ inner_more (suc levels) digest p node body h e f =
 abbrev pub onto : List Part → Taken → Taken
 onto items r = took (joined items r.parts) r.left r.number
 
-joined_push : (ps : List Part) (p : Part) (later : PartTrees) → joined (ps ++ p ∷ []) later ≡ joined ps (tree_of p later)
+joined_push : (ps : List Part) (p : Part) (later : PartTrees) → joined (ps ++ p ∷ []) later ≡ joined ps (part_before p later)
 joined_push [] p later = refl
 joined_push (q ∷ qs) p later = ap (part (node_of q) q.parts) (joined_push qs p later)
 
 -- one more of them
-pub onto_push : (items : List Part) (p : Part) (r s : Taken) → s ≡ took (tree_of p r.parts) r.left r.number → onto (items ++ p ∷ []) r ≡ onto items s
+pub onto_push : (items : List Part) (p : Part) (r s : Taken) → s ≡ took (part_before p r.parts) r.left r.number → onto (items ++ p ∷ []) r ≡ onto items s
 onto_push items p r s e = ap (λ f. took f r.left r.number) (joined_push items p r.parts) ∙ ap (onto items) (sym e)
 
 -- nothing more is taken

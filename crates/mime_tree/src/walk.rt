@@ -2,7 +2,7 @@
 ghost use Rattle.std.specs.Prelude.{◌≡◌, ◌≤◌, ◌<◌, ◌+◌, ◌-◌, length, slice_range, IfOk, OnOk};
 ghost use Rattle.mime_cut.specs.Cut.{piece};
 ghost use Rattle.mime_type.specs.PartTrees.{none};
-ghost use Rattle.mime_type.specs.PartViews.{node_of, tree_of};
+ghost use Rattle.mime_type.specs.PartViews.{node_of, part_before};
 ghost use Rattle.mime_tree.specs.Tree.{part_tree, within, is_digest as digest_of};
 ghost use Rattle.mime_tree.specs.PartLimit.{parts_of};
 ghost use Rattle.mime_tree.specs.Places.{AllPlaced};
@@ -44,8 +44,8 @@ fn read_part_tree(
     requires room { budget.old.number + budget.old.left ≤ MAX_PARTS + 1 }
     ensures taken { IfOk result (λ p. taken (part_tree levels digest
         (piece start (slice_range message.now start end)) none) budget.old.left budget.old.number
-        ≡ record { parts = tree_of p none; left = budget.new.left; number = budget.new.number }) }
-    ensures placed { IfOk result (λ p. AllPlaced (length message.now) (tree_of p none)) }
+        ≡ record { parts = part_before p none; left = budget.new.left; number = budget.new.number }) }
+    ensures placed { IfOk result (λ p. AllPlaced (length message.now) (part_before p none)) }
     ensures room { OnOk result (budget.new.number + budget.new.left ≤ MAX_PARTS + 1) }
 {
     let mut part = read_part(alloc, message, start, end, levels, digest)?;
@@ -117,9 +117,9 @@ fn parts_within(
 /// the first `MAX_PARTS` are left out. Leaves are numbered from 1 in that order. It fails only if
 /// memory runs out.
 pub fn parts(alloc: Global, bytes: &[u8]) -> Result<Part, NoMemory>
-    ensures tree { IfOk result (λ p. tree_of p none ≡ parts_of bytes.now) }
+    ensures tree { IfOk result (λ p. part_before p none ≡ parts_of bytes.now) }
     // Each part's body can be read at its byte offsets.
-    ensures places { IfOk result (λ p. AllPlaced (length bytes.now) (tree_of p none)) }
+    ensures places { IfOk result (λ p. AllPlaced (length bytes.now) (part_before p none)) }
 {
     let mut budget = Budget {
         left: MAX_PARTS,

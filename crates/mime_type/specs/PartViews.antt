@@ -22,10 +22,10 @@ node_of p = record {
 }
 
 -- a part with those within it, before others
-abbrev pub tree_of : Part → PartTrees → PartTrees
-tree_of p later = part (node_of p) p.parts later
+abbrev pub part_before : Part → PartTrees → PartTrees
+part_before p later = part (node_of p) p.parts later
 
 -- parts in their order, before others
 abbrev pub joined : List Part → PartTrees → PartTrees
 joined [] later = later
-joined (p ∷ ps) later = tree_of p (joined ps later)
+joined (p ∷ ps) later = part_before p (joined ps later)

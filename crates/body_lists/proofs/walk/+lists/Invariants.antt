@@ -1,12 +1,12 @@
 use Rattle.std.proofs.Common.{◌≡◌, true, ◌+◌, ◌*◌, drop}
 use Rattle.mime_type.specs.PartTrees.{none, part_count}
-use Rattle.mime_type.specs.PartViews.{tree_of, joined}
+use Rattle.mime_type.specs.PartViews.{part_before, joined}
 use Rattle.body_lists.specs.Lists.{both, given}
 use Rattle.body_lists.specs.Views.{lists_of, open_of, place_of}
 use Rattle.body_lists.proofs.walk.+lists.Given as goal
 
 abbrev pub decreases-add_part : goal.decreases-add_part
-decreases-add_part l = 2 * part_count (tree_of l.part.now none)
+decreases-add_part l = 2 * part_count (part_before l.part.now none)
 
 abbrev pub decreases-add_parts : goal.decreases-add_parts
 decreases-add_parts l = 2 * part_count (joined l.parts.now none) + 1

@@ -1,13 +1,13 @@
 use Rattle.std.proofs.Common.{◌≡◌, ◌+◌, ◌*◌, drop}
 use Rattle.std.specs.List.{list_any}
 use Rattle.mime_type.specs.PartTrees.{none, part_count}
-use Rattle.mime_type.specs.PartViews.{tree_of, joined}
+use Rattle.mime_type.specs.PartViews.{part_before, joined}
 use Rattle.mime_tree.specs.PartLimit.{walked}
 use Rattle.mail_summary.specs.Leaves.{shows_attachment}
 use Rattle.mail_summary.proofs.leaves.+attached.Given as goal
 
 abbrev pub decreases-any_shows : goal.decreases-any_shows
-decreases-any_shows l = 2 * part_count (tree_of l.part.now none)
+decreases-any_shows l = 2 * part_count (part_before l.part.now none)
 
 abbrev pub decreases-any_shows_within : goal.decreases-any_shows_within
 decreases-any_shows_within l = 2 * part_count (joined l.parts.now none) + 1

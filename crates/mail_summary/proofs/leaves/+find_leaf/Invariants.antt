@@ -1,11 +1,11 @@
 use Rattle.std.proofs.Common.{◌≡◌, ◌+◌, ◌*◌, drop}
 use Rattle.mime_type.specs.PartTrees.{none, part_count}
-use Rattle.mime_type.specs.PartViews.{tree_of, joined}
+use Rattle.mime_type.specs.PartViews.{part_before, joined}
 use Rattle.mail_summary.specs.Leaves.{leaf_numbered}
 use Rattle.mail_summary.proofs.leaves.+find_leaf.Given as goal
 
 abbrev pub decreases-find_leaf : goal.decreases-find_leaf
-decreases-find_leaf l = 2 * part_count (tree_of l.part.now none)
+decreases-find_leaf l = 2 * part_count (part_before l.part.now none)
 
 abbrev pub decreases-leaf_within : goal.decreases-leaf_within
 decreases-leaf_within l = 2 * part_count (joined l.parts.now none) + 1

@@ -1,6 +1,6 @@
 use Rattle.std.proofs.Common.{◌≡◌, ◌∙◌, ap, sym, subst, length, List}
 use Rattle.mime_type.specs.PartTrees.{Node, none}
-use Rattle.mime_type.specs.PartViews.{tree_of}
+use Rattle.mime_type.specs.PartViews.{part_before}
 use Rattle.mime_tree.specs.PartLimit.{walked, parts_of}
 use Rattle.body_lists.specs.Lists.{lists_in}
 use Rattle.std.specs.Prelude.{All}
@@ -21,7 +21,7 @@ write_members-requires-clause-read c =
       tree = tree;
       placed = c.in_ok-root.ensures.places;
       walk = walk ∙ ap walked tree;
-      places = subst (λ (xs : List Node). ArePlaced size xs) (sym walk) (walked_placed size (tree_of c.in_ok-root.root none) c.in_ok-root.ensures.places);
+      places = subst (λ (xs : List Node). ArePlaced size xs) (sym walk) (walked_placed size (part_before c.in_ok-root.root none) c.in_ok-root.ensures.places);
       lists = c.in_ok-lists.ensures ∙ ap lists_in tree;
       sizes = subst (λ (xs : List BodySize). All (IsSizeOf c.args.bytes.now) xs) (sym c.as_slice-3.ensures.value) c.in_ok-sizes.ensures;
     }
@@ -30,4 +30,4 @@ pub sizes_for-requires : goal.sizes_for-requires
 sizes_for-requires c =
     let size = length c.args.bytes.now in
     let walk = ap nodes_of c.as_slice.ensures.value ∙ c.in_ok-parts.ensures in
-    subst (λ (xs : List Node). ArePlaced size xs) (sym walk) (walked_placed size (tree_of c.in_ok-root.root none) c.in_ok-root.ensures.places)
+    subst (λ (xs : List Node). ArePlaced size xs) (sym walk) (walked_placed size (part_before c.in_ok-root.root none) c.in_ok-root.ensures.places)

@@ -1,12 +1,12 @@
 use Rattle.std.proofs.Common.{◌≡◌, ◌+◌, ◌*◌, ◌++◌, drop}
 use Rattle.mime_type.specs.PartTrees.{none, part_count}
-use Rattle.mime_type.specs.PartViews.{tree_of, joined}
+use Rattle.mime_type.specs.PartViews.{part_before, joined}
 use Rattle.mime_tree.specs.PartLimit.{walked}
 use Rattle.mail_view.specs.Views.{nodes_of}
 use Rattle.mail_view.proofs.part_list.+walk.Given as goal
 
 abbrev pub decreases-add_part : goal.decreases-add_part
-decreases-add_part l = 2 * part_count (tree_of l.part.now none)
+decreases-add_part l = 2 * part_count (part_before l.part.now none)
 
 abbrev pub decreases-add_parts : goal.decreases-add_parts
 decreases-add_parts l = 2 * part_count (joined l.parts.now none) + 1

@@ -1,11 +1,11 @@
 use Rattle.std.proofs.Common.{◌≡◌, ◌+◌, ◌*◌, ◌++◌, drop}
 use Rattle.mime_type.specs.PartTrees.{none, part_count}
-use Rattle.mime_type.specs.PartViews.{tree_of, joined}
+use Rattle.mime_type.specs.PartViews.{part_before, joined}
 use Rattle.mail_view.specs.Parts.{structures}
 use Rattle.mail_view.proofs.structure.+structure.Given as goal
 
 abbrev pub decreases-write_structure : goal.decreases-write_structure
-decreases-write_structure l = 2 * part_count (tree_of l.part.now none)
+decreases-write_structure l = 2 * part_count (part_before l.part.now none)
 
 abbrev pub decreases-write_structures : goal.decreases-write_structures
 decreases-write_structures l = 2 * part_count (joined l.parts.now none) + 1

@@ -1,12 +1,12 @@
 use Rattle.std.proofs.Common.{◌≡◌, ◌+◌, ◌*◌, ◌++◌, drop}
 use Rattle.mime_type.specs.PartTrees.{none, part_count}
-use Rattle.mime_type.specs.PartViews.{tree_of, joined}
+use Rattle.mime_type.specs.PartViews.{part_before, joined}
 use Rattle.mime_tree.specs.PartLimit.{walked}
 use Rattle.message_texts.specs.Texts.{part_texts}
 use Rattle.message_texts.proofs.bodies.+bodies.Given as goal
 
 abbrev pub decreases-push_texts : goal.decreases-push_texts
-decreases-push_texts l = 2 * part_count (tree_of l.part.now none)
+decreases-push_texts l = 2 * part_count (part_before l.part.now none)
 
 abbrev pub decreases-push_all_texts : goal.decreases-push_all_texts
 decreases-push_all_texts l = 2 * part_count (joined l.parts.now none) + 1

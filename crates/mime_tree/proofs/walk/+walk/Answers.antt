@@ -3,7 +3,7 @@ use Rattle.std.specs.Prelude.{slice_range}
 use Rattle.mime_lines.specs.Lines.{lines}
 use Rattle.mime_cut.specs.Cut.{piece, cut, after_line}
 use Rattle.mime_type.specs.PartTrees.{none, part}
-use Rattle.mime_type.specs.PartViews.{node_of, tree_of, joined}
+use Rattle.mime_type.specs.PartViews.{node_of, part_before, joined}
 use Rattle.mime_tree.specs.Tree.{part_tree, trees_of, within}
 use Rattle.mime_tree.specs.Tree.{is_digest as digest_of}
 use Rattle.mime_tree.specs.Places.{AllPlaced}
@@ -102,7 +102,7 @@ parts_within-loop-found-preserved t c =
     let k = c.read_part_tree.new.budget.left in
     let j = c.read_part_tree.new.budget.number in
     let step : taken (trees_of each (after_line b c.loop-found.found.kind offset (lines rest))) c.loop-found.budget.left c.loop-found.budget.number
-    ≡ took (tree_of c.in_ok-inner.inner (taken (trees_of each later) k j).parts) (taken (trees_of each later) k j).left (taken (trees_of each later) k j).number =
+    ≡ took (part_before c.in_ok-inner.inner (taken (trees_of each later) k j).parts) (taken (trees_of each later) k j).left (taken (trees_of each later) k j).number =
     ap (λ ps. taken (trees_of each ps) c.loop-found.budget.left c.loop-found.budget.number) opens
     ∙ part_first (c.args.levels - 1) c.is_digest-digest.result now (trees_of each later) c.loop-found.budget.left c.loop-found.budget.number k j
     (node_of c.in_ok-inner.inner) c.in_ok-inner.inner.parts some c.in_ok-inner.ensures.taken in
