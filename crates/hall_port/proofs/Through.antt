@@ -6,7 +6,7 @@ use Rattle.jm_json.specs.Call.{Call}
 use Rattle.jm_json.specs.Reading.{Reading, not_json, not_whole, whole, reading_of}
 use Rattle.jm_json.specs.declared.invocation.Created.{Created}
 use Rattle.jm_json.specs.declared.invocation.Replied.{Replied}
-use Rattle.method_batch.specs.Answer.{Asked as AskedCall, HasBegunCalls, Runs, StopsAtFirst, StopsPrepared, is_echo}
+use Rattle.method_batch.specs.Answer.{Asked, HasBegunCalls, Runs, StopsAtFirst, StopsPrepared, is_echo}
 use Rattle.method_batch.specs.Method.{core_capability, mail_capability}
 use Rattle.method_batch.specs.Outcome.{HasBegunAnswer, HasBegunBy as HasBegunRequestBy, HasBegunReading, HasBegunUnless, IsAnswer, IsAnswerBy, IsOutcomeBy, IsOutcomeUnless, beginning}
 use Rattle.method_batch.specs.Prepared.{Preparation, preparation, ready, refused}
@@ -16,7 +16,7 @@ use Rattle.method_batch.specs.declared.outcome.Problem.{Problem}
 use Rattle.method_batch.specs.declared.progress.Progress.{Progress}
 use Rattle.method_batch.specs.declared.request.Request.{Request}
 use Rattle.jmap_http.specs.Connections.{AreExchanges, IsCutShort, IsEnding, IsExchange, LinkSeen, Serves, Stage, asked_of}
-use Rattle.jmap_http.specs.Responses.{Asked, HasBegunApi, HasBegunBlob, HasBegunBy, HasBegunRequest, HasBegunResource, HasBegunUpload, IsResourceResponse, IsResponse, IsResponseBy, is_refused}
+use Rattle.jmap_http.specs.Responses.{AskedRequest, HasBegunApi, HasBegunBlob, HasBegunBy, HasBegunRequest, HasBegunResource, HasBegunUpload, IsResourceResponse, IsResponse, IsResponseBy, is_refused}
 use Rattle.jmap_http.specs.Authorization.{user_of}
 use Rattle.jmap_http.specs.Steps.{UserSteps}
 use Rattle.jmap_http.specs.Targets.{ApiResource, BlobResource, Missing, Resource, SessionResource, UploadResource, resource_of}
@@ -49,7 +49,7 @@ module _ {S : Type 0} (steps : UserSteps S) (K : S → S → Type 0) (kept : IsK
 
   -- ---- a request
 
-  runs : (s : S) (asked : List AskedCall) (s' : S) → Runs steps.answers s asked s' → K s s'
+  runs : (s : S) (asked : List Asked) (s' : S) → Runs steps.answers s asked s' → K s s'
   runs s [] s' is = still s s' is
   runs s (a ∷ rest) s' (m, first, more) = kept.go s m s' (kept.answers s a.call a.made a.replied m first) (runs m rest s' more)
 
@@ -106,12 +106,12 @@ module _ {S : Type 0} (steps : UserSteps S) (K : S → S → Type 0) (kept : IsK
   resource s s' index time user fields body r (UploadResource a) (m, begun, (stored, is, shown)) = kept.go s m s' (kept.begins s index time m begun) (kept.uploads m a.number body stored s' is)
   resource s s' index time user fields body r (BlobResource a blob accept) (m, begun, (o, is, shown)) = kept.go s m s' (kept.begins s index time m begun) (kept.reads m a.number blob o s' is)
 
-  response_by : (users : List User) (s s' : S) (time : ℕ) (q : Asked) (r : Response) (o : Option ℕ) → IsResponseBy steps users s s' time q o r → K s s'
+  response_by : (users : List User) (s s' : S) (time : ℕ) (q : AskedRequest) (r : Response) (o : Option ℕ) → IsResponseBy steps users s s' time q o r → K s s'
   response_by users s s' time q r None w = still s s' w.0
   response_by users s s' time q r (Some index) (user, is, w) =
       by_cond (is_refused (resource_of user.accounts q.target) q.method) _ _ _ (λ u. still s s' u.0) (resource s s' index time user q.fields q.body r (resource_of user.accounts q.target)) w
 
-  response : (users : List User) (s s' : S) (time : ℕ) (q : Asked) (r : Response) → IsResponse steps users s s' time q r → K s s'
+  response : (users : List User) (s s' : S) (time : ℕ) (q : AskedRequest) (r : Response) → IsResponse steps users s s' time q r → K s s'
   response users s s' time q r w = response_by users s s' time q r (user_of users q.fields) w
 
   begun_api : (s s' : S) (body : List ℕ) → HasBegunApi steps s s' body → K s s'
@@ -134,12 +134,12 @@ module _ {S : Type 0} (steps : UserSteps S) (K : S → S → Type 0) (kept : IsK
   begun_resource s s' index time body (UploadResource a) (inr (m, begun, w)) = kept.go s m s' (kept.begins s index time m begun) (begun_upload m s' a body w)
   begun_resource s s' index time body (BlobResource a blob accept) (m, begun, w) = kept.go s m s' (kept.begins s index time m begun) (begun_blob m s' a blob w)
 
-  begun_by : (users : List User) (s s' : S) (time : ℕ) (q : Asked) (o : Option ℕ) → HasBegunBy steps users s s' time q o → K s s'
+  begun_by : (users : List User) (s s' : S) (time : ℕ) (q : AskedRequest) (o : Option ℕ) → HasBegunBy steps users s s' time q o → K s s'
   begun_by users s s' time q None is = still s s' is
   begun_by users s s' time q (Some index) (user, is, w) =
       by_cond (is_refused (resource_of user.accounts q.target) q.method) _ _ _ (still s s') (begun_resource s s' index time q.body (resource_of user.accounts q.target)) w
 
-  begun : (users : List User) (s s' : S) (time : ℕ) (q : Asked) → HasBegunRequest steps users s s' time q → K s s'
+  begun : (users : List User) (s s' : S) (time : ℕ) (q : AskedRequest) → HasBegunRequest steps users s s' time q → K s s'
   begun users s s' time q w = begun_by users s s' time q (user_of users q.fields) w
 
   -- ---- a connection
@@ -160,7 +160,7 @@ module _ {S : Type 0} (steps : UserSteps S) (K : S → S → Type 0) (kept : IsK
   cut_short users ends n x y written (size, all, is, inr (inl (asks, w))) = exchange users ends n x y asks all w
   cut_short users ends n x y written (size, all, is, inr (inr (status, w))) = same_stage x y w.same
 
-  lost : (users : List User) (x y : Stage S) (time : ℕ) (q : Asked) → HasBegunRequest steps users x.state y.state time q ⊎ ((r : Response) × IsResponse steps users x.state y.state time q r) → K x.state y.state
+  lost : (users : List User) (x y : Stage S) (time : ℕ) (q : AskedRequest) → HasBegunRequest steps users x.state y.state time q ⊎ ((r : Response) × IsResponse steps users x.state y.state time q r) → K x.state y.state
   lost users x y time q (inl w) = begun users x.state y.state time q w
   lost users x y time q (inr (r, w)) = response users x.state y.state time q r w
 

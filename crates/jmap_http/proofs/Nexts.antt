@@ -16,7 +16,7 @@ use Rattle.http_wire.specs.Requests.{Complete, IsMessage, requests, IsDue, names
 use Rattle.http_wire.specs.Responses.{continue_bytes}
 use Rattle.server_users.specs.declared.users.User.{User}
 use Rattle.jmap_http.specs.Steps.{UserSteps}
-use Rattle.jmap_http.specs.Responses.{Asked, IsResponse, HasBegunRequest, blank_response}
+use Rattle.jmap_http.specs.Responses.{AskedRequest, IsResponse, HasBegunRequest, blank_response}
 use Rattle.jmap_http.specs.Connections.{IsExchange, IsInterim, IsRefusedBy, asked_of, asks_to_end, sent_bytes, is_at_limit, refusal_of, unavailable_bytes}
 use Rattle.jmap_http.specs.Endings.{ServesNext, IsSent, IsAnswered, IsPrefixPut, IsRefusalSent, IsRefusedAs}
 use Rattle.jmap_http.specs.Views.{asked}
@@ -165,7 +165,7 @@ interim_of : (bytes : List ℕ) (held hm : Option (List ℕ)) → (IsDue bytes �
 interim_of bytes held hm (inl due) = (continue_bytes, inl (due.0, refl), due.1)
 interim_of bytes held hm (inr none) = ([], inr (none.0, refl), none.1)
 
-abbrev as_asked : (method target : List ℕ) (fields : List (List ℕ × List ℕ)) (body : List ℕ) → Asked
+abbrev as_asked : (method target : List ℕ) (fields : List (List ℕ × List ℕ)) (body : List ℕ) → AskedRequest
 as_asked method target fields body = record { method = method; target = target; fields = fields; body = body }
 
 asked_same : (m m' t t' : List ℕ) (f f' : List (List ℕ × List ℕ)) (b b' : List ℕ) → m ≡ m' → t ≡ t' → f ≡ f' → b ≡ b' → as_asked m t f b ≡ as_asked m' t' f' b'

@@ -11,7 +11,7 @@ use Rattle.http_parts.specs.Heads.{begun_bytes}
 use Rattle.http_wire.specs.Responses.{response_bytes, continue_bytes}
 use Rattle.server_users.specs.declared.users.User.{User}
 use Rattle.jmap_http.specs.Steps.{UserSteps}
-use Rattle.jmap_http.specs.Responses.{Asked, IsResponse, HasBegunRequest, blank_response, limit_response}
+use Rattle.jmap_http.specs.Responses.{AskedRequest, IsResponse, HasBegunRequest, blank_response, limit_response}
 use Rattle.jmap_http.specs.declared.limits.TheConstants.{MAX_REQUESTS_PER_CONNECTION}
 use Rattle.jmap_http.specs.declared.response.Response.{Response}
 use Rattle.jmap_http.specs.declared.served.Served.{Served}
@@ -20,7 +20,7 @@ use Rattle.jmap_http.specs.declared.served.Served.TheVariants.{End, CutOff, Read
 -- ---- one request
 
 -- the request with this head and body
-abbrev pub asked_of : RequestHead → List ℕ → Asked
+abbrev pub asked_of : RequestHead → List ℕ → AskedRequest
 asked_of h body = record {
   method = h.method;
   target = h.target;

@@ -8,7 +8,7 @@ use Rattle.server_users.specs.declared.users.User.{User}
 use Rattle.jmap_http.specs.Steps.{UserSteps}
 use Rattle.http_parts.specs.declared.fault.WireFault.{WireFault}
 use Rattle.http_parts.specs.declared.fault.WireFault.TheVariants.{End as NoRequest, ReadFault as NotRead, WriteFault as NotWritten, BadHead, HeadTooLong, BodyTooLong, CutOff as IsCutOff, NoMemory as OutOfMemory}
-use Rattle.jmap_http.specs.Responses.{Asked, IsResponse, HasBegunRequest, blank_response}
+use Rattle.jmap_http.specs.Responses.{AskedRequest, IsResponse, HasBegunRequest, blank_response}
 use Rattle.jmap_http.specs.Connections.{sent_bytes, unavailable_bytes, refusal_of, is_at_limit, IsExchange, IsEnding, seen_of}
 use Rattle.jmap_http.specs.declared.response.Response.{Response}
 use Rattle.jmap_http.specs.declared.served.Served.{Served}
@@ -83,8 +83,8 @@ IsRefusedAs OutOfMemory old new puts puts' served =
 
 -- A whole request was answered: its response was sent; or it ended out of memory, which was sent.
 abbrev pub IsAnswered : {S : Type 0} → UserSteps S → List User → (s s' : S) → (times times' : Option
-    (List ℕ)) → Asked → (asks at_limit : Bool) → (old new : Option (List ℕ)) → (puts puts' : ℕ)
-    → Option Served → Type 0
+    (List ℕ)) → AskedRequest → (asks at_limit : Bool) → (old new : Option (List ℕ))
+    → (puts puts' : ℕ) → Option Served → Type 0
 IsAnswered steps users s s' times times' q asks at_limit old new puts puts' served =
     (time : ℕ) × Shows times times' time
     × (((response : Response) × IsResponse steps users s s' time q response

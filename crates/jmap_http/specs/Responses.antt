@@ -19,7 +19,7 @@ use Rattle.jmap_http.specs.declared.port.Stored.TheVariants.{Kept, Full, Failed}
 use Rattle.jmap_http.specs.declared.response.Response.{Response}
 
 -- a request: its method, its target, the names and values of its fields, and its body
-pub record Asked : Type 0 where
+pub record AskedRequest : Type 0 where
   pub method : List ℕ
   pub target : List ℕ
   pub fields : List (List ℕ × List ℕ)
@@ -153,22 +153,22 @@ abbrev pub is_refused : Resource → List ℕ → Bool
 is_refused resource method = not (is_missing resource) && not (is_method_of resource method)
 
 -- Unknown paths and accounts come first (404), then other methods (405).
-abbrev pub IsResponseOf : {S : Type 0} → UserSteps S → S → S → (index time : ℕ) → User → Asked
-    → Resource → Response → Type 0
+abbrev pub IsResponseOf : {S : Type 0} → UserSteps S → S → S → (index time : ℕ) → User
+    → AskedRequest → Resource → Response → Type 0
 IsResponseOf steps s s' index time user q resource r =
     cond (is_refused resource q.method) (IsUnasked s s' (blank_response 405) r)
     (IsResourceResponse steps s s' index time user q.fields q.body resource r)
 
 -- a request without the token of a user (401), or of the user with this index
-abbrev pub IsResponseBy : {S : Type 0} → UserSteps S → List User → S → S → ℕ → Asked → Option ℕ
-    → Response → Type 0
+abbrev pub IsResponseBy : {S : Type 0} → UserSteps S → List User → S → S → ℕ → AskedRequest
+    → Option ℕ → Response → Type 0
 IsResponseBy steps users s s' time q None r = IsUnasked s s' (blank_response 401) r
 IsResponseBy steps users s s' time q (Some index) r =
     (user : User) × (get_or users index user ≡ user)
     × IsResponseOf steps s s' index time user q (resource_of user.accounts q.target) r
 
 -- the response to a whole request, for which the clock showed this timestamp
-abbrev pub IsResponse : {S : Type 0} → UserSteps S → List User → S → S → ℕ → Asked → Response
+abbrev pub IsResponse : {S : Type 0} → UserSteps S → List User → S → S → ℕ → AskedRequest → Response
     → Type 0
 IsResponse steps users s s' time q r =
     IsResponseBy steps users s s' time q (user_of users q.fields) r
@@ -204,19 +204,20 @@ HasBegunResource steps s s' index time body (UploadResource a) =
 HasBegunResource steps s s' index time body (BlobResource a blob accept) =
     IsBegun steps s index time (λ m. HasBegunBlob steps m s' a blob)
 
-abbrev pub HasBegunOf : {S : Type 0} → UserSteps S → S → S → (index time : ℕ) → Asked → Resource
-    → Type 0
+abbrev pub HasBegunOf : {S : Type 0} → UserSteps S → S → S → (index time : ℕ) → AskedRequest
+    → Resource → Type 0
 HasBegunOf steps s s' index time q resource =
     cond (is_refused resource q.method) (s' ≡ s)
     (HasBegunResource steps s s' index time q.body resource)
 
-abbrev pub HasBegunBy : {S : Type 0} → UserSteps S → List User → S → S → ℕ → Asked → Option ℕ
+abbrev pub HasBegunBy : {S : Type 0} → UserSteps S → List User → S → S → ℕ → AskedRequest → Option ℕ
     → Type 0
 HasBegunBy steps users s s' time q None = s' ≡ s
 HasBegunBy steps users s s' time q (Some index) =
     (user : User) × (get_or users index user ≡ user)
     × HasBegunOf steps s s' index time q (resource_of user.accounts q.target)
 
-abbrev pub HasBegunRequest : {S : Type 0} → UserSteps S → List User → S → S → ℕ → Asked → Type 0
+abbrev pub HasBegunRequest : {S : Type 0} → UserSteps S → List User → S → S → ℕ → AskedRequest
+    → Type 0
 HasBegunRequest steps users s s' time q =
     HasBegunBy steps users s s' time q (user_of users q.fields)

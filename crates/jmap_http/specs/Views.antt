@@ -2,7 +2,7 @@
 use Rattle.jmap_http.specs.Targets.{Resource as TheResource, Missing, SessionResource, ApiResource, UploadResource, BlobResource}
 use Rattle.http_wire.specs.Fields.{pairs}
 use Rattle.http_wire.specs.declared.request.HttpRequest.{HttpRequest}
-use Rattle.jmap_http.specs.Responses.{Asked}
+use Rattle.jmap_http.specs.Responses.{AskedRequest}
 use Rattle.jmap_http.specs.declared.targets.Resource.{Resource}
 use Rattle.jmap_http.specs.declared.targets.Resource.TheVariants.{Missing as NoResource, Session, Api, Upload, Blob}
 
@@ -15,5 +15,5 @@ resource_as (Upload a) = UploadResource a.now
 resource_as (Blob a blob accept) = BlobResource a.now blob.now accept.now
 
 -- a request that was read
-abbrev pub asked : HttpRequest → Asked
+abbrev pub asked : HttpRequest → AskedRequest
 asked r = record { method = r.method; target = r.target; fields = pairs r.fields; body = r.body }
