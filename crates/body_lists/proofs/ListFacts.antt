@@ -4,7 +4,7 @@ use Rattle.std.specs.Prelude.{is_some, if◌then◌else◌}
 use Rattle.mime_type.specs.PartTrees.{Node, none, part_count}
 use Rattle.mime_type.specs.PartViews.{part_before, joined}
 use Rattle.mime_type.specs.declared.part.Part.{Part}
-use Rattle.body_lists.specs.Lists.{Lists, Open, Place, both, nothing, or_else, ended, inside, item_gives, leaf_gives}
+use Rattle.body_lists.specs.Lists.{Lists, Open, EnclosingList, both, nothing, or_else, ended, inside, item_gives, leaf_gives}
 
 pub filled : (n : ℕ) (ns other : List ℕ) → n < length ns → ns ≡ take n ns ++ or_else (drop n ns) other
 filled n [] other h = absurd (omega arith)
@@ -32,5 +32,5 @@ or_else-twice [] [] = refl
 or_else-twice [] (n ∷ ns) = refl
 or_else-twice (m ∷ ms) b = refl
 
-pub multipart_gives : (place : Place) (first : Bool) (taking : Open) (x : Node) (new : Lists) → is_some x.boundary ≡ true → item_gives place first taking x new ≡ ended (inside place x) taking new
+pub multipart_gives : (place : EnclosingList) (first : Bool) (taking : Open) (x : Node) (new : Lists) → is_some x.boundary ≡ true → item_gives place first taking x new ≡ ended (inside place x) taking new
 multipart_gives place first taking x new h = ap (λ b. if b then ended (inside place x) taking new else leaf_gives place first taking x) h

@@ -28,7 +28,7 @@ pub record Open : Type 0 where
 
 -- the list that items are in: whether it is an alternative, whether it is related, and whether it
 -- is in an alternative, its own or one further out
-pub record Place : Type 0 where
+pub record EnclosingList : Type 0 where
   pub alternative : Bool
   pub related : Bool
   pub within : Bool
@@ -55,11 +55,11 @@ abbrev pub is_related : Node → Bool
 is_related x = bytes_eq x.media (codes "multipart/related")
 
 -- the list of the message alone, as in a mixed multipart
-abbrev pub top : Place
+abbrev pub top : EnclosingList
 top = record { alternative = false; related = false; within = false }
 
 -- the list of a multipart that is in a list
-abbrev pub inside : Place → Node → Place
+abbrev pub inside : EnclosingList → Node → EnclosingList
 inside place x = record {
   alternative = is_alternative x;
   related = is_related x;
@@ -72,7 +72,7 @@ is_attached (Some disposition) = bytes_eq disposition (codes "attachment")
 
 -- whether a leaf may be shown where it is: no attachment, of a type that can be shown, and the
 -- first of its list, or else media or without a name, and in no related list
-abbrev pub is_shown_in_place : Place → Bool → Node → Bool
+abbrev pub is_shown_in_place : EnclosingList → Bool → Node → Bool
 is_shown_in_place place first x =
     (not (is_multipart x) && not (is_attached x.disposition))
     && ((is_plain x || (is_html x || is_media x))
@@ -91,7 +91,7 @@ leaf_in text html attachments x = record {
 
 -- in an alternative plain text closes html, and HTML closes text, for the rest of this list and
 -- what that contains. It isn't so in the list of the alternative itself.
-abbrev pub open_after : Place → Bool → Open → Node → Open
+abbrev pub open_after : EnclosingList → Bool → Open → Node → Open
 open_after place first open' x =
     if is_shown_in_place place first x && (place.within && not place.alternative)
     then record { text = open'.text && not (is_html x); html = open'.html && not (is_plain x) }
@@ -109,7 +109,7 @@ among_others open' x =
     leaf_in open'.text open'.html (is_media x && not (open'.text && open'.html)) x
 
 -- what a leaf adds
-abbrev pub leaf_gives : Place → Bool → Open → Node → Lists
+abbrev pub leaf_gives : EnclosingList → Bool → Open → Node → Lists
 leaf_gives place first open' x =
     if not (is_shown_in_place place first x) then leaf_in false false true x
     else (if place.alternative then among_alternatives open' x
@@ -122,20 +122,20 @@ or_else (n ∷ ns) other = n ∷ ns
 
 -- at the end of an alternative, if text and html are both open: one to which nothing was added gets
 -- what was added to the other
-abbrev pub ended : Place → Open → Lists → Lists
+abbrev pub ended : EnclosingList → Open → Lists → Lists
 ended place open' new =
     if place.alternative && (open'.text && open'.html)
     then record new { text = or_else new.text new.html; html = or_else new.html new.text }
     else new
 
 -- what an item adds, if the parts within it add this
-abbrev pub item_gives : Place → Bool → Open → Node → Lists → Lists
+abbrev pub item_gives : EnclosingList → Bool → Open → Node → Lists → Lists
 item_gives place first open' x new =
     if is_multipart x then ended (inside place x) open' new else leaf_gives place first open' x
 
 -- what the items of a list add, from one on that is its first or isn't. What is closed within an
 -- item is open again after it.
-abbrev pub given : Place → Bool → Open → PartTrees → Lists
+abbrev pub given : EnclosingList → Bool → Open → PartTrees → Lists
 given place first open' none = nothing
 given place first open' (part x inner later) =
     both (item_gives place first open' x (given (inside place x) true open' inner))

@@ -1,14 +1,14 @@
 // The list that an item is in, and what that says of it (RFC 8621, section 4.1.4).
 ghost use Rattle.std.specs.Prelude.{◌≡◌};
 ghost use Rattle.mime_type.specs.PartViews.{node_of};
-ghost use Rattle.body_lists.specs.Lists.{is_plain as plain_node, is_html as html_node, is_media as media_node, is_attached as attached_by, is_shown_in_place, top as top_place, inside as place_inside, open_after};
-ghost use Rattle.body_lists.specs.Views.{open_of, place_of};
+ghost use Rattle.body_lists.specs.Lists.{is_plain as plain_node, is_html as html_node, is_media as media_node, is_attached as attached_by, is_shown_in_place, top as top_list, inside as list_inside, open_after};
+ghost use Rattle.body_lists.specs.Views.{open_of, enclosing_of};
 
 use mime_type::Part;
 
 /// The list that items are in.
 #[derive(Clone, Copy)]
-pub struct Place {
+pub struct EnclosingList {
     /// Whether it is an alternative's.
     pub alternative: bool,
     /// Whether it is a related multipart's.
@@ -55,12 +55,12 @@ fn is_attached(part: &Part) -> bool
     }
 }
 
-impl Place {
+impl EnclosingList {
     /// Returns the list of the message alone, as in a mixed multipart.
-    pub fn top() -> Place
-        ensures { place_of result ≡ top_place }
+    pub fn top() -> EnclosingList
+        ensures { enclosing_of result ≡ top_list }
     {
-        Place {
+        EnclosingList {
             alternative: false,
             related: false,
             within: false,
@@ -68,13 +68,13 @@ impl Place {
     }
 
     /// Returns the list of a multipart that is in this one.
-    pub fn inside(self, part: &Part) -> Place
-        ensures { place_of result ≡ place_inside (place_of self) (node_of part.now) }
+    pub fn inside(self, part: &Part) -> EnclosingList
+        ensures { enclosing_of result ≡ list_inside (enclosing_of self) (node_of part.now) }
     {
         let media = part.media.as_bytes();
         let alternative = media == b"multipart/alternative".as_slice();
         let related = media == b"multipart/related".as_slice();
-        Place {
+        EnclosingList {
             alternative,
             related,
             within: self.within || alternative,
@@ -83,7 +83,7 @@ impl Place {
 
     /// Returns whether a part may be shown here, as the first of the list or not.
     pub fn shows(self, first: bool, part: &Part) -> bool
-        ensures { result ≡ is_shown_in_place (place_of self) first (node_of part.now) }
+        ensures { result ≡ is_shown_in_place (enclosing_of self) first (node_of part.now) }
     {
         if part.boundary.is_some() || is_attached(part) {
             return false;
@@ -97,8 +97,8 @@ impl Place {
 
 impl Open {
     /// Returns which lists are open after a part.
-    pub fn after(self, place: Place, first: bool, part: &Part) -> Open
-        ensures { open_of result ≡ open_after (place_of place) first (open_of self)
+    pub fn after(self, place: EnclosingList, first: bool, part: &Part) -> Open
+        ensures { open_of result ≡ open_after (enclosing_of place) first (open_of self)
             (node_of part.now) }
     {
         if place.shows(first, part) && place.within && !place.alternative {

@@ -3,9 +3,9 @@ ghost use Rattle.std.specs.Prelude.{◌≡◌, true, ◌++◌, ◌≤◌, take, 
 ghost use Rattle.mime_type.specs.PartTrees.{PartTrees, none};
 ghost use Rattle.mime_type.specs.PartViews.{node_of, part_before, joined};
 ghost use Rattle.body_lists.specs.Lists.{Lists, body_lists, both, given, inside, leaf_in, leaf_gives, ended, item_gives, nothing, number_if, open_after, or_else};
-ghost use Rattle.body_lists.specs.Views.{lists_of, open_of, place_of};
+ghost use Rattle.body_lists.specs.Views.{lists_of, open_of, enclosing_of};
 
-use crate::place::{Open, Place, is_html, is_media, is_plain};
+use crate::enclosing_list::{EnclosingList, Open, is_html, is_media, is_plain};
 use jm_base::{NoMemory, Numbers};
 use mime_type::Part;
 use std::alloc::Global;
@@ -54,13 +54,13 @@ impl BodyLists {
     /// Adds a leaf to the lists that it belongs to.
     fn push_leaf(
         &mut self,
-        place: Place,
+        place: EnclosingList,
         first: bool,
         taking: Open,
         part: &Part,
     ) -> Result<(), NoMemory>
         ensures { OnOk result (lists_of self.new
-            ≡ both (lists_of self.old) (leaf_gives (place_of place) first (open_of taking)
+            ≡ both (lists_of self.old) (leaf_gives (enclosing_of place) first (open_of taking)
             (node_of part.now))) }
     {
         if !place.shows(first, part) {
@@ -107,7 +107,7 @@ impl BodyLists {
     fn end(
         &mut self,
         alloc: Global,
-        place: Place,
+        place: EnclosingList,
         taking: Open,
         text: usize,
         html: usize,
@@ -116,7 +116,7 @@ impl BodyLists {
         requires html { html ≤ length self.old.html }
         ensures { (old new : Lists) → lists_of self.old ≡ both old new → length old.text ≡ text
             → length old.html ≡ html → OnOk result
-            (lists_of self.new ≡ both old (ended (place_of place) (open_of taking) new)) }
+            (lists_of self.new ≡ both old (ended (enclosing_of place) (open_of taking) new)) }
     {
         if !(place.alternative && taking.text && taking.html) {
             return Ok(());
@@ -131,14 +131,14 @@ impl BodyLists {
 fn add_part(
     alloc: Global,
     out: &mut BodyLists,
-    place: Place,
+    place: EnclosingList,
     first: bool,
     taking: Open,
     part: &Part,
 ) -> Result<(), NoMemory>
     ensures { OnOk result (lists_of out.new ≡ both (lists_of out.old)
-        (item_gives (place_of place) first (open_of taking) (node_of part.now)
-        (given (inside (place_of place) (node_of part.now)) true (open_of taking)
+        (item_gives (enclosing_of place) first (open_of taking) (node_of part.now)
+        (given (inside (enclosing_of place) (node_of part.now)) true (open_of taking)
         part.now.parts))) }
 {
     if part.boundary.is_none() {
@@ -156,12 +156,12 @@ fn add_part(
 fn add_parts(
     alloc: Global,
     out: &mut BodyLists,
-    place: Place,
+    place: EnclosingList,
     taking: Open,
     parts: &[Part],
 ) -> Result<(), NoMemory>
     ensures { OnOk result (lists_of out.new ≡ both (lists_of out.old)
-        (given (place_of place) true (open_of taking) (joined parts.now none))) }
+        (given (enclosing_of place) true (open_of taking) (joined parts.now none))) }
 {
     let mut first = true;
     let mut taking = taking;
@@ -187,6 +187,6 @@ pub fn lists(alloc: Global, part: &Part) -> Result<BodyLists, NoMemory>
         text: true,
         html: true,
     };
-    add_part(alloc, &mut out, Place::top(), true, taking, part)?;
+    add_part(alloc, &mut out, EnclosingList::top(), true, taking, part)?;
     Ok(out)
 }

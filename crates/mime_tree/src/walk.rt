@@ -44,7 +44,11 @@ fn read_part_tree(
     requires room { budget.old.number + budget.old.left ≤ MAX_PARTS + 1 }
     ensures taken { IfOk result (λ p. taken (part_tree levels digest
         (piece start (slice_range message.now start end)) none) budget.old.left budget.old.number
-        ≡ record { parts = part_before p none; left = budget.new.left; number = budget.new.number }) }
+        ≡ record {
+            parts = part_before p none;
+            left = budget.new.left;
+            number = budget.new.number;
+        }) }
     ensures placed { IfOk result (λ p. AllPlaced (length message.now) (part_before p none)) }
     ensures room { OnOk result (budget.new.number + budget.new.left ≤ MAX_PARTS + 1) }
 {
