@@ -7,11 +7,11 @@ ghost use Rattle.filter_terms.specs.Targets.{AMailbox, AnEmail, email_in_thread}
 
 use crate::conditions::{EmailCondition, MailboxCondition};
 use crate::emails::email_matches;
-use crate::known::known;
 use crate::mailboxes::mailbox_matches;
 use crate::message_conditions::{MessageCondition, message_matches};
 use crate::terms::Operator;
 use crate::texts::{OpenedMessage, Texts2};
+use crate::without_texts::known;
 use jm_base::NoMemory;
 use mail_records::{Content, Email, Mailbox};
 

@@ -14,7 +14,6 @@ mod emails;
 mod faults;
 mod filter;
 mod invalid;
-mod known;
 mod laws;
 mod mailboxes;
 mod message_conditions;
@@ -23,6 +22,7 @@ mod texts;
 mod thread_scope;
 mod unsupported;
 mod values;
+mod without_texts;
 
 pub use containment::contains;
 pub use emails::{has_all_in_thread, has_keyword, has_some_in_thread};
