@@ -14,8 +14,8 @@ use Rattle.mail_records.proofs.Tables.{lookup-put_same, lookup-put_other, lookup
 use Rattle.state_log.specs.Logs.{changes_counts, ids_in, is_put, note_id, note_of, was_there}
 use Rattle.state_log.specs.declared.notes.Note.{Note}
 use Rattle.change_calls.specs.Changes.{change_only_counts, numbers_with}
-use Rattle.change_calls.specs.Marks.{mark_after, mark_of, marks_after, marks_with}
-use Rattle.change_calls.specs.declared.marks.Mark.{Mark}
+use Rattle.change_calls.specs.TouchedRecords.{mark_after, mark_of, marks_after, marks_with}
+use Rattle.change_calls.specs.declared.touched_records.Mark.{Mark}
 use Rattle.change_calls.proofs.Rising.{keys-insert, lookup-insert}
 
 -- ---- whether a record is there, before and after an edit

@@ -17,8 +17,8 @@ use Rattle.state_log.specs.Logs.{Notes, log_end, note_of}
 use Rattle.state_log.specs.declared.notes.Note.{Note}
 use Rattle.state_log.proofs.Agreement.{ids_in-notes, log_end-of}
 use Rattle.change_calls.specs.Changes.{IsKeptBy, are_only_counts, change_only_counts, created, destroyed, is_some_there, is_there, is_within, may_end, numbers_with, page_end, page_of, touched, updated}
-use Rattle.change_calls.specs.Marks.{IsWalk, are_counts, is_mark, is_same, mark_of, marks_with, numbers_marked, page_with}
-use Rattle.change_calls.specs.declared.marks.Mark.{Mark}
+use Rattle.change_calls.specs.TouchedRecords.{IsWalk, are_counts, is_mark, is_same, mark_of, marks_with, numbers_marked, page_with}
+use Rattle.change_calls.specs.declared.touched_records.Mark.{Mark}
 use Rattle.change_calls.proofs.Greatest.{IsGreatest, greatest_is}
 use Rattle.change_calls.proofs.Marking.{Tells, keys-marks, mark_of-marks, mark_with, tells_with}
 use Rattle.change_calls.proofs.Named.{numbers-more, numbers-rise, within_fails}

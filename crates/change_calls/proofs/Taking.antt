@@ -7,8 +7,8 @@ use Rattle.jm_base.specs.declared.identifiers.Kind.{Kind}
 use Rattle.mail_records.specs.States.{is_kind}
 use Rattle.state_log.specs.declared.notes.Note.{Note}
 use Rattle.change_calls.specs.Changes.{is_within}
-use Rattle.change_calls.specs.Marks.{IsFull, IsTaken, IsWalk, mark_after, mark_of, marks_after, marks_with}
-use Rattle.change_calls.specs.declared.marks.Mark.{Mark}
+use Rattle.change_calls.specs.TouchedRecords.{IsFull, IsTaken, IsWalk, mark_after, mark_of, marks_after, marks_with}
+use Rattle.change_calls.specs.declared.touched_records.Mark.{Mark}
 use Rattle.change_calls.proofs.Rising.{length-insert_new}
 
 -- a note of another kind marks nothing

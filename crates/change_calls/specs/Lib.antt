@@ -1,4 +1,4 @@
 pub mod Changes
-pub mod Marks
+pub mod TouchedRecords
 pub mod Pages
 pub mod Responses

@@ -9,7 +9,7 @@ use Rattle.mail_records.specs.States.{is_kind}
 use Rattle.state_log.specs.declared.notes.Note.{Note}
 use Rattle.change_calls.specs.Changes.{is_some_there, is_within}
 use Rattle.change_calls.specs.declared.page.ChangePage.{ChangePage}
-use Rattle.change_calls.specs.declared.marks.Mark.{Mark}
+use Rattle.change_calls.specs.declared.touched_records.Mark.{Mark}
 
 -- the marks of records, by number
 abbrev pub MarkTable : Type 0

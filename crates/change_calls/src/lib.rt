@@ -7,10 +7,10 @@
 #![tactic(auto)]
 
 mod laws;
-mod marks;
 mod page;
 mod pages;
 mod response;
+mod touched_records;
 
 pub use laws::{pages_are_exact, pages_bring_up_to_date};
 pub use page::{ChangeFault, ChangePage};

@@ -4,9 +4,9 @@ ghost use Rattle.mail_records.specs.Histories.{History};
 ghost use Rattle.mail_records.specs.States.{state_at};
 ghost use Rattle.state_log.specs.Logs.{IsLogOf, log_end};
 ghost use Rattle.change_calls.specs.Changes.{ChangesFail, IsKeptBy, answer_of, answered, is_some_there, maximum_of, page_end, page_of, positive, reached_state};
-ghost use Rattle.change_calls.specs.Marks.{page_with};
+ghost use Rattle.change_calls.specs.TouchedRecords.{page_with};
 
-use crate::marks::{Mark, are_counts, collect_numbers, mark_notes};
+use crate::touched_records::{Mark, are_counts, collect_numbers, mark_notes};
 use crate::{ChangeFault, ChangePage};
 use jm_base::{Kind, NoMemory, Numbers, read_state};
 use state_log::Log;

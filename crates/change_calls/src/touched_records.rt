@@ -2,7 +2,7 @@
 ghost use Rattle.std.specs.Prelude.{◌≡◌, ◌+◌, IfOk, false, length, not, true};
 ghost use Rattle.change_calls.specs.Changes.{is_within};
 ghost use Rattle.mail_records.specs.States.{is_kind};
-ghost use Rattle.change_calls.specs.Marks.{IsFull, IsTaken, IsWalk, are_counts, is_mark, mark_after, mark_of, numbers_marked};
+ghost use Rattle.change_calls.specs.TouchedRecords.{IsFull, IsTaken, IsWalk, are_counts, is_mark, mark_after, mark_of, numbers_marked};
 
 use jm_base::{Kind, NoMemory, Numbers};
 use state_log::Note;

@@ -1,6 +1,6 @@
 use Rattle.std.proofs.Common.{ap, ◌+◌}
 use Rattle.change_calls.proofs.Taking.{IsWalk-full, next_marks}
-use Rattle.change_calls.proofs.marks.mark_notes.Goals as goal
+use Rattle.change_calls.proofs.touched_records.mark_notes.Goals as goal
 
 pub returns-then-not-branch : goal.returns-then-not-branch
 returns-then-not-branch c =

@@ -1,7 +1,7 @@
 use Rattle.std.proofs.Common.{◌≡◌, [], true, length, take}
 use Rattle.change_calls.specs.Changes.{is_within}
-use Rattle.change_calls.specs.Marks.{marks_with}
-use Rattle.change_calls.proofs.marks.mark_notes.Given as goal
+use Rattle.change_calls.specs.TouchedRecords.{marks_with}
+use Rattle.change_calls.proofs.touched_records.mark_notes.Given as goal
 
 abbrev pub invariant-loop-note : goal.invariant-loop-note
 invariant-loop-note l = record {

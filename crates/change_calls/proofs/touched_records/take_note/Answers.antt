@@ -1,7 +1,7 @@
 use Rattle.std.proofs.Common.{◌≡◌, ◌+◌, ◌∙◌, false, is_some, sym, ap, rules}
 use Rattle.change_calls.specs.Changes.{is_within}
 use Rattle.change_calls.proofs.Taking.{IsFull-new}
-use Rattle.change_calls.proofs.marks.take_note.Goals as goal
+use Rattle.change_calls.proofs.touched_records.take_note.Goals as goal
 
 pub returns-then-not-is_within-clause-full : goal.returns-then-not-is_within-clause-full
 returns-then-not-is_within-clause-full c =
