@@ -1,5 +1,5 @@
--- The summary of each message is one that can be kept: its links are at most `MAX_LINKS_PER_EMAIL` and rise, and its date is of the years 0001 to
--- 9999.
+-- The summary of each message is one that can be kept: its links are at most `MAX_LINKS_PER_EMAIL`
+-- and rise, and its date is of the years 0001 to 9999.
 use Rattle.std.proofs.Common.{ltb-true, ◌≤ℤ◌, ◌≡◌, ℕ, ◌+◌, ◌<◌, ◌≤◌, Bool, true, false, cond, List, [], ◌∷◌, length, filter, nat_lt, Option, Some, None, Ordering, Less, Equal, Greater, refl, sym, ap, ◌∙◌, subst, arith, ℤ, pos, negsuc, ◌&&◌, int_le}
 use Rattle.std.specs.List.{AllByRecursion}
 use Rattle.std.specs.List.Sorted.{IsStrictlySortedBy}

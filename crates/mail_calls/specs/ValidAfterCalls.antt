@@ -6,7 +6,6 @@ use Rattle.jm_json.specs.Invocations.{call_of}
 use Rattle.jm_json.specs.declared.invocation.Created.{Created}
 use Rattle.mail_records.specs.Histories.{History, blobs_of, content_of}
 use Rattle.mail_records.specs.declared.edits.Edit.{Edit}
-use Rattle.mail_counts.specs.CountsFlag.{AreCountsFlagsRight}
 use Rattle.mail_summary.specs.Summaries.{summary}
 use Rattle.mail_view.specs.Gets.{Got, invalid, too_large, got, get_of_kind}
 use Rattle.mail_view.specs.Parses.{parse_in}
@@ -124,16 +123,6 @@ import_keeps h call made moment (sets.planned p) low whole is =
     (without_blobs h p.edits p.blobs all.none_brought (all.planned low whole.tidy))
     (few_without h (set_plan call (sets.planned p)) whole all.none_brought)
 
--- the flags of an import are right at every moment
-import_flags : (h : History) (call : Invocation) (made : List Created) (moment : ℕ) (o : Outcome)
-    → IsWholeMail h → import_in h call.args made moment ≡ o
-    → AreCountsFlagsRight (content_of h) (set_plan call o).edits
-import_flags h call made moment (sets.invalid name) whole is = tt
-import_flags h call made moment sets.too_large whole is = tt
-import_flags h call made moment sets.state_mismatch whole is = tt
-import_flags h call made moment (sets.planned p) whole is =
-    (imported (ground_in h) (blobs_of h) call.args made moment p is).flags whole.tidy.tables
-
 -- a call that is rejected changes nothing
 unless_keeps : (h : History) (call : Invocation) (p : Plan) → IsWholeMail h → Keeps h p
     → (o : Option Outcome) → Keeps h (unless_for call p o)
@@ -158,16 +147,6 @@ copies_keep h call carried made moment (sets.planned p) low whole is =
     let all = copied (ground_in h) (blobs_of h) call.args carried made moment p is in
     planned_keeps h (set_plan call (sets.planned p)) whole (all.planned low whole.tidy)
     (all.few whole.blobs)
-
--- the flags of copies are right at every moment
-copies_flags : (h : History) (call : Invocation) (carried : Carried) (made : List Created)
-    (moment : ℕ) (o : Outcome) → IsWholeMail h → place_in h call.args carried made moment ≡ o
-    → AreCountsFlagsRight (content_of h) (set_plan call o).edits
-copies_flags h call carried made moment (sets.invalid name) whole is = tt
-copies_flags h call carried made moment sets.too_large whole is = tt
-copies_flags h call carried made moment sets.state_mismatch whole is = tt
-copies_flags h call carried made moment (sets.planned p) whole is =
-    (copied (ground_in h) (blobs_of h) call.args carried made moment p is).flags whole.tidy.tables
 
 -- the blobs of a Blob/copy are few with those of the account
 blob_copies_keep : (h : History) (call : Invocation) (carried : Carried) → IsWholeMail h
@@ -264,8 +243,9 @@ upload_keeps h bytes whole true room =
 upload_keeps h bytes whole false room =
     idle_keeps h (upload_if false (length (blobs_of h) + 1) bytes) whole refl refl
 
--- the same of the plan of whatever is asked
-by_ask : (h : History) (P : Plan → Type 0) → ((p : Plan) → Keeps h p → P p)
+-- What holds of each plan that keeps, and of those of imports and copies, holds of the plan of
+-- whatever is asked.
+pub by_ask : (h : History) (P : Plan → Type 0) → ((p : Plan) → Keeps h p → P p)
     → (made : List Created) (read_only : Bool) (moment : ℕ)
     → ((c : Invocation) → P (set_plan c (import_in h c.args made moment)))
     → ((c : Invocation) (carried : Carried) → P (copies_plan h c carried made moment))
@@ -295,14 +275,4 @@ call_keeps h call moment low whole =
     (λ c. import_keeps h c call.made moment (import_in h c.args call.made moment) low whole refl)
     (λ c carried. copies_keep h c carried call.made moment
     (place_in h c.args carried call.made moment) low whole refl)
-    whole call.ask
-
-pub call_flags : (h : History) (call : Call) (moment : ℕ) → IsWholeMail h
-    → AreCountsFlagsRight (content_of h) (call_plan h call moment).edits
-call_flags h call moment whole =
-    by_ask h (λ p. AreCountsFlagsRight (content_of h) p.edits) (λ p keep. keep.flags)
-    call.made call.read_only moment
-    (λ c. import_flags h c call.made moment (import_in h c.args call.made moment) whole refl)
-    (λ c carried. copies_flags h c carried call.made moment
-    (place_in h c.args carried call.made moment) whole refl)
     whole call.ask

@@ -43,4 +43,5 @@ abbrev pub StatesDecide : Type 0
 StatesDecide =
     (h : History) (q : QueryTree) (texts : ℕ → MessageTexts) (k : ℕ)
     → FloorsAtMost h.floors h.floor → h.floor ≤ k
-    → result_list q (content_at h k) texts ≡ result_list q (content_at h (state_at h q.kind k)) texts
+    → result_list q (content_at h k) texts
+    ≡ result_list q (content_at h (state_at h q.kind k)) texts

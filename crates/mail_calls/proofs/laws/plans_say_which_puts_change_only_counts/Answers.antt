@@ -1,4 +1,4 @@
-use Rattle.mail_calls.specs.ValidAfterCalls.{call_flags}
+use Rattle.mail_calls.proofs.RightFlags.{call_flags}
 use Rattle.mail_calls.proofs.laws.plans_say_which_puts_change_only_counts.Goals as goal
 
 pub returns : goal.returns
