@@ -1,12 +1,13 @@
 -- The response to a call of a /changes method (RFC 8620, 5.2; RFC 8621, 2.2, 3.2 and 4.3).
-use Rattle.std.specs.Prelude.{◌≡◌, ℕ, ℤ, List, [], ◌∷◌, ◌++◌, map, Bool, Option, Some, None, codes, if◌then◌else◌, unwrap_or, ⊤}
-use Rattle.jm_base.specs.Ids.{id_text, state_text}
+use Rattle.std.specs.Prelude.{◌≡◌, ℕ, ℤ, List, [], ◌∷◌, ◌++◌, Bool, Option, Some, None, codes, if◌then◌else◌, unwrap_or, ⊤}
+use Rattle.jm_base.specs.Ids.{state_text}
 use Rattle.jm_base.specs.declared.identifiers.Kind.{Kind}
 use Rattle.jm_base.specs.declared.identifiers.Kind.TheVariants.{Mailbox as OfMailbox, Email as OfEmail, Thread as OfThread}
 use Rattle.jm_json.specs.Find.{as_object}
 use Rattle.jm_json.specs.Tree.{Tree, null, boolean, text, list, object, fields_of, trees_of}
 use Rattle.mail_records.specs.Histories.{History}
 use Rattle.method_args.specs.Arguments.{Form, find_invalid, integer_in, text_in}
+use Rattle.method_args.specs.Ids.{id_trees}
 use Rattle.method_args.specs.declared.form.Presence.TheVariants.{Required, Nullable}
 use Rattle.method_args.specs.declared.form.Shape.TheVariants.{String, Integer}
 use Rattle.change_calls.specs.Changes.{Answer, answered, invalid_maximum, cannot_calculate, answer_of}
@@ -37,9 +38,6 @@ max_in ms = integer_in (codes "maxChanges") ms
 -- ---- the arguments of a response
 
 -- the identifiers of records of the kind
-abbrev pub id_trees : Kind → List ℕ → List Tree
-id_trees kind numbers = map (λ n. text (id_text (record { kind = kind; number = n }))) numbers
-
 abbrev pub ids_tree : Kind → List ℕ → Tree
 ids_tree kind numbers = list (trees_of (id_trees kind numbers))
 

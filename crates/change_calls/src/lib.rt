@@ -15,4 +15,4 @@ mod touched_records;
 pub use laws::{pages_are_exact, pages_bring_up_to_date};
 pub use page::{ChangeFault, ChangePage};
 pub use pages::{changes, find_state};
-pub use response::{CallFault, answer_changes, make_ids};
+pub use response::{CallFault, answer_changes};

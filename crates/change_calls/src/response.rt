@@ -5,12 +5,12 @@ ghost use Rattle.jm_json.specs.Json.{tree_of};
 ghost use Rattle.jm_json.specs.Tree.{text};
 ghost use Rattle.mail_records.specs.Histories.{History};
 ghost use Rattle.change_calls.specs.Changes.{IsKeptBy};
-ghost use Rattle.change_calls.specs.Responses.{ExplainsCall, changes_outcome, count_properties, id_trees, invalid_argument, max_in, outcome_with, page_members, page_tree, properties_tree, replied, string_in};
+ghost use Rattle.change_calls.specs.Responses.{ExplainsCall, changes_outcome, count_properties, invalid_argument, max_in, outcome_with, page_members, page_tree, properties_tree, replied, string_in};
 
 use crate::{ChangeFault, ChangePage, changes};
-use jm_base::{Id, Kind, NoMemory, Numbers, Text, id_text, state_text};
+use jm_base::{Kind, NoMemory, Numbers, Text, state_text};
 use jm_json::{Items, Json, Members};
-use method_args::{Argument, Presence, Shape, find_invalid, read_integer, read_text};
+use method_args::{Argument, Presence, Shape, find_invalid, make_ids, read_integer, read_text};
 use state_log::Log;
 use std::alloc::Global;
 
@@ -71,21 +71,6 @@ fn read_string<'a>(members: &'a Members, name: &str) -> &'a str
         Some(text) => text.as_str(),
         None => "",
     }
-}
-
-/// Returns the identifiers of records of a kind, by their numbers.
-pub fn make_ids(alloc: Global, kind: Kind, numbers: &[u64]) -> Result<Items, NoMemory>
-    ensures { IfOk result (λ ts. ts ≡ id_trees kind numbers.now) }
-{
-    let mut ids = Items::with_room(alloc, numbers.len())?;
-    for number in numbers {
-        let id = Id {
-            kind,
-            number: *number,
-        };
-        ids.push(Json::Text(id_text(alloc, &id)?))?;
-    }
-    Ok(ids)
 }
 
 fn make_string(alloc: Global, string: &str) -> Result<Json, NoMemory>

@@ -2,12 +2,13 @@
 ghost use Rattle.std.specs.Prelude.{◌≡◌, ℕ, ◌==◌, option_and_then, option_map, IfOk};
 ghost use Rattle.jm_json.specs.Find.{as_text};
 ghost use Rattle.jm_json.specs.Json.{tree_of};
-ghost use Rattle.method_args.specs.Arguments.{as_count, as_flag, if_unsigned, passes};
+ghost use Rattle.method_args.specs.Arguments.{as_count, as_flag, passes};
 ghost use Rattle.filter_terms.specs.EmailTerms.{is_mailbox_id};
 ghost use Rattle.filter_terms.specs.Values.{as_date};
 
 use jm_base::{Kind, read_id};
 use jm_json::Json;
+use method_args::if_unsigned;
 use utc_dates::read_first_second;
 
 /// Returns the first whole second that is not before the date of a value, in Unix seconds, or
@@ -29,15 +30,6 @@ pub(crate) fn as_count(value: &Json) -> Option<u64>
         Json::Int(number) => if_unsigned(*number),
         Json::Null | Json::Bool(_) | Json::Text(_) | Json::List(_) | Json::Object(_) => None,
     }
-}
-
-fn if_unsigned(number: i64) -> Option<u64>
-    ensures { result ≡ if_unsigned number }
-{
-    if number < 0 {
-        return None;
-    }
-    Some(number as u64)
 }
 
 /// Returns the boolean that a value is, or `None` if it is none.

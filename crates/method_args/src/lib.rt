@@ -7,12 +7,14 @@
 #![tactic(auto)]
 
 mod form;
+mod ids;
 mod values;
 
 pub use form::{Argument, Presence, Shape, find_invalid, has_form};
+pub use ids::make_ids;
 pub use values::{
-    find_given, lend_strings, read_account, read_count, read_flag, read_integer, read_object,
-    read_strings, read_text,
+    find_given, if_unsigned, lend_strings, read_account, read_count, read_flag, read_integer,
+    read_object, read_strings, read_text,
 };
 
 /// The greatest number of objects that one call may get or set: `maxObjectsInGet` and

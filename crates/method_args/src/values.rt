@@ -99,7 +99,8 @@ pub fn read_flag(members: &Members, name: &str) -> Option<bool>
     flag_by(members.get(name))
 }
 
-fn if_unsigned(number: i64) -> Option<u64>
+/// Returns the number if it is an UnsignedInt, and else `None` (RFC 8620, section 1.3).
+pub fn if_unsigned(number: i64) -> Option<u64>
     ensures { result ≡ if_unsigned number }
 {
     if number < 0 {

@@ -1,14 +1,16 @@
 // The arguments of a call of a /queryChanges method (RFC 8620, section 5.6; RFC 8621, sections 2.4
 // and 4.5).
 ghost use Rattle.std.specs.Prelude.{◌≡◌, codes, option_map};
-ghost use Rattle.method_args.specs.Arguments.{find_invalid, if_unsigned};
+ghost use Rattle.method_args.specs.Arguments.{find_invalid};
 ghost use Rattle.change_calls.specs.Responses.{string_in};
 ghost use Rattle.query_engine.specs.Responses.{is_set};
 ghost use Rattle.query_changes.specs.Responses.{email_forms, invalid_argument, mailbox_forms, max_in};
 
 use jm_base::Kind;
 use jm_json::Members;
-use method_args::{Argument, Presence, Shape, find_invalid, read_flag, read_integer, read_text};
+use method_args::{
+    Argument, Presence, Shape, find_invalid, if_unsigned, read_flag, read_integer, read_text,
+};
 
 // Returns the name of the first argument of Email/queryChanges in byte order that is missing or
 // does not have its form; `filter` and `sort` are left out.
@@ -85,15 +87,6 @@ pub(crate) fn invalid_argument(kind: Kind, members: &Members) -> Option<&'static
         Kind::Mailbox => invalid_mailbox_argument(members),
         Kind::Email | Kind::Thread => invalid_email_argument(members),
     }
-}
-
-fn if_unsigned(number: i64) -> Option<u64>
-    ensures { result ≡ if_unsigned number }
-{
-    if number < 0 {
-        return None;
-    }
-    Some(number as u64)
 }
 
 /// Returns the maximum that is asked for.

@@ -6,7 +6,7 @@ use Rattle.jm_base.specs.declared.identifiers.Kind.{Kind}
 use Rattle.jm_json.specs.Order.{put}
 use Rattle.jm_json.specs.Tree.{Tree, boolean, text, list, trees_of}
 use Rattle.mail_counts.specs.Views.{count_tree}
-use Rattle.query_engine.specs.Responses.{id_trees}
+use Rattle.method_args.specs.Ids.{id_trees}
 use Rattle.query_engine.specs.Windows.{window_of}
 use Rattle.query_engine.specs.Walks.{at_most}
 use Rattle.query_engine.specs.declared.frame.Frame.{Frame}

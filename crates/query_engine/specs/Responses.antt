@@ -1,8 +1,8 @@
 -- How a query is read from the arguments of a call, and the response to it (RFC 8620, 5.5; RFC
 -- 8621, 2.3 and 4.4).
-use Rattle.std.specs.Prelude.{◌≡◌, ℕ, ℤ, pos, Bool, true, false, List, [], ◌∷◌, ◌++◌, length, map, Option, Some, None, codes, if◌then◌else◌, option_and_then, option_map, ⊤}
+use Rattle.std.specs.Prelude.{◌≡◌, ℕ, ℤ, pos, Bool, true, false, List, [], ◌∷◌, ◌++◌, length, Option, Some, None, codes, if◌then◌else◌, option_and_then, option_map, ⊤}
 use Rattle.std.specs.Option.{unwrap_or}
-use Rattle.jm_base.specs.Ids.{id_text, state_text}
+use Rattle.jm_base.specs.Ids.{state_text}
 use Rattle.jm_base.specs.declared.identifiers.Kind.{Kind}
 use Rattle.jm_base.specs.declared.identifiers.Kind.TheVariants.{Mailbox as OfMailboxes, Email as OfEmails, Thread as OfThreads}
 use Rattle.jm_json.specs.Find.{as_object, find}
@@ -10,6 +10,7 @@ use Rattle.jm_json.specs.Tree.{Tree, null, boolean, text, list, object, fields_o
 use Rattle.mail_counts.specs.Views.{count_tree}
 use Rattle.mail_records.specs.Contents.{Content}
 use Rattle.method_args.specs.Arguments.{Form, find_invalid, flag_in, given, integer_in, text_in}
+use Rattle.method_args.specs.Ids.{id_trees}
 use Rattle.method_args.specs.declared.form.Presence.TheVariants.{Required, Optional, Nullable}
 use Rattle.method_args.specs.declared.form.Shape.TheVariants.{String, Flag, Integer, Count}
 use Rattle.filter_terms.specs.Texts.{MessageTexts}
@@ -166,10 +167,6 @@ call_query kind ms =
     (query_in kind ms)
 
 -- ---- the response
-
--- the identifiers of records of the kind
-abbrev pub id_trees : Kind → List ℕ → List Tree
-id_trees kind numbers = map (λ n. text (id_text (record { kind = kind; number = n }))) numbers
 
 abbrev pub limit_members : Option ℕ → List (List ℕ × Tree)
 limit_members None = []

@@ -6,7 +6,7 @@ ghost use Rattle.jm_json.specs.Tree.{fields_of, object};
 ghost use Rattle.mail_counts.specs.Views.{count_tree};
 ghost use Rattle.query_engine.specs.Queries.{result_list};
 ghost use Rattle.query_engine.specs.Replies.{Decides, plain_members, with_limit, with_total};
-ghost use Rattle.query_engine.specs.Responses.{ExplainsCall, id_trees, outcome_of_list, outcome_with, query_outcome, replied, response_members};
+ghost use Rattle.query_engine.specs.Responses.{ExplainsCall, outcome_of_list, outcome_with, query_outcome, replied, response_members};
 
 use crate::arguments::{account_of, call_query, frame_in, invalid_argument, is_set, name_of};
 use crate::faults::{QueryCallFault, QueryFault};
@@ -15,25 +15,12 @@ use crate::query::Query;
 use crate::run::run_query_upto;
 use crate::windows::{greatest_count, limit_of, window};
 use filter_terms::Texts2;
-use jm_base::{Id, Kind, NoMemory, Text, id_text, state_text};
-use jm_json::{Items, Json, Members};
+use jm_base::{Kind, NoMemory, Text, state_text};
+use jm_json::{Json, Members};
 use mail_counts::MAX_JSON_INTEGER;
 use mail_records::Content;
+use method_args::make_ids;
 use std::alloc::Global;
-
-fn make_ids(alloc: Global, kind: Kind, numbers: &[u64]) -> Result<Items, NoMemory>
-    ensures { IfOk result (λ ts. ts ≡ id_trees kind numbers.now) }
-{
-    let mut ids = Items::with_room(alloc, numbers.len())?;
-    for number in numbers {
-        let id = Id {
-            kind,
-            number: *number,
-        };
-        ids.push(Json::Text(id_text(alloc, &id)?))?;
-    }
-    Ok(ids)
-}
 
 /// Returns a number as JSON has it, which has no greater one than [`MAX_JSON_INTEGER`] (RFC 8620,
 /// section 1.3).

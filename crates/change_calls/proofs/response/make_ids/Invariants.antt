@@ -1,6 +1,0 @@
-use Rattle.std.proofs.Common.{◌≡◌, ◌++◌, drop}
-use Rattle.change_calls.specs.Responses.{id_trees}
-use Rattle.change_calls.proofs.response.make_ids.Given as goal
-
-abbrev pub invariant-loop-number : goal.invariant-loop-number
-invariant-loop-number l = l.ids ++ id_trees l.kind (drop l.number-index l.numbers) ≡ id_trees l.kind l.numbers
