@@ -1,16 +1,14 @@
 // Which of the lists that a content keeps in order serves a query.
-ghost use Rattle.std.specs.Prelude.{◌≡◌, Bool, IfSome, map, option_and_then, true};
-ghost use Rattle.std.specs.Option.{unwrap_or};
+ghost use Rattle.std.specs.Prelude.{◌≡◌, Bool, IfSome, map, option_and_then};
 ghost use Rattle.jm_json.specs.Find.{as_object};
 ghost use Rattle.jm_json.specs.Json.{tree_of};
-ghost use Rattle.method_args.specs.Arguments.{as_flag};
-ghost use Rattle.sort_terms.specs.Forms.{is_ascending};
 ghost use Rattle.query_engine.specs.Walks.{IsAmong, IsInMailbox, IsSortedByReceived, JoinsMailbox, NamesMailbox, Serves, is_conjunction, received_by};
 
 use crate::windows::number_of_id;
 use jm_base::Kind;
 use jm_json::{Json, Members};
 use method_args::read_text;
+use sort_terms::is_ascending;
 
 /// What a query goes over, in its order.
 #[derive(Clone, Copy, Debug, PartialEq, Eq)]
@@ -21,24 +19,6 @@ pub(crate) enum Walk {
     ByReceived(bool),
     /// The emails in a mailbox by the time received, ascending or descending.
     InMailbox(u64, bool),
-}
-
-fn flag_or_true(value: &Json) -> bool
-    ensures { result ≡ unwrap_or (as_flag (tree_of value.now)) true }
-{
-    match value {
-        Json::Bool(flag) => *flag,
-        Json::Null | Json::Int(_) | Json::Text(_) | Json::List(_) | Json::Object(_) => true,
-    }
-}
-
-fn is_ascending(members: &Members) -> bool
-    ensures { result ≡ is_ascending members.now }
-{
-    match members.get("isAscending") {
-        Some(value) => flag_or_true(value),
-        None => true,
-    }
 }
 
 // Returns whether a comparator is ascending if it is by the time received.

@@ -30,7 +30,9 @@ fn flag_or_true(value: &Json) -> bool
     }
 }
 
-fn is_ascending(members: &Members) -> bool
+/// Returns whether a comparator is ascending: it is, unless its `isAscending` is false (RFC 8620,
+/// section 5.5).
+pub fn is_ascending(members: &Members) -> bool
     ensures { result ≡ is_ascending members.now }
 {
     match members.get("isAscending") {

@@ -12,6 +12,7 @@ mod laws;
 mod order;
 mod properties;
 
+pub use comparators::is_ascending;
 pub use laws::{orders_are_strict, orders_see_only_their_records};
 pub use order::{
     Order, before, compare_emails, compare_mailboxes, compare_numbers, is_wide, read_order,
