@@ -5,7 +5,6 @@ pub mod Found
 pub mod Lasting
 pub mod Naming
 pub mod PathParts
-pub mod Destroying
 pub mod Stepping
 pub mod Planning
 pub mod Promising

@@ -1,10 +1,9 @@
 -- What contracts see of the types of this crate.
-use Rattle.std.specs.Prelude.{◌≡◌, ◌<◌, ℕ, List, ◌∷◌, length, Bool, true, false, if◌then◌else◌, ◌==◌, bytes_eq, Option, Some, None, option_map, slice_get, ⊤}
+use Rattle.std.specs.Prelude.{◌≡◌, ◌<◌, ℕ, List, ◌∷◌, length, Bool, true, false, if◌then◌else◌, ◌==◌, Option, Some, None, option_map, slice_get, ⊤}
 use Rattle.std.specs.BTreeMap.{get}
-use Rattle.std.specs.List.{AllByRecursion, list_any}
+use Rattle.std.specs.List.{AllByRecursion}
 use Rattle.std.specs.Ordering.{nat_cmp}
 use Rattle.jm_base.specs.declared.identifiers.Kind.TheVariants.{Email as OfEmail}
-use Rattle.jm_json.specs.declared.invocation.Created.{Created}
 use Rattle.mail_counts.specs.Overlaid.{last_edit}
 use Rattle.mail_records.specs.Contents.{Content, email_number}
 use Rattle.mail_records.specs.Edits.{after_edits}
@@ -13,9 +12,7 @@ use Rattle.mail_records.specs.declared.edits.Edit.{Edit}
 use Rattle.mail_records.specs.declared.edits.Edit.TheVariants.{PutEmail, DropEmail}
 use Rattle.jm_json.specs.Pointer.{unescaped}
 use Rattle.set_parts.specs.Steps.{Progress}
-use Rattle.set_parts.specs.Views.{holds}
-use Rattle.set_parts.specs.CreationIds.{is_id, reported_id}
-use Rattle.set_parts.specs.declared.text_set.TextSet.{TextSet}
+use Rattle.set_parts.specs.CreationIds.{is_id}
 use Rattle.set_parts.specs.declared.steps.Step.{Step}
 use Rattle.set_parts.specs.declared.steps.Step.TheVariants as step
 use Rattle.email_set.specs.declared.parts.EscapeStep.{EscapeStep}
@@ -39,12 +36,6 @@ IsEscapeStep escaped b Fails = (more : List ℕ) → unescaped escaped (b ∷ mo
 abbrev pub MeansEmail : List ℕ → Option ℕ → Type 0
 MeansEmail s None = (n : ℕ) → is_id OfEmail s n ≡ false
 MeansEmail s (Some n) = is_id OfEmail s n ≡ true
-
--- the set holds exactly the ids under which these destroys are reported
-abbrev pub AreDestroyed : TextSet → List Created → List (List ℕ) → Type 0
-AreDestroyed set made destroys =
-    (s : List ℕ)
-    → holds set.keys.keys None s ≡ list_any (λ d. bytes_eq (reported_id made d) s) destroys
 
 -- the number of the email that an edit puts or drops
 abbrev pub email_named_by : Edit → Option ℕ

@@ -19,4 +19,4 @@ pub use filing::{Filing, Refiled};
 pub use patches::refile;
 pub use plan::{plan_email_set, plan_steps};
 pub use planner::{Planner, enter_edits, start_planner};
-pub use steps::{Setting, Steps, collect_destroyed, perform_steps};
+pub use steps::{Setting, Steps, perform_steps};

@@ -20,15 +20,15 @@ ghost use Rattle.email_set.specs.Plans.{KeepTidyBut, create_email, email_set_out
 ghost use Rattle.email_set.specs.Views.{IsStepsOf};
 
 use crate::planner::start_planner;
-use crate::steps::{Setting, Steps, collect_destroyed, perform_steps};
+use crate::steps::{Setting, Steps, perform_steps};
 use jm_base::{Kind, NoMemory, Text};
 use jm_json::{Created, Json, Made, Members};
 use mail_counts::{SetFault, SetPlan};
 use mail_records::Content;
 use set_parts::{
-    CreateStep, Creates, SentCreate, SetError, check_set, collect_created, count_objects,
-    enter_create, finish_plan, read_account_id, read_creates, read_destroys, read_updates,
-    start_creates,
+    CreateStep, Creates, SentCreate, SetError, check_set, collect_created, collect_destroyed,
+    count_objects, enter_create, finish_plan, read_account_id, read_creates, read_destroys,
+    read_updates, start_creates,
 };
 use state_log::Log;
 use std::alloc::Global;

@@ -7,9 +7,9 @@ ghost use Rattle.mail_records.specs.Contents.{Content as TheContent};
 ghost use Rattle.set_parts.specs.Arguments.{update_in};
 ghost use Rattle.set_parts.specs.CreationIds.{reported_id};
 ghost use Rattle.set_parts.specs.Steps.{Progress, after_destroy, after_destroys, after_update, after_updates, is_destroyed};
-ghost use Rattle.set_parts.specs.Views.{AreMade, HoldTexts};
+ghost use Rattle.set_parts.specs.Views.{AreDestroyed, AreMade};
 ghost use Rattle.email_set.specs.Emails.{after_steps, destroy_email, destroy_of, email_meant, email_named, filing_of, is_same_filing, same_texts, step_to, update_email, update_of, with_filing};
-ghost use Rattle.email_set.specs.Views.{AreDestroyed, Follows, IsEmailStep, IsStepsOf, MeansEmail};
+ghost use Rattle.email_set.specs.Views.{Follows, IsEmailStep, IsStepsOf, MeansEmail};
 
 use crate::filing::{Filing, Refiled};
 use crate::patches::refile;
@@ -18,8 +18,7 @@ use jm_base::{Kind, NoMemory, Text, read_id};
 use jm_json::{Json, Member};
 use mail_records::{Content, Edit, Edits, Email, Record};
 use set_parts::{
-    CreatedRecords, CreatedTexts, Reported, SetError, Step, TextSet, add_text, find_identifier,
-    find_reported_id, has_text, new_set,
+    CreatedRecords, Reported, SetError, Step, TextSet, find_identifier, find_reported_id, has_text,
 };
 use std::alloc::Global;
 
@@ -321,22 +320,6 @@ fn perform_destroys<'a>(
 }
 
 // ---- all of them
-
-/// Returns the ids under which the destroys of a set are reported.
-pub fn collect_destroyed<'a>(
-    alloc: Global,
-    texts: &CreatedTexts<'a>,
-    destroys: &[&'a str],
-) -> Result<TextSet<'a>, NoMemory>
-    ensures { IfOk result (λ t. (made : List TheCreated) → HoldTexts texts.now made
-        → AreDestroyed t made (map (λ d. d.now) destroys.now)) }
-{
-    let mut destroyed = new_set(alloc);
-    for id in destroys {
-        add_text(&mut destroyed, None, find_reported_id(texts, *id))?;
-    }
-    Ok(destroyed)
-}
 
 // Returns the steps that a planner has come to.
 fn finish_steps(planner: Planner) -> Steps

@@ -17,13 +17,13 @@ ghost use Rattle.set_parts.specs.Arguments.{count_objects, creates_in, update_in
 ghost use Rattle.set_parts.specs.Outcomes.{ExplainsSet, ground_of, outcome_of_members, plan_of, planned};
 ghost use Rattle.set_parts.specs.Responses.{HasNewState};
 ghost use Rattle.set_parts.specs.Steps.{after_destroys, before_steps};
-ghost use Rattle.set_parts.specs.Views.{AreMade, create_of};
+ghost use Rattle.set_parts.specs.Views.{AreDestroyed, AreMade, create_of};
 ghost use Rattle.set_parts.specs.Creates.{Creating, before_creates};
 ghost use Rattle.mailbox_set.specs.Destroys.{destroy_mailbox};
 ghost use Rattle.mailbox_creates.specs.Rounds.{after_creates};
 ghost use Rattle.mailbox_set.specs.Sets.{mailbox_set_forms, mailbox_set_outcome, plan_in, steps_after};
 ghost use Rattle.mailbox_updates.specs.Updates.{after_mailbox_updates};
-ghost use Rattle.mailbox_updates.specs.Views.{AreDestroyed, PutsMailbox};
+ghost use Rattle.mailbox_updates.specs.Views.{PutsMailbox};
 ghost use Rattle.mailbox_creates.specs.Views.{Follows};
 ghost use Rattle.mailbox_set.specs.Views.{IsStepsOf};
 
@@ -34,10 +34,10 @@ use jm_json::{Created, Json, Made, Member, Members};
 use mail_counts::{SetFault, SetPlan};
 use mail_records::{Content, Edit, Edits};
 use mailbox_creates::{Planner, do_creates, start_planner};
-use mailbox_updates::{Current, Setting, collect_all_created, collect_destroyed, perform_updates};
+use mailbox_updates::{Current, Setting, collect_all_created, perform_updates};
 use set_parts::{
-    Reported, SentCreate, count_objects, finish_plan, read_account_id, read_creates, read_destroys,
-    read_updates,
+    Reported, SentCreate, collect_destroyed, count_objects, finish_plan, read_account_id,
+    read_creates, read_destroys, read_updates,
 };
 use state_log::Log;
 use std::alloc::Global;

@@ -1,16 +1,11 @@
 -- What contracts see of the types of this crate.
-use Rattle.std.specs.Prelude.{ℕ, List, bytes_eq, ◌≡◌, true, None, ⊤}
-use Rattle.std.specs.List.{list_any}
-use Rattle.jm_json.specs.declared.invocation.Created.{Created}
-use Rattle.set_parts.specs.Views.{holds}
+use Rattle.std.specs.Prelude.{ℕ, ◌≡◌, true, None, ⊤}
 use Rattle.mail_records.specs.Contents.{Content, email_number, mailbox_at, mailbox_number}
 use Rattle.mail_records.specs.Tables.{IsTable, lookup}
 use Rattle.mail_records.specs.declared.edits.Edit.{Edit}
 use Rattle.mail_records.specs.declared.edits.Edit.TheVariants.{PutMailbox}
 use Rattle.mail_counts.specs.Touched.{is_one_of}
 use Rattle.set_parts.specs.Steps.{Progress as Steps}
-use Rattle.set_parts.specs.CreationIds.{reported_id}
-use Rattle.set_parts.specs.declared.text_set.TextSet.{TextSet}
 use Rattle.mailbox_updates.specs.Left.{emails_left}
 use Rattle.mailbox_updates.specs.Present.{present_at}
 use Rattle.mailbox_updates.specs.declared.current.Current.{Current}
@@ -42,9 +37,3 @@ pub record Tracks (p : Current) (s : Steps) : Type 0 where
   pub shows : Shows p s.content
   pub edits : p.edits.items ≡ s.edits
   pub reported : p.reported ≡ s.reported
-
--- the set holds exactly the ids under which these destroys are reported
-abbrev pub AreDestroyed : TextSet → List Created → List (List ℕ) → Type 0
-AreDestroyed set made destroys =
-    (s : List ℕ)
-    → holds set.keys.keys None s ≡ list_any (λ d. bytes_eq (reported_id made d) s) destroys

@@ -9,5 +9,5 @@ mod setting;
 mod updates;
 
 pub use current::{Current, find_present, is_untouched};
-pub use setting::{Setting, collect_all_created, collect_destroyed, find_meant};
+pub use setting::{Setting, collect_all_created, find_meant};
 pub use updates::perform_updates;

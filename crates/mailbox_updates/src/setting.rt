@@ -1,19 +1,19 @@
 // What the updates and destroys of a set are performed on (RFC 8620, section 5.3).
-ghost use Rattle.std.specs.Prelude.{◌≡◌, ◌++◌, IfOk, List, OnOk, ℕ, map, option_map};
+ghost use Rattle.std.specs.Prelude.{◌≡◌, ◌++◌, IfOk, List, OnOk, ℕ, option_map};
 ghost use Rattle.jm_json.specs.declared.invocation.Created.{Created as TheCreated};
 ghost use Rattle.mail_records.specs.Contents.{Content as TheContent};
 ghost use Rattle.mailbox_creates.specs.Properties.{mailbox_meant};
-ghost use Rattle.mailbox_updates.specs.Views.{AreDestroyed, Shows};
+ghost use Rattle.mailbox_updates.specs.Views.{Shows};
 ghost use Rattle.set_parts.specs.CreationIds.{identifier};
-ghost use Rattle.set_parts.specs.Views.{AreMade, HoldIds, HoldTexts, MeansIfAny};
+ghost use Rattle.set_parts.specs.Views.{AreMade, HoldIds, MeansIfAny};
 
 use crate::current::{Current, find_present};
 use jm_base::NoMemory;
 use jm_json::Created;
 use mail_records::Mailbox;
 use set_parts::{
-    CreatedIds, CreatedRecords, CreatedTexts, TextSet, add_text, collect_created, find_id,
-    find_reported_id, new_set, note_id, note_text, read_mailbox_number, read_reference,
+    CreatedIds, CreatedRecords, TextSet, collect_created, find_id, note_id, note_text,
+    read_mailbox_number, read_reference,
 };
 use std::alloc::Global;
 
@@ -57,22 +57,6 @@ pub fn collect_all_created<'a>(
     let mut records = collect_created(alloc, made)?;
     add_created(&mut records, fresh)?;
     Ok(records)
-}
-
-/// Returns the ids under which the destroys of a set are reported.
-pub fn collect_destroyed<'a>(
-    alloc: Global,
-    texts: &CreatedTexts<'a>,
-    destroys: &[&'a str],
-) -> Result<TextSet<'a>, NoMemory>
-    ensures { IfOk result (λ t. (made : List TheCreated) → HoldTexts texts.now made
-        → AreDestroyed t made (map (λ d. d.now) destroys.now)) }
-{
-    let mut destroyed = new_set(alloc);
-    for id in destroys {
-        add_text(&mut destroyed, None, find_reported_id(texts, *id))?;
-    }
-    Ok(destroyed)
 }
 
 /// Returns the number of the mailbox that a string names: by its id, or by a reference to a created

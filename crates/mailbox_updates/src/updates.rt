@@ -8,11 +8,11 @@ ghost use Rattle.mail_records.specs.Edits.{after_edits};
 ghost use Rattle.mail_records.specs.declared.edits.Edit.TheVariants.{PutMailbox};
 ghost use Rattle.mailbox_updates.specs.Updates.{after_mailbox_updates, broken_names, deciding, done_unless, is_unchanged, same_role_or_none, same_truth, update_as, update_by};
 ghost use Rattle.mailbox_updates.specs.UpdateViews.{Counts, Decides, IsOf, Updating};
-ghost use Rattle.mailbox_updates.specs.Views.{AreDestroyed, PutsMailbox, Shows, Tracks};
+ghost use Rattle.mailbox_updates.specs.Views.{PutsMailbox, Shows, Tracks};
 ghost use Rattle.set_parts.specs.Arguments.{update_in};
 ghost use Rattle.set_parts.specs.CreationIds.{reported_id};
 ghost use Rattle.set_parts.specs.Steps.{Progress, after_update, after_updates, before_steps, is_destroyed, with_edits};
-ghost use Rattle.set_parts.specs.Views.{AreMade};
+ghost use Rattle.set_parts.specs.Views.{AreDestroyed, AreMade};
 ghost use Rattle.set_parts.specs.declared.steps.Step.{Step};
 
 use crate::current::{Current, put_mailbox, start_current};

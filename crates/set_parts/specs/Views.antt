@@ -9,12 +9,13 @@ use Rattle.jm_json.specs.declared.invocation.Created.{Created}
 use Rattle.mail_counts.specs.Tidy.{same_parent}
 use Rattle.mail_counts.specs.Views.{mailbox_id}
 use Rattle.set_parts.specs.Arguments.{Create}
-use Rattle.set_parts.specs.CreationIds.{last_made}
+use Rattle.set_parts.specs.CreationIds.{last_made, reported_id}
 use Rattle.set_parts.specs.declared.arguments.SentCreate.{SentCreate}
 use Rattle.set_parts.specs.declared.created_texts.CreatedRecords.{CreatedRecords}
 use Rattle.set_parts.specs.declared.created_texts.CreatedTexts.{CreatedTexts}
 use Rattle.set_parts.specs.declared.creation_ids.CreatedIds.{CreatedIds}
 use Rattle.set_parts.specs.declared.text_set.Key.{Key}
+use Rattle.set_parts.specs.declared.text_set.TextSet.{TextSet}
 
 -- the create that the code holds
 abbrev pub create_of : SentCreate → Create
@@ -75,3 +76,11 @@ HoldTexts known made = (k : List ℕ) → text_at known k ≡ last_made k made
 pub record AreMade (created : CreatedRecords) (made : List Created) : Type 0 where
   pub texts : HoldTexts created.texts made
   pub ids : HoldIds created.ids made
+
+-- ---- the destroys of a set
+
+-- the set holds exactly the ids under which these destroys are reported
+abbrev pub AreDestroyed : TextSet → List Created → List (List ℕ) → Type 0
+AreDestroyed set made destroys =
+    (s : List ℕ)
+    → holds set.keys.keys None s ≡ list_any (λ d. bytes_eq (reported_id made d) s) destroys

@@ -11,6 +11,7 @@ mod arguments;
 mod created_texts;
 mod creates;
 mod creation_ids;
+mod destroyed_ids;
 mod keywords;
 mod names;
 mod outcomes;
@@ -33,6 +34,7 @@ pub use creates::{CreateStep, Creates, NewRecord, enter_create, start_creates};
 pub use creation_ids::{
     CreatedIds, collect_ids, find_id, note_id, read_mailbox_number, read_reference,
 };
+pub use destroyed_ids::collect_destroyed;
 pub use keywords::read_keyword;
 pub use names::{
     build_keyword_set, build_mailbox_set, find_mailbox, read_keywords, read_mailboxes, sort_names,

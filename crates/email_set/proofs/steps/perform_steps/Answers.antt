@@ -1,8 +1,8 @@
 use Rattle.std.proofs.Common.{Bor, List, ℕ, map}
 use Rattle.jm_json.specs.declared.invocation.Created.{Created}
 use Rattle.set_parts.specs.Steps.{Progress}
-use Rattle.set_parts.specs.Views.{AreMade}
-use Rattle.email_set.specs.Views.{AreDestroyed, Follows}
+use Rattle.set_parts.specs.Views.{AreDestroyed, AreMade}
+use Rattle.email_set.specs.Views.{Follows}
 use Rattle.email_set.proofs.Stepping.{destroys_from, updates_from}
 use Rattle.email_set.proofs.steps.perform_steps.Goals as goal
 

@@ -4,9 +4,9 @@ use Rattle.jm_json.specs.declared.invocation.Created.{Created}
 use Rattle.set_parts.specs.Arguments.{update_in}
 use Rattle.set_parts.specs.CreationIds.{reported_id}
 use Rattle.set_parts.specs.Steps.{Progress}
-use Rattle.set_parts.specs.Views.{AreMade}
+use Rattle.set_parts.specs.Views.{AreDestroyed, AreMade}
 use Rattle.email_set.specs.Emails.{email_meant, update_email}
-use Rattle.email_set.specs.Views.{AreDestroyed, Follows, IsEmailStep}
+use Rattle.email_set.specs.Views.{Follows, IsEmailStep}
 use Rattle.email_set.proofs.EmailSteps.{update_step}
 use Rattle.email_set.proofs.Stepping.{entered_update, from_item, update_more, updated_by, updates_end}
 use Rattle.email_set.proofs.steps.perform_updates.Goals as goal

@@ -1,8 +1,8 @@
 use Rattle.std.proofs.Common.{◌≡◌, ℕ, List, drop}
 use Rattle.jm_json.specs.declared.invocation.Created.{Created}
 use Rattle.set_parts.specs.Steps.{Progress}
-use Rattle.set_parts.specs.Views.{AreMade}
-use Rattle.email_set.specs.Views.{AreDestroyed, Follows}
+use Rattle.set_parts.specs.Views.{AreDestroyed, AreMade}
+use Rattle.email_set.specs.Views.{Follows}
 use Rattle.email_set.proofs.Stepping.{updates_from}
 use Rattle.email_set.proofs.steps.perform_updates.Given as goal
 

@@ -4,9 +4,9 @@ use Rattle.jm_json.specs.declared.invocation.Created.{Created}
 use Rattle.mail_records.specs.declared.records.Email.{Email}
 use Rattle.set_parts.specs.Arguments.{update_in}
 use Rattle.set_parts.specs.Steps.{Progress}
-use Rattle.set_parts.specs.Views.{AreMade}
+use Rattle.set_parts.specs.Views.{AreDestroyed, AreMade}
 use Rattle.email_set.specs.Emails.{email_meant}
-use Rattle.email_set.specs.Views.{AreDestroyed, Follows}
+use Rattle.email_set.specs.Views.{Follows}
 use Rattle.email_set.proofs.Results.{ok_map}
 use Rattle.email_set.proofs.Stepping.{updated_found}
 use Rattle.email_set.proofs.steps.update_email.Goals as goal

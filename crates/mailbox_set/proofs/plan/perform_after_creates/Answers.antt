@@ -1,9 +1,8 @@
 use Rattle.std.proofs.Common.{Bor, List, map, ℕ, sym, ap, ◌∙◌, subst}
 use Rattle.mail_records.specs.Edits.{after_edits}
 use Rattle.set_parts.specs.Arguments.{destroys_in, updates_in}
-use Rattle.set_parts.specs.Views.{AreMade}
+use Rattle.set_parts.specs.Views.{AreDestroyed, AreMade}
 use Rattle.mailbox_set.specs.Sets.{removes_emails}
-use Rattle.mailbox_updates.specs.Views.{AreDestroyed}
 use Rattle.mailbox_updates.proofs.Showing.{if_more}
 use Rattle.mailbox_set.proofs.Tracking.{steps_same}
 use Rattle.mailbox_set.proofs.plan.perform_after_creates.Goals as goal

@@ -1,9 +1,8 @@
 use Rattle.std.proofs.Common.{◌≤◌, List, ℕ, length, subst, arith}
 use Rattle.jm_json.specs.declared.invocation.Created.{Created}
 use Rattle.set_parts.specs.Steps.{Progress}
-use Rattle.set_parts.specs.Views.{AreMade}
+use Rattle.set_parts.specs.Views.{AreDestroyed, AreMade}
 use Rattle.mailbox_updates.specs.UpdateViews.{Updating}
-use Rattle.mailbox_updates.specs.Views.{AreDestroyed}
 use Rattle.mailbox_updates.proofs.Updating.{from_item, update_more, updated_by, updates_end}
 use Rattle.mailbox_updates.proofs.updates.perform_each.Goals as goal
 

@@ -1,9 +1,8 @@
 use Rattle.std.proofs.Common.{◌≡◌, ℕ, List, drop}
 use Rattle.jm_json.specs.declared.invocation.Created.{Created}
 use Rattle.set_parts.specs.Steps.{Progress}
-use Rattle.set_parts.specs.Views.{AreMade}
+use Rattle.set_parts.specs.Views.{AreDestroyed, AreMade}
 use Rattle.mailbox_updates.specs.UpdateViews.{Updating}
-use Rattle.mailbox_updates.specs.Views.{AreDestroyed}
 use Rattle.mailbox_updates.proofs.Updating.{updates_from}
 use Rattle.mailbox_updates.proofs.updates.perform_each.Given as goal
 
