@@ -7,13 +7,13 @@ use Rattle.std.proofs.lemmas.Bool.Decides.{same_from_decides, Decides-like}
 use Rattle.std.proofs.lemmas.Option.{none-some, same_Some, slice_get-get_or, slice_get-map}
 use Rattle.std.proofs.lemmas.Slice.Eq.{bytes_eq-Decides}
 use Rattle.account_book.specs.declared.asks.Carried.{Carried}
-use Rattle.blob_store.specs.Blobs.{AreBlobsFew}
+use Rattle.blob_store.specs.Blobs.{AreBlobsFew, has_room}
 use Rattle.get_args.specs.Selection.{is_among}
 use Rattle.jm_json.specs.Tree.{Tree}
 use Rattle.mail_view.specs.Records.{first_mentions}
 use Rattle.copy_calls.specs.BlobCopies.{BlobCopying, after_blob, after_blobs, after_bytes, blob_ids_in, blob_plan_by, delivered_for, no_blobs}
 use Rattle.mail_copies.specs.Carried.{Delivery, deliveries}
-use Rattle.mail_copies.specs.Copies.{first_delivery, has_room}
+use Rattle.mail_copies.specs.Copies.{first_delivery}
 use Rattle.mail_copies.proofs.Room.{few_with}
 
 -- ---- one id more

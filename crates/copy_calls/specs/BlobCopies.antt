@@ -6,7 +6,7 @@ use Rattle.jm_json.specs.Order.{put}
 use Rattle.account_book.specs.declared.asks.Carried.{Carried}
 use Rattle.blob_ids.specs.BlobIds.{blob_id_in, blob_id_text}
 use Rattle.blob_ids.specs.declared.ids.BlobId.{BlobId}
-use Rattle.blob_store.specs.Blobs.{blob_numbered}
+use Rattle.blob_store.specs.Blobs.{blob_numbered, has_room}
 use Rattle.mail_records.specs.Histories.{History, blobs_of}
 use Rattle.mail_summary.specs.Leaves.{part_bytes_of}
 use Rattle.mail_view.specs.Records.{first_mentions}
@@ -16,12 +16,12 @@ use Rattle.method_args.specs.declared.form.Presence.TheVariants.{Required}
 use Rattle.method_args.specs.declared.form.Shape.TheVariants.{String, Strings}
 use Rattle.set_parts.specs.Arguments.{account_in}
 use Rattle.set_parts.specs.Outcomes.{Outcome, invalid, rejected_by, too_large}
-use Rattle.set_parts.specs.Responses.{object_or_null}
+use Rattle.method_args.specs.Wrapped.{object_or_null}
 use Rattle.set_parts.specs.SetErrors.{error_tree}
 use Rattle.set_parts.specs.declared.set_errors.SetError.TheVariants.{NotFound, OverQuota}
 use Rattle.mail_copies.specs.Arguments.{from_account_in}
 use Rattle.mail_copies.specs.Carried.{Delivery, deliveries}
-use Rattle.mail_copies.specs.Copies.{first_delivery, has_room}
+use Rattle.mail_copies.specs.Copies.{first_delivery}
 
 -- ---- arguments
 

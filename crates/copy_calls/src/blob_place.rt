@@ -4,14 +4,13 @@ ghost use Rattle.jm_json.specs.Find.{as_object};
 ghost use Rattle.jm_json.specs.Json.{tree_of};
 ghost use Rattle.jm_json.specs.Order.{put};
 ghost use Rattle.jm_json.specs.Tree.{fields_of, object};
-ghost use Rattle.blob_store.specs.Blobs.{AreBlobsFew};
+ghost use Rattle.blob_store.specs.Blobs.{AreBlobsFew, has_room};
 ghost use Rattle.blob_store.specs.declared.limits.TheConstants.{MAX_BLOB_BYTES_PER_ACCOUNT as most_bytes};
 ghost use Rattle.mail_records.specs.Histories.{blobs_of};
 ghost use Rattle.mail_view.specs.Records.{first_mentions};
 ghost use Rattle.set_parts.specs.Outcomes.{ExplainsRejection};
 ghost use Rattle.set_parts.specs.SetErrors.{error_tree};
 ghost use Rattle.copy_calls.specs.BlobCopies.{BlobCopying, after_blob, after_blobs, after_bytes, blob_plan, blob_plan_by, blob_plan_in, blob_rejection, blob_rejection_by, blob_reply_members, delivered_for, next_blob_tree, no_blobs};
-ghost use Rattle.mail_copies.specs.Copies.{has_room};
 ghost use Rattle.copy_calls.specs.Views.{AreCounted, FollowsBlobs, blob_plan_of};
 ghost use Rattle.mail_copies.specs.Views.{delivery_of};
 
@@ -23,7 +22,8 @@ use jm_base::{Blobs, Bytes, NoMemory, Text};
 use jm_json::{Json, Members};
 use mail_copies::{Delivery, collect_deliveries, has_room, pick_delivery, read_from_account};
 use mail_counts::SetFault;
-use set_parts::{SetError, build_error, read_account_id, wrap_object};
+use method_args::wrap_object;
+use set_parts::{SetError, build_error, read_account_id};
 use std::alloc::Global;
 use std::collections::HashSet;
 

@@ -12,23 +12,8 @@ use Rattle.get_args.specs.declared.wanted.Wanted.{Wanted}
 use Rattle.mail_view.specs.Objects.{put_all}
 use Rattle.mail_view.specs.Gets.{got, too_large}
 use Rattle.mail_view.specs.Records.{first_mentions, naming_none}
-use Rattle.mail_view.specs.Parses.{list_or_null, object_or_null, parse_asked, parse_reply, parse_tree, parsed_member, parsed_view}
-
-pub null_list : (ts : List Tree) → (length ts == 0) ≡ true → null ≡ list_or_null ts
-null_list [] e = refl
-null_list (t ∷ ts) e = absurd (grind (arith, nat_tests))
-
-pub whole_list : (ts : List Tree) → (length ts == 0) ≡ false → list (trees_of ts) ≡ list_or_null ts
-whole_list [] e = absurd (cc)
-whole_list (t ∷ ts) e = refl
-
-pub null_object : (ms : List (List ℕ × Tree)) → (length ms == 0) ≡ true → null ≡ object_or_null ms
-null_object [] e = refl
-null_object (m ∷ ms) e = absurd (grind (arith, nat_tests))
-
-pub whole_object : (ms : List (List ℕ × Tree)) → (length ms == 0) ≡ false → object (fields_of ms) ≡ object_or_null ms
-whole_object [] e = absurd (cc)
-whole_object (m ∷ ms) e = refl
+use Rattle.method_args.specs.Wrapped.{list_or_null, object_or_null}
+use Rattle.mail_view.specs.Parses.{parse_asked, parse_reply, parse_tree, parsed_member, parsed_view}
 
 put_append : (xs ys ms : List (List ℕ × Tree)) → put_all (xs ++ ys) ms ≡ put_all ys (put_all xs ms)
 put_append [] ys ms = refl

@@ -1,5 +1,5 @@
 // The answer to an Email/parse (RFC 8621, section 4.9).
-ghost use Rattle.std.specs.Prelude.{◌≡◌, ◌==◌, ◌∷◌, ◌++◌, [], Some, true, length, IfOk, IfErr, OnOk, filter_map, map, option_map};
+ghost use Rattle.std.specs.Prelude.{◌≡◌, ◌∷◌, ◌++◌, [], Some, true, IfOk, IfErr, OnOk, filter_map, map, option_map};
 ghost use Rattle.jm_json.specs.Json.{tree_of};
 ghost use Rattle.jm_json.specs.Tree.{text};
 ghost use Rattle.get_calls.specs.Faults.{GetFails};
@@ -8,7 +8,8 @@ ghost use Rattle.mail_view.specs.Objects.{put_all};
 ghost use Rattle.method_args.specs.Arguments.{account_in};
 ghost use Rattle.mail_summary.specs.Leaves.{part_bytes_of};
 ghost use Rattle.get_args.specs.Wanted.{wanted_by};
-ghost use Rattle.mail_view.specs.Parses.{blob_ids_in, bytes_of_id, bytes_or_leaf, list_or_null, object_or_null, parse_asked, parse_by, parse_emails, parse_got, parse_in, parse_tree, parsed_member, parsed_view, view_if};
+ghost use Rattle.method_args.specs.Wrapped.{list_or_null, object_or_null};
+ghost use Rattle.mail_view.specs.Parses.{blob_ids_in, bytes_of_id, bytes_or_leaf, parse_asked, parse_by, parse_emails, parse_got, parse_in, parse_tree, parsed_member, parsed_view, view_if};
 ghost use Rattle.mail_view.specs.Records.{naming_none};
 
 use crate::GetFault;
@@ -21,7 +22,7 @@ use jm_base::{NoMemory, Text};
 use jm_json::{Items, Json, Members};
 use mail_summary::part_bytes;
 use mail_view::view;
-use method_args::{MAX_OBJECTS_PER_CALL, lend_strings, read_account};
+use method_args::{MAX_OBJECTS_PER_CALL, lend_strings, read_account, wrap_list, wrap_object};
 use std::alloc::Global;
 
 // What is parsed: the views by blob id, and the blob ids that name nothing.
@@ -144,40 +145,6 @@ fn parse_each(
     Ok(parsed)
 }
 
-fn has_no_items(items: &Items) -> bool
-    ensures { result ≡ (length items.now == 0) }
-{
-    items.as_slice().is_empty()
-}
-
-fn has_no_members(members: &Members) -> bool
-    ensures { result ≡ (length members.now == 0) }
-{
-    members.as_slice().is_empty()
-}
-
-// Returns the blob ids that name nothing, null if there are none.
-#[tactic(auto, using(crate::proofs::Parsed::null_list, crate::proofs::Parsed::whole_list))]
-fn write_unknown(unknown: Items) -> Json
-    ensures { tree_of result ≡ list_or_null unknown }
-{
-    if has_no_items(&unknown) {
-        return Json::Null;
-    }
-    Json::List(unknown)
-}
-
-// Returns the views by blob id, null if there are none.
-#[tactic(auto, using(crate::proofs::Parsed::null_object, crate::proofs::Parsed::whole_object))]
-fn write_views(views: Members) -> Json
-    ensures { tree_of result ≡ object_or_null views }
-{
-    if has_no_members(&views) {
-        return Json::Null;
-    }
-    Json::Object(views)
-}
-
 // Returns the arguments of a response.
 fn write_parse_response(alloc: Global, account: &str, parsed: ParsedBlobs) -> Result<Json, NoMemory>
     ensures { IfOk result (λ t. tree_of t
@@ -187,9 +154,9 @@ fn write_parse_response(alloc: Global, account: &str, parsed: ParsedBlobs) -> Re
     let account = Text::from_str(alloc, account)?;
     let mut response = Members::with_room(alloc, 4)?;
     response.set(alloc, "accountId", Json::Text(account))?;
-    response.set(alloc, "notFound", write_unknown(unknown))?;
+    response.set(alloc, "notFound", wrap_list(unknown))?;
     response.set(alloc, "notParsable", Json::Null)?;
-    response.set(alloc, "parsed", write_views(views))?;
+    response.set(alloc, "parsed", wrap_object(views))?;
     Ok(Json::Object(response))
 }
 

@@ -31,7 +31,8 @@ use Rattle.account_book.specs.declared.asks.Call.{Call as TheCall}
 use Rattle.account_book.specs.declared.plans.Out.{Out}
 use Rattle.account_book.specs.declared.plans.Plan.{Plan}
 use Rattle.account_book.specs.declared.plans.Point.{Point}
-use Rattle.mail_calls.specs.BlobPlans.{has_room, upload_if, upload_plan}
+use Rattle.blob_store.specs.Blobs.{has_room}
+use Rattle.mail_calls.specs.BlobPlans.{upload_if, upload_plan}
 use Rattle.mail_calls.specs.Plans.{call_plan, changes_plan, email_set_plan, get_plan, ground_in, mailbox_set_plan, method_plan, plan_by, set_plan, query_plan, query_changes_plan}
 use Rattle.mail_calls.specs.Methods.{method_named}
 use Rattle.mail_calls.specs.declared.methods.Method.{Method as MailMethod}

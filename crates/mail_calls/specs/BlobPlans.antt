@@ -1,16 +1,9 @@
 -- What is planned for an upload (RFC 8620, 6.1).
-use Rattle.std.specs.Prelude.{ℕ, ◌+◌, nat_lt, nat_le, Bool, true, false, ◌&&◌, List, [], ◌∷◌, length}
-use Rattle.blob_store.specs.Blobs.{byte_count}
-use Rattle.blob_store.specs.declared.limits.TheConstants.{MAX_BLOB_BYTES_PER_ACCOUNT, MAX_BLOBS_PER_ACCOUNT}
+use Rattle.std.specs.Prelude.{ℕ, ◌+◌, Bool, true, false, List, [], ◌∷◌, length}
+use Rattle.blob_store.specs.Blobs.{has_room}
 use Rattle.mail_records.specs.Histories.{History, blobs_of}
 use Rattle.account_book.specs.declared.plans.Out.TheVariants.{Uploaded, Full}
 use Rattle.account_book.specs.declared.plans.Plan.{Plan}
-
--- one more blob of this many bytes is within the limits of an account
-abbrev pub has_room : ℕ → List (List ℕ) → Bool
-has_room size blobs =
-    nat_lt (length blobs) MAX_BLOBS_PER_ACCOUNT
-    && nat_le (byte_count blobs + size) MAX_BLOB_BYTES_PER_ACCOUNT
 
 -- there is no room
 abbrev pub full : Plan

@@ -24,7 +24,7 @@ use Rattle.mail_counts.proofs.Growth.{IsTidy-empty}
 use Rattle.mail_counts.proofs.Kept.{emails-after_edits}
 use Rattle.record_codec.specs.Sizes.{edit_bytes}
 use Rattle.record_codec.proofs.Lengths.{edit_bytes-append}
-use Rattle.blob_store.specs.Blobs.{AreBlobsFew}
+use Rattle.blob_store.specs.Blobs.{AreBlobsFew, has_room}
 use Rattle.account_book.specs.Accounts.{without_refusals}
 use Rattle.account_book.specs.Laws.{IsFounded-without_refusals, IsFounded-with_refusals, edits_of-without_refusals, blobs_of-without_refusals, edit_bytes-moved_up}
 use Rattle.account_book.specs.Plans.{IsPlanFor, last_moment}
@@ -39,7 +39,7 @@ use Rattle.set_parts.specs.Outcomes.{Outcome}
 use Rattle.set_parts.specs.Outcomes as sets
 use Rattle.copy_calls.specs.BlobCopies.{blob_rejection, blobs_fetched_in}
 use Rattle.copy_calls.specs.Fetches.{fetch_rejection, fetched_in}
-use Rattle.mail_calls.specs.BlobPlans.{has_room, upload_if}
+use Rattle.mail_calls.specs.BlobPlans.{upload_if}
 use Rattle.mail_calls.specs.Methods.{copy_method_named}
 use Rattle.mail_calls.specs.Plans.{reading, call_plan, ask_plan, unless_for, fetch_by}
 use Rattle.mail_calls.specs.declared.methods.CopyMethod.{CopyMethod}

@@ -35,9 +35,9 @@ use Rattle.copy_calls.specs.Fetches.{fetch_rejection, fetched_in}
 use Rattle.copy_calls.proofs.Blobs.{few_plan}
 use Rattle.plan_promises.specs.Planned.{IsPlanned}
 use Rattle.mail_calls.specs.ValidAfterCommits.{IsWholeMail, Keeps, blobs_keep, few_without, idle_keeps, planned_keeps}
-use Rattle.mail_calls.specs.BlobPlans.{has_room, upload_if}
+use Rattle.mail_calls.specs.BlobPlans.{upload_if}
 use Rattle.mail_calls.specs.Laws.{and_both}
-use Rattle.blob_store.specs.Blobs.{AreBlobsFew, byte_count}
+use Rattle.blob_store.specs.Blobs.{AreBlobsFew, byte_count, has_room}
 use Rattle.blob_store.specs.declared.limits.TheConstants.{MAX_BLOB_BYTES_PER_ACCOUNT, MAX_BLOBS_PER_ACCOUNT}
 use Rattle.std.proofs.lemmas.List.Sums.{sum-map, sum_by-append}
 use Rattle.mail_calls.specs.Methods.{copy_method_named, method_named}

@@ -4,7 +4,8 @@ ghost use Rattle.copy_calls.specs.BlobCopies.{bytes_named};
 ghost use Rattle.mail_records.specs.Histories.{blobs_of};
 ghost use Rattle.mail_records.specs.States.{state_of};
 ghost use Rattle.jm_base.specs.declared.identifiers.Kind.TheVariants as kind;
-ghost use Rattle.mail_calls.specs.BlobPlans.{has_room, upload_if, upload_plan, uploaded};
+ghost use Rattle.blob_store.specs.Blobs.{has_room};
+ghost use Rattle.mail_calls.specs.BlobPlans.{upload_if, upload_plan, uploaded};
 ghost use Rattle.mail_calls.specs.Plans.{reading};
 
 use account_book::{Account, Out, Plan};

@@ -31,7 +31,8 @@ use Rattle.mail_import.proofs.Accepting.{IsNewEmail, accepted}
 use Rattle.mail_import.proofs.Dates.{dated_value, moment_dated, received_dated, sent_date}
 use Rattle.mail_import.proofs.SentMembers.{received_good}
 use Rattle.mail_copies.specs.Carried.{carried_date, carried_keywords, kept_date, kept_keyword}
-use Rattle.mail_copies.specs.Copies.{error_of_copy, has_room, keywords_or, next_blob, properties_in, received_or}
+use Rattle.blob_store.specs.Blobs.{has_room}
+use Rattle.mail_copies.specs.Copies.{error_of_copy, keywords_or, next_blob, properties_in, received_or}
 
 -- ---- an option that is one of two
 

@@ -2,7 +2,7 @@
 use Rattle.std.proofs.Common.{◌≡◌, ℕ, suc, zero, ◌+◌, ◌<◌, ◌≤◌, Bool, cond, List, [], ◌∷◌, ◌++◌, length, map, drop, get_or, Option, Some, None, refl, sym, ap, ap₂, ◌∙◌, arith, codes}
 use Rattle.std.specs.Option.{option_or}
 use Rattle.std.proofs.lemmas.List.{drop_more}
-use Rattle.blob_store.specs.Blobs.{byte_count}
+use Rattle.blob_store.specs.Blobs.{byte_count, has_room}
 use Rattle.blob_store.specs.declared.limits.TheConstants.{MAX_BLOB_BYTES_PER_ACCOUNT}
 use Rattle.jm_json.specs.Find.{find as find_member}
 use Rattle.jm_json.specs.Tree.{Tree}
@@ -20,7 +20,7 @@ use Rattle.mail_import.specs.Imports.{Progress, after_check, email_of, error_of}
 use Rattle.mail_import.specs.Properties.{NamedBlob, Sent}
 use Rattle.mail_import.specs.Views.{HasNumbersFor}
 use Rattle.mail_copies.specs.Carried.{Delivery, carried_date, carried_keywords}
-use Rattle.mail_copies.specs.Copies.{after_copies, after_copy, delivery_for, error_of_copy, first_delivery, has_room, keywords_or, next_blob, properties_in, received_or}
+use Rattle.mail_copies.specs.Copies.{after_copies, after_copy, delivery_for, error_of_copy, first_delivery, keywords_or, next_blob, properties_in, received_or}
 use Rattle.mail_copies.specs.Views.{HasRoomFor}
 use Rattle.mail_copies.specs.declared.planner.Copier.{Copier}
 use Rattle.mail_copies.proofs.Room.{count-push}

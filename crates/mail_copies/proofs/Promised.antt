@@ -16,7 +16,7 @@ use Rattle.mail_records.specs.declared.records.Thread.{Thread}
 use Rattle.mail_records.proofs.Growth.{AllFit-append, AreTables-after_edit, AreTables-after_edits, after_edits-append, all_map}
 use Rattle.account_book.specs.Plans.{last_moment}
 use Rattle.account_book.specs.declared.asks.Carried.{Carried}
-use Rattle.blob_store.specs.Blobs.{AreBlobsFew}
+use Rattle.blob_store.specs.Blobs.{AreBlobsFew, has_room}
 use Rattle.mail_counts.specs.CountsFlag.{AreCountsFlagsRight}
 use Rattle.mail_counts.specs.Derived.{AllKeepCounts, LeavesEmails}
 use Rattle.mail_counts.specs.DerivedEdits.{derived_edits}
@@ -49,7 +49,7 @@ use Rattle.mail_import.proofs.NewThreads.{AreNamed, named_push, one_push, thread
 use Rattle.mail_import.proofs.Promising.{flags_append}
 use Rattle.mail_copies.specs.Arguments.{count_copies, forms, from_account_in}
 use Rattle.mail_copies.specs.Carried.{Delivery, deliveries}
-use Rattle.mail_copies.specs.Copies.{after_copies, after_copy, delivery_for, error_of_copy, first_delivery, has_room, next_blob, properties_in}
+use Rattle.mail_copies.specs.Copies.{after_copies, after_copy, delivery_for, error_of_copy, first_delivery, next_blob, properties_in}
 use Rattle.mail_copies.specs.Plans.{place_outcome, plan_after, plan_in}
 use Rattle.mail_copies.proofs.Accepted.{new_copy}
 use Rattle.mail_copies.proofs.Room.{few_with}

@@ -5,10 +5,9 @@ use Rattle.std.proofs.lemmas.Bool.{and_parts, false≢true, leb-false}
 use Rattle.std.proofs.lemmas.List.Sums.{sum-map, sum_by-append}
 use Rattle.std.proofs.lemmas.Option.{none-some}
 use Rattle.blob_store.specs.declared.limits.TheConstants.{MAX_BLOB_BYTES_PER_ACCOUNT, MAX_BLOBS_PER_ACCOUNT}
-use Rattle.blob_store.specs.Blobs.{AreBlobsFew, HasRoomFor, byte_count}
+use Rattle.blob_store.specs.Blobs.{AreBlobsFew, HasRoomFor, byte_count, has_room}
 use Rattle.set_parts.specs.declared.set_errors.SetError.{SetError}
 use Rattle.set_parts.specs.declared.set_errors.SetError.TheVariants.{OverQuota}
-use Rattle.mail_copies.specs.Copies.{has_room}
 
 pub count-append : (xs ys : List (List ℕ)) → byte_count (xs ++ ys) ≡ byte_count xs + byte_count ys
 count-append xs ys =

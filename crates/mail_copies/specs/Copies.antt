@@ -1,13 +1,12 @@
 -- One copy: why it is rejected, and the email and the blob that it creates (RFC 8620, 5.4; RFC
 -- 8621, 4.7). What it shares with an import is defined there.
-use Rattle.std.specs.Prelude.{ℕ, ◌+◌, List, [], ◌∷◌, ◌++◌, drop, length, map, nat_lt, nat_le, Bool, ◌&&◌, Option, Some, None, option_and_then, if◌then◌else◌, codes}
+use Rattle.std.specs.Prelude.{ℕ, ◌+◌, List, [], ◌∷◌, ◌++◌, drop, length, map, Option, Some, None, option_and_then, if◌then◌else◌, codes}
 use Rattle.std.specs.Option.{option_or}
 use Rattle.jm_base.specs.declared.identifiers.UtcDate.{UtcDate}
 use Rattle.jm_json.specs.Tree.{Tree}
 use Rattle.jm_json.specs.Find.{find}
 use Rattle.jm_json.specs.declared.invocation.Created.{Created}
-use Rattle.blob_store.specs.Blobs.{byte_count}
-use Rattle.blob_store.specs.declared.limits.TheConstants.{MAX_BLOB_BYTES_PER_ACCOUNT, MAX_BLOBS_PER_ACCOUNT}
+use Rattle.blob_store.specs.Blobs.{has_room}
 use Rattle.mail_records.specs.Contents.{Content, mailbox_number}
 use Rattle.mail_import.specs.Imports.{Progress, after_check, after_rejected, email_of, error_of}
 use Rattle.mail_import.specs.Properties.{NamedBlob, Sent, received_in}
@@ -43,12 +42,6 @@ properties_in c made moment ms item message = record {
 }
 
 -- ---- errors
-
--- one more blob of this many bytes is within the limits of an account
-abbrev pub has_room : ℕ → List (List ℕ) → Bool
-has_room size blobs =
-    nat_lt (length blobs) MAX_BLOBS_PER_ACCOUNT
-    && nat_le (byte_count blobs + size) MAX_BLOB_BYTES_PER_ACCOUNT
 
 -- The error of the copy of an original that was found, with these properties, which would be one
 -- more of so many emails, and whose blob one more of these: the first one in this order, which ends

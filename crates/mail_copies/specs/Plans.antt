@@ -13,7 +13,7 @@ use Rattle.mail_import.specs.Imports.{Progress}
 use Rattle.mail_import.specs.Plans.{all_edits, beginning}
 use Rattle.set_parts.specs.Arguments.{account_in, creates_in}
 use Rattle.set_parts.specs.Outcomes.{Outcome, Plan, outcome_by}
-use Rattle.set_parts.specs.Responses.{object_or_null}
+use Rattle.method_args.specs.Wrapped.{object_or_null}
 use Rattle.mail_copies.specs.Arguments.{count_copies, forms, from_account_in}
 use Rattle.mail_copies.specs.Carried.{deliveries}
 use Rattle.mail_copies.specs.Copies.{after_copies}

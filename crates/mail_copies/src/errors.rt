@@ -1,12 +1,11 @@
 // Why a copy is rejected (RFC 8620, sections 5.3 and 5.4; RFC 8621, section 4.7).
 ghost use Rattle.std.specs.Prelude.{◌≡◌, ◌≤◌, ◌<◌, ◌^◌, ◌++◌, IfOk, None, Some, if◌then◌else◌};
 ghost use Rattle.std.specs.Option.{option_or};
-ghost use Rattle.blob_store.specs.Blobs.{byte_count};
+ghost use Rattle.blob_store.specs.Blobs.{byte_count, has_room};
 ghost use Rattle.blob_store.specs.declared.limits.TheConstants.{MAX_BLOB_BYTES_PER_ACCOUNT as most_bytes};
 ghost use Rattle.mail_import.specs.Imports.{error_of};
 ghost use Rattle.mail_import.specs.Views.{sent_of};
 ghost use Rattle.set_parts.specs.declared.set_errors.SetError.TheVariants.{OverQuota};
-ghost use Rattle.mail_copies.specs.Copies.{has_room};
 
 use blob_store::{BlobList, MAX_BLOBS_PER_ACCOUNT};
 use jm_base::{Bytes, NoMemory};

@@ -6,7 +6,7 @@ ghost use Rattle.mail_copies.specs.Plans.{reply_members};
 
 use jm_base::{NoMemory, Text, state_text};
 use jm_json::{Json, Members};
-use set_parts::wrap_object;
+use method_args::wrap_object;
 use std::alloc::Global;
 
 /// The two accounts of a copy, by their ids.

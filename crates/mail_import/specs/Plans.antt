@@ -12,7 +12,7 @@ use Rattle.mail_counts.specs.Plans.{Ground, ground_of_history, present_state, st
 use Rattle.set_parts.specs.Arguments.{account_in}
 use Rattle.set_parts.specs.Creates.{before_creates}
 use Rattle.set_parts.specs.Outcomes.{Outcome, Plan, outcome_by}
-use Rattle.set_parts.specs.Responses.{object_or_null}
+use Rattle.method_args.specs.Wrapped.{object_or_null}
 use Rattle.mail_import.specs.Arguments.{count_imports, forms, imports_in}
 use Rattle.mail_import.specs.Imports.{Progress, after_imports}
 

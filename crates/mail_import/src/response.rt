@@ -9,7 +9,8 @@ use blob_ids::{BlobId, write_blob_id};
 use jm_base::{Bytes, Id, Kind, NoMemory, Text, id_text, state_text};
 use jm_json::{Json, Members};
 use mail_records::{Edit, Edits, Email};
-use set_parts::{NewRecord, wrap_object};
+use method_args::wrap_object;
+use set_parts::NewRecord;
 use std::alloc::Global;
 
 /// Builds the arguments of the response: the account, the states before and after, what was

@@ -1,6 +1,6 @@
 -- What an Email/parse is answered (RFC 8621, 4.9).
 use Rattle.std.specs.Prelude.{ℕ, List, [], ◌∷◌, length, map, nat_lt, if◌then◌else◌, Bool, true, is_none, filter_map, Option, Some, None, option_map, option_and_then, unwrap_or, codes}
-use Rattle.jm_json.specs.Tree.{Tree, null, text, list, object, trees_of, fields_of}
+use Rattle.jm_json.specs.Tree.{Tree, null, text, object, fields_of}
 use Rattle.jm_json.specs.Find.{find, as_object}
 use Rattle.blob_ids.specs.BlobIds.{blob_id_in}
 use Rattle.blob_ids.specs.declared.ids.BlobId.{BlobId}
@@ -8,6 +8,7 @@ use Rattle.blob_store.specs.Blobs.{blob_numbered}
 use Rattle.mail_records.specs.Histories.{History, blobs_of}
 use Rattle.mail_summary.specs.Leaves.{part_bytes_of}
 use Rattle.method_args.specs.Arguments.{account_in, as_strings}
+use Rattle.method_args.specs.Wrapped.{list_or_null, object_or_null}
 use Rattle.method_args.specs.declared.TheConstants.{MAX_OBJECTS_PER_CALL}
 use Rattle.get_args.specs.Wanted.{Reading, invalid as invalid_wanted, asked, wanted_by}
 use Rattle.get_args.specs.declared.wanted.Wanted.{Wanted}
@@ -39,16 +40,6 @@ parsed_view blobs wanted id = view_if id wanted (bytes_named blobs id)
 
 abbrev pub parsed_member : List (List ℕ) → Wanted → List ℕ → Option (List ℕ × Tree)
 parsed_member blobs wanted id = option_map (λ view. (id, view)) (parsed_view blobs wanted id)
-
--- a list, or null if it has no items
-abbrev pub list_or_null : List Tree → Tree
-list_or_null [] = null
-list_or_null (t ∷ ts) = list (trees_of (t ∷ ts))
-
--- an object, or null if it has no members
-abbrev pub object_or_null : List (List ℕ × Tree) → Tree
-object_or_null [] = null
-object_or_null (m ∷ ms) = object (fields_of (m ∷ ms))
 
 -- the response: every message can be parsed, so notParsable is null
 abbrev pub parse_tree : List ℕ → Tree → Tree → Tree

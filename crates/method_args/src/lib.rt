@@ -9,6 +9,7 @@
 mod form;
 mod ids;
 mod values;
+mod wrapped;
 
 pub use form::{Argument, Presence, Shape, find_invalid, has_form};
 pub use ids::make_ids;
@@ -16,6 +17,7 @@ pub use values::{
     find_given, if_unsigned, lend_strings, read_account, read_count, read_flag, read_integer,
     read_object, read_strings, read_text,
 };
+pub use wrapped::{wrap_list, wrap_object};
 
 /// The greatest number of objects that one call may get or set: `maxObjectsInGet` and
 /// `maxObjectsInSet` (RFC 8620, section 2).

@@ -2,21 +2,12 @@
 use Rattle.std.specs.Prelude.{◌≡◌, ℕ, List, [], ◌∷◌, Option, Some, option_and_then, codes}
 use Rattle.jm_base.specs.Ids.{state_text}
 use Rattle.jm_base.specs.declared.identifiers.Kind.{Kind}
-use Rattle.jm_json.specs.Tree.{Tree, null, text, list, object, trees_of, fields_of}
+use Rattle.jm_json.specs.Tree.{Tree, text, object, fields_of}
 use Rattle.jm_json.specs.Find.{as_object, find}
 use Rattle.mail_counts.specs.Plans.{Ground, present_state, state_after}
 use Rattle.mail_records.specs.declared.edits.Edit.{Edit}
+use Rattle.method_args.specs.Wrapped.{list_or_null, object_or_null}
 use Rattle.set_parts.specs.declared.reported.Reported.{Reported}
-
--- an object that is null where it would be empty
-abbrev pub object_or_null : List (List ℕ × Tree) → Tree
-object_or_null [] = null
-object_or_null (m ∷ ms) = object (fields_of (m ∷ ms))
-
--- a list that is null where it would be empty
-abbrev pub list_or_null : List Tree → Tree
-list_or_null [] = null
-list_or_null (t ∷ ts) = list (trees_of (t ∷ ts))
 
 -- the account, the states before and after, and what is reported of the objects
 abbrev pub reply_members : List ℕ → ℕ → ℕ → Reported → List (List ℕ × Tree)

@@ -42,7 +42,7 @@ pub use names::{
 pub use outcomes::{check_call, check_set, check_state, is_other_state};
 pub use plans::finish_plan;
 pub use reported::{Reported, start_report};
-pub use responses::{build_set_response, find_new_state, wrap_list, wrap_object};
+pub use responses::{build_set_response, find_new_state};
 pub use set_errors::{SetError, build_error};
 pub use steps::Step;
 pub use text_set::{Key, TextSet, add_text, has_text, new_set};

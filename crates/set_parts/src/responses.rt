@@ -5,14 +5,15 @@ ghost use Rattle.jm_json.specs.Tree.{fields_of, object};
 ghost use Rattle.mail_records.specs.Contents.{Content};
 ghost use Rattle.mail_counts.specs.Plans.{state_after};
 ghost use Rattle.set_parts.specs.Outcomes.{ground_of};
-ghost use Rattle.set_parts.specs.Responses.{list_or_null, object_or_null, reply_members};
+ghost use Rattle.set_parts.specs.Responses.{reply_members};
 ghost use Rattle.state_log.specs.Logs.{log_end};
 
 use crate::reported::Reported;
 use jm_base::{Kind, NoMemory, Text, state_text};
-use jm_json::{Items, Json, Members};
+use jm_json::{Json, Members};
 use mail_counts::find_state_after;
 use mail_records::Edit;
+use method_args::{wrap_list, wrap_object};
 use state_log::Log;
 use std::alloc::Global;
 
@@ -24,26 +25,6 @@ pub fn find_new_state(log: &Log, kind: Kind, edits: &[Edit]) -> u64
 {
     let before = log.state_of(kind);
     find_state_after(kind, before, log.end(), edits)
-}
-
-/// Returns an object with these members, or null if there are none.
-pub fn wrap_object(members: Members) -> Json
-    ensures { tree_of result ≡ object_or_null members }
-{
-    if members.as_slice().is_empty() {
-        return Json::Null;
-    }
-    Json::Object(members)
-}
-
-/// Returns a list of these items, or null if there are none.
-pub fn wrap_list(items: Items) -> Json
-    ensures { tree_of result ≡ list_or_null items }
-{
-    if items.as_slice().is_empty() {
-        return Json::Null;
-    }
-    Json::List(items)
 }
 
 /// Builds the arguments of the response: the account, the states before and after, and what is

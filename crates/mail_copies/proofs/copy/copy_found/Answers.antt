@@ -4,7 +4,8 @@ use Rattle.mail_import.specs.Imports.{Progress}
 use Rattle.mail_import.specs.Views.{Follows, blob_of, sent_of}
 use Rattle.set_parts.specs.Views.{create_of}
 use Rattle.set_parts.proofs.Parts.{on_ok}
-use Rattle.mail_copies.specs.Copies.{has_room, next_blob}
+use Rattle.blob_store.specs.Blobs.{has_room}
+use Rattle.mail_copies.specs.Copies.{next_blob}
 use Rattle.mail_copies.specs.Views.{delivery_of}
 use Rattle.mail_copies.proofs.Following.{copy_step}
 use Rattle.mail_copies.proofs.copy.copy_found.Goals as goal
