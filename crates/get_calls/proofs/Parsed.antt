@@ -3,7 +3,7 @@ use Rattle.std.proofs.Common.{◌≡◌, ℕ, ◌≤◌, ◌+◌, List, [], ◌�
 use Rattle.std.specs.Prelude.{nat_lt, ◌==◌, if◌then◌else◌, filter_map}
 use Rattle.std.proofs.lemmas.List.Elements.{filter_map-append}
 use Rattle.std.proofs.lemmas.Bool.Decides.{nat_tests}
-use Rattle.jm_json.specs.Tree.{Tree, null, text, list, object, trees_of, fields_of}
+use Rattle.jm_json.specs.Tree.{Tree, text}
 use Rattle.jm_json.specs.Order.{put}
 use Rattle.method_args.specs.Arguments.{account_in}
 use Rattle.method_args.specs.declared.TheConstants.{MAX_OBJECTS_PER_CALL}
