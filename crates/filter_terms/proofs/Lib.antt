@@ -8,3 +8,4 @@ pub mod Operators
 pub mod FieldTests
 pub mod Certain
 pub mod FirstByte
+mod LastByte

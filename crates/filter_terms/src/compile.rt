@@ -3,7 +3,9 @@ ghost use Rattle.std.specs.Prelude.{◌≡◌, IfOk, Some, map};
 ghost use Rattle.jm_json.specs.Json.{member_of, tree_of};
 ghost use Rattle.jm_json.specs.Tree.{fields_of, object, trees_of};
 ghost use Rattle.filter_terms.specs.Names.{term_of};
-ghost use Rattle.filter_terms.specs.Compiled.{MeanConditions, MeanItems, MeanList, MeanMembers, Means, MeansTerm};
+ghost use Rattle.filter_terms.specs.Targets.{Target};
+ghost use Rattle.std.specs.List.{list_all};
+ghost use Rattle.filter_terms.specs.Compiled.{match_each, terms_match, MeanConditions, MeanItems, MeanList, MeanMembers, Means, MeansTerm};
 
 use crate::compiled::Terms;
 use crate::conditions::{
@@ -62,6 +64,20 @@ fn read_members(alloc: Global, kind: Kind, members: &[Member]) -> Result<Vec<Ter
     Ok(all)
 }
 
+// Returns the terms that match where all of these do: one alone is not joined.
+#[tactic(auto, using(crate::proofs::Matched::by_kind))]
+fn match_all(mut terms: Vec<Terms>) -> Terms
+    ensures { (x : Target) → terms_match result x
+        ≡ list_all (λ b. b) (match_each terms.items x) }
+{
+    if terms.len() == 1 {
+        if let Some(only) = terms.pop() {
+            return only;
+        }
+    }
+    Terms::Join(Operator::And, terms)
+}
+
 /// Returns the terms of a filter, which match what its tree matches.
 #[tactic(auto, using(crate::proofs::Matched::by_kind))]
 #[cycle(compile)]
@@ -89,10 +105,7 @@ fn compile_object(alloc: Global, kind: Kind, members: &Members) -> Result<Terms,
             )),
             None => Ok(Terms::Always),
         },
-        None => Ok(Terms::Join(
-            Operator::And,
-            read_members(alloc, kind, members.as_slice())?,
-        )),
+        None => Ok(match_all(read_members(alloc, kind, members.as_slice())?)),
     }
 }
 

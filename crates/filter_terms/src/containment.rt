@@ -1,5 +1,5 @@
 // Whether a text contains another one, with ASCII letters in either case.
-ghost use Rattle.std.specs.Prelude.{◌≡◌, ℕ, List, ◌∷◌, false, MatchOption};
+ghost use Rattle.std.specs.Prelude.{◌≡◌, ℕ, List, ◌∷◌, false, true, MatchOption};
 ghost use Rattle.filter_terms.specs.Contains.{IsAfterFirst, begins_with, contains};
 
 use memchr::memchr2;
@@ -22,9 +22,25 @@ fn strip_byte<'a>(text: &'a [u8], byte: u8) -> Option<&'a [u8]>
     }
 }
 
+// Returns whether the text has the last byte of the needle, in either case, where it is if the text
+// begins with the needle. Few texts do by chance.
+fn has_last(text: &[u8], needle: &[u8]) -> bool
+    ensures { begins_with needle.now text.now ≡ true → result ≡ true }
+{
+    let len = needle.len();
+    if len == 0 {
+        return true;
+    }
+    len <= text.len() && text[len - 1].to_ascii_lowercase() == needle[len - 1].to_ascii_lowercase()
+}
+
+// Returns whether the text begins with the needle.
 fn begins_with(text: &[u8], needle: &[u8]) -> bool
     ensures { result ≡ begins_with needle.now text.now }
 {
+    if !has_last(text, needle) {
+        return false;
+    }
     let mut rest = text;
     for byte in needle {
         match strip_byte(rest, *byte) {
