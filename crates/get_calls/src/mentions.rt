@@ -7,10 +7,7 @@ use std::alloc::Global;
 use std::collections::HashSet;
 
 /// Returns these ids, each once, in the order of their first mention.
-pub fn list_first_mentions<'a>(
-    alloc: Global,
-    ids: &[&'a str],
-) -> Result<Vec<&'a str>, NoMemory>
+pub fn list_first_mentions<'a>(alloc: Global, ids: &[&'a str]) -> Result<Vec<&'a str>, NoMemory>
     ensures { IfOk result (λ v.
         map (λ t. t.now) v.items ≡ first_mentions (map (λ t. t.now) ids.now)) }
 {

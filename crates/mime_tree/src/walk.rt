@@ -45,9 +45,9 @@ fn read_part_tree(
     ensures taken { IfOk result (λ p. taken (part_tree levels digest
         (piece start (slice_range message.now start end)) none) budget.old.left budget.old.number
         ≡ record {
-            parts = part_before p none;
-            left = budget.new.left;
-            number = budget.new.number;
+          parts = part_before p none;
+          left = budget.new.left;
+          number = budget.new.number;
         }) }
     ensures placed { IfOk result (λ p. AllPlaced (length message.now) (part_before p none)) }
     ensures room { OnOk result (budget.new.number + budget.new.left ≤ MAX_PARTS + 1) }
