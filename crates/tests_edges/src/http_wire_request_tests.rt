@@ -21,15 +21,21 @@ pub(crate) struct Outcome {
     pub wrote: usize,
 }
 
-// Reads a request from these bytes. The first read of the link takes so many of them.
-pub(crate) fn read_cut(alloc: Global, text: &[u8], first: u64) -> Result<Outcome, Fail> {
+// Reads a request from these bytes. The first read of the link takes so many of them, and each one
+// after it at most `most`.
+pub(crate) fn read_cut(
+    alloc: Global,
+    text: &[u8],
+    first: u64,
+    most: usize,
+) -> Result<Outcome, Fail> {
+    let mut room = vec![in alloc; 0u8; 20_000]?;
     let mut sizes = Numbers::new(alloc);
     sizes.push(first)?;
-    let input = MemorySource::in_sizes(text.to_vec(alloc)?, sizes, 64, Numbers::new(alloc));
+    let input = MemorySource::in_sizes(text.to_vec(alloc)?, sizes, most, Numbers::new(alloc));
     let mut link = MemoryLink::new(input, MemorySink::new(alloc));
-    let mut room = [0u8; 256];
     let mut early = Unread::new(alloc);
-    let read = match read_request(alloc, &mut link, &mut room, &mut early) {
+    let read = match read_request(alloc, &mut link, room.as_mut_slice(), &mut early) {
         Ok(request) => Ok(Seen {
             body: request.body.len(),
             after: early.len(),
@@ -47,7 +53,7 @@ pub(crate) fn read_cut(alloc: Global, text: &[u8], first: u64) -> Result<Outcome
 fn count_others(alloc: Global, text: &[u8], outcome: Outcome) -> Result<u64, Fail> {
     let mut others: u64 = 0;
     for first in 0..text.len() as u64 + 1 {
-        if read_cut(alloc, text, first)? != outcome {
+        if read_cut(alloc, text, first, 64)? != outcome {
             others = others.saturating_add(1);
         }
     }

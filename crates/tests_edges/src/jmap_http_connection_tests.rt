@@ -85,13 +85,18 @@ const CONNECTIONS: [(&str, &str, Served); 9] = [
 
 // What was written, and how the connection ended.
 #[derive(Drop)]
-struct Outcome {
-    written: String,
-    served: Served,
+pub(crate) struct Outcome {
+    pub written: String,
+    pub served: Served,
 }
 
 // Serves a connection of these bytes, of which the first read takes so many.
-fn serve_cut(alloc: Global, users: &Users, text: &str, first: u64) -> Result<Outcome, AllocError> {
+pub(crate) fn serve_cut(
+    alloc: Global,
+    users: &Users,
+    text: &str,
+    first: u64,
+) -> Result<Outcome, AllocError> {
     let mut sizes = Vec::new(alloc);
     sizes.push(first)?;
     let bytes = text.as_bytes().to_vec(alloc)?;
@@ -110,8 +115,8 @@ fn serve_cut(alloc: Global, users: &Users, text: &str, first: u64) -> Result<Out
 fn connections_are_served_however_they_are_cut(rt: HostRuntime) -> Result<(), Fail> {
     let users = read_all(rt.alloc())?;
     for (text, want, served) in CONNECTIONS {
-        for first in [1, 30, 4096] {
-            let got = serve_cut(rt.alloc(), &users, text, first)?;
+        for first in 0..text.len() as u64 {
+            let got = serve_cut(rt.alloc(), &users, text, first.saturating_add(1))?;
             assert_eq!(rt; got.written.as_str(), want, "at {text}");
             assert_eq!(rt; got.served, served, "at {text}");
         }
@@ -138,6 +143,7 @@ fn the_thousandth_request_is_the_last(rt: HostRuntime) -> Result<(), Fail> {
     let gate = CountingGate::new();
     let served = serve_requests(rt.alloc(), &users, &mut port, &mut link, &mut clock, &gate);
     assert_eq!(rt; served, Served::Limit);
+    assert_eq!(rt; gate.count(), 1000);
     assert_eq!(rt;
         link.bytes().len(),
         999 * UNKNOWN.len() + UNKNOWN_LAST.len()

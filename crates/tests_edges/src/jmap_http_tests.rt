@@ -90,7 +90,7 @@ const USERS: &str =
     r#"{"users":[{"accounts":[],"name":"eve","token":"v"},{"accounts":[{"id":"A1","name":"Work","readOnly":false},{"id":"R","name":"","readOnly":true}],"name":"ann","token":"t"}]}"#;
 
 // A request line, the fields, the body, and the response's status, media type and body.
-const RESPONSES: [[&str; 4]; 34] = [
+pub(crate) const RESPONSES: [[&str; 4]; 35] = [
     [
         "GET /.well-known/jmap",
         "Host: h",
@@ -153,6 +153,12 @@ const RESPONSES: [[&str; 4]; 34] = [
     ],
     [
         "GET /jmap/api",
+        "Authorization: Bearer t",
+        "",
+        r#"405 application/problem+json {"status":405,"type":"about:blank"}"#,
+    ],
+    [
+        "PUT /jmap/api",
         "Authorization: Bearer t",
         "",
         r#"405 application/problem+json {"status":405,"type":"about:blank"}"#,
