@@ -68,6 +68,7 @@ fn a_write_that_fails_ends_the_connection(rt: HostRuntime) {
         let all = got.written.len() == 2 * UNKNOWN.len();
         assert!(rt; (got.served == Served::End) == all, "{number}");
         assert!(rt; (got.served == Served::WriteFault) != all, "{number}");
-        assert!(rt; number > 1 || !all);
+        // Each response is one write, its head and its body together.
+        assert!(rt; all == (number > 2), "{number}");
     }
 }
