@@ -1,8 +1,9 @@
 // Input that comes in pieces, calls that fail, and when replies are put.
 use crate::no_world::NoWorld;
 use crate::running::{Faults, NO_FAULTS, run_over};
-use jm_edge::{Failed, MemorySink, Reading, Sink, Source, Writing};
+use jm_edge::{Failed, MemorySink, MemorySource, Reading, Sink, Source, Writing};
 use jmap_commands::{Status, run};
+use std::alloc::Global;
 use std::cell::Cell;
 use std::test::Fail;
 
@@ -287,6 +288,60 @@ fn puts_each_reply_before_it_reads_on(rt: HostRuntime) -> Result<(), Fail> {
     );
     assert_eq!(rt; status, Status(0));
     assert_eq!(rt; out.seen.as_slice(), [1, 2].as_slice());
+    Ok(())
+}
+
+// A sink that notes its longest piece, and counts the bytes of all.
+#[derive(Drop)]
+struct Longest {
+    piece: usize,
+    all: usize,
+}
+
+impl Sink for Longest {
+    ghost use Rattle.std.specs.Prelude.{None};
+
+    ghost held = { λ s. None };
+
+    ghost faults = { λ s. 0 };
+
+    fn put(&mut self, piece: &[u8]) -> Result<usize, Failed> {
+        self.piece = self.piece.max(piece.len());
+        self.all = self.all.saturating_add(piece.len());
+        Ok(piece.len())
+    }
+}
+
+const NOT_JSON: &str = "{\"status\":400,\"type\":\"urn:ietf:params:jmap:error:notJSON\"}\n";
+
+const LINES: usize = 32_768;
+
+// Lines that are no JSON, as many bytes as one read takes.
+fn write_lines(alloc: Global) -> Result<Vec<u8>, Fail> {
+    let mut bytes = Vec::new(alloc);
+    for _ in 0..LINES {
+        bytes.extend_from_slice(b"x\n")?;
+    }
+    Ok(bytes)
+}
+
+#[test]
+fn at_most_64_kib_of_replies_wait(rt: HostRuntime) -> Result<(), Fail> {
+    let lines = write_lines(rt.alloc())?;
+    let mut out = Longest { piece: 0, all: 0 };
+    let words = vec![in rt.alloc(); String::from_str(rt.alloc(), "batch")?]?;
+    let status = run(
+        &rt,
+        rt.alloc(),
+        words.as_slice(),
+        &mut MemorySource::new(rt.alloc(), lines),
+        &mut out,
+        &mut MemorySink::new(rt.alloc()),
+        &mut NoWorld { alloc: rt.alloc() },
+    );
+    assert_eq!(rt; status, Status(0));
+    assert_eq!(rt; out.all, LINES * NOT_JSON.len());
+    assert!(rt; out.piece < 65_536 + NOT_JSON.len());
     Ok(())
 }
 
