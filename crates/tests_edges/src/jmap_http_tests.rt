@@ -90,7 +90,7 @@ const USERS: &str =
     r#"{"users":[{"accounts":[],"name":"eve","token":"v"},{"accounts":[{"id":"A1","name":"Work","readOnly":false},{"id":"R","name":"","readOnly":true}],"name":"ann","token":"t"}]}"#;
 
 // A request line, the fields, the body, and the response's status, media type and body.
-pub(crate) const RESPONSES: [[&str; 4]; 35] = [
+const RESPONSES: [[&str; 4]; 35] = [
     [
         "GET /.well-known/jmap",
         "Host: h",
