@@ -1,6 +1,6 @@
 // Calls that are rejected as a whole (RFC 8620, sections 3.6.2, 5.4 and 6.3).
 use crate::worlds::{blob_list, carry, content_from, place};
-use copy_calls::{fetch_blobs_from, fetch_originals_from};
+use copy_calls::{fetch_blobs_from, fetch_originals_from, place_blobs};
 use jm_json::read;
 use mail_counts::SetFault;
 use std::alloc::Global;
@@ -103,8 +103,18 @@ fn fetched_blobs(alloc: Global, args: &str) -> Result<String, Fail> {
     }
 }
 
+fn placed_blobs(alloc: Global, args: &str) -> Result<String, Fail> {
+    let blobs = blob_list(alloc, &[])?;
+    let args = read(alloc, args.as_bytes())?;
+    let carried = carry(alloc, "[]", &[])?;
+    match place_blobs(alloc, &blobs, &args, &carried) {
+        Ok(_) => Ok(String::from_str(alloc, "ok")?),
+        Err(fault) => name_fault(alloc, fault),
+    }
+}
+
 #[test]
-fn the_arguments_of_a_copy_of_blobs_are_checked(rt: HostRuntime) -> Result<(), Fail> {
+fn both_accounts_check_the_arguments_of_a_copy_of_blobs(rt: HostRuntime) -> Result<(), Fail> {
     for (args, wanted) in [
         ("0", "invalid "),
         (
@@ -132,24 +142,30 @@ fn the_arguments_of_a_copy_of_blobs_are_checked(rt: HostRuntime) -> Result<(), F
             fetched_blobs(rt.alloc(), args)?.as_str() == wanted,
             "{args}"
         );
+        assert!(rt;
+            placed_blobs(rt.alloc(), args)?.as_str() == wanted,
+            "{args}"
+        );
     }
     Ok(())
 }
 
-// The arguments of a copy of so many emails.
-fn many_emails(alloc: Global, count: u64) -> Result<String, Fail> {
+// The arguments of a copy of so many emails, with more members.
+fn many_emails(alloc: Global, count: u64, more: &str) -> Result<String, Fail> {
     let mut text = String::from_str(alloc, "{\"accountId\":\"A2\",\"create\":{")?;
     for i in 0..count {
         let comma = if i == 0 { "" } else { "," };
         text.push_str(format!(in alloc; "{comma}\"k{i}\":{{}}")?.as_str())?;
     }
-    text.push_str("},\"fromAccountId\":\"A1\",\"ifFromInState\":\"9\",\"ifInState\":\"9\"}")?;
+    text.push_str("},\"fromAccountId\":\"A1\",\"ifFromInState\":\"9\",\"ifInState\":\"9\"")?;
+    text.push_str(more)?;
+    text.push_str("}")?;
     Ok(text)
 }
 
-// The arguments of a copy of one blob, which is named so often.
-fn many_blobs(alloc: Global, count: u64) -> Result<String, Fail> {
-    let mut text = String::from_str(alloc, "{\"accountId\":\"A2\",\"blobIds\":[")?;
+// The arguments of a copy of one blob, which is named so often, with this accountId.
+fn many_blobs(alloc: Global, count: u64, account: &str) -> Result<String, Fail> {
+    let mut text = format!(in alloc; "{{\"accountId\":{account},\"blobIds\":[")?;
     for i in 0..count {
         let comma = if i == 0 { "" } else { "," };
         text.push_str(format!(in alloc; "{comma}\"b1\"")?.as_str())?;
@@ -159,15 +175,42 @@ fn many_blobs(alloc: Global, count: u64) -> Result<String, Fail> {
 }
 
 #[test]
-fn a_call_copies_at_most_500_objects(rt: HostRuntime) -> Result<(), Fail> {
+fn a_call_copies_at_most_500_emails(rt: HostRuntime) -> Result<(), Fail> {
     let alloc = rt.alloc();
-    for (count, one, other) in [(500, "other state", "ok"), (501, "too large", "too large")] {
-        let emails = many_emails(alloc, count)?;
-        assert!(rt; fetched(alloc, emails.as_str())?.as_str() == one, "{count}");
-        assert!(rt; placed(alloc, emails.as_str())?.as_str() == one, "{count}");
-        let blobs = many_blobs(alloc, count)?;
+    for (count, more, wanted) in [
+        (500, "", "other state"),
+        (501, "", "too large"),
+        (
+            501,
+            ",\"onSuccessDestroyOriginal\":1",
+            "invalid onSuccessDestroyOriginal",
+        ),
+    ] {
+        let args = many_emails(alloc, count, more)?;
         assert!(rt;
-            fetched_blobs(alloc, blobs.as_str())?.as_str() == other,
+            fetched(alloc, args.as_str())?.as_str() == wanted,
+            "{count}"
+        );
+        assert!(rt; placed(alloc, args.as_str())?.as_str() == wanted, "{count}");
+    }
+    Ok(())
+}
+
+#[test]
+fn a_call_copies_at_most_500_blobs(rt: HostRuntime) -> Result<(), Fail> {
+    let alloc = rt.alloc();
+    for (count, account, wanted) in [
+        (500, "\"A2\"", "ok"),
+        (501, "\"A2\"", "too large"),
+        (501, "1", "invalid accountId"),
+    ] {
+        let args = many_blobs(alloc, count, account)?;
+        assert!(rt;
+            fetched_blobs(alloc, args.as_str())?.as_str() == wanted,
+            "{count}"
+        );
+        assert!(rt;
+            placed_blobs(alloc, args.as_str())?.as_str() == wanted,
             "{count}"
         );
     }

@@ -10,6 +10,8 @@ mod copy_calls_originals;
 #[cfg(test)]
 mod mail_calls_copy_tests;
 #[cfg(test)]
+mod mail_copies_limit_tests;
+#[cfg(test)]
 mod mail_copies_tests;
 #[cfg(test)]
 mod worlds;

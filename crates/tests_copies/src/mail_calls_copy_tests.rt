@@ -316,13 +316,15 @@ fn following<A: Abort>(rt: &A, alloc: Global, call: &Invocation, out: &Out) -> O
     }
 }
 
-// Copies, and asks the first account what follows. Returns whether it answers these arguments.
-fn is_destroyed<A: Abort, K: Keeper, R: Rules>(
+// Copies, and asks the first account what follows. Returns whether its response has this name and
+// these arguments.
+fn is_followed<A: Abort, K: Keeper, R: Rules>(
     rt: &A,
     alloc: Global,
     from: Book<K, R>,
     to: Book<K, R>,
     args: &'static str,
+    name: &str,
     expected: &str,
 ) -> bool {
     let mut from = from;
@@ -332,25 +334,31 @@ fn is_destroyed<A: Abort, K: Keeper, R: Rules>(
     match following(rt, alloc, &call, &out) {
         Some(set) => {
             let out = asked(rt, alloc, &mut from, Ask::Method(set));
-            is_told(rt, alloc, &out, "Email/set", expected)
+            is_told(rt, alloc, &out, name, expected)
         }
         None => false,
     }
 }
 
+// The same copy, whose originals are destroyed in the state 2 alone. Theirs is 3.
+const COPY_IN_STATE: &str =
+    "{\"accountId\":\"A2\",\"create\":{\"k\":{\"id\":\"E1\",\"mailboxIds\":{\"M1\":true}}},\"destroyFromIfInState\":\"2\",\"fromAccountId\":\"A1\",\"onSuccessDestroyOriginal\":true}";
+
+const DESTROYED: &str =
+    "{\"accountId\":\"A1\",\"created\":null,\"destroyed\":[\"E1\"],\"newState\":\"7\",\"notCreated\":null,\"notDestroyed\":null,\"notUpdated\":null,\"oldState\":\"3\",\"updated\":null}";
+
 #[test]
-fn an_original_that_was_copied_is_destroyed(rt: HostRuntime) {
+fn an_original_that_was_copied_is_destroyed_unless_its_state_differs(rt: HostRuntime) {
     let alloc = rt.alloc();
-    let from = originals(&rt, alloc, keeper(alloc), MailRules);
-    let to = other(&rt, alloc, keeper(alloc), MailRules);
-    assert!(rt;
-        is_destroyed(
-            &rt,
-            alloc,
-            from,
-            to,
-            COPY,
-            "{\"accountId\":\"A1\",\"created\":null,\"destroyed\":[\"E1\"],\"newState\":\"7\",\"notCreated\":null,\"notDestroyed\":null,\"notUpdated\":null,\"oldState\":\"3\",\"updated\":null}",
-        )
-    );
+    for (args, name, expected) in [
+        (COPY, "Email/set", DESTROYED),
+        (COPY_IN_STATE, "error", "{\"type\":\"stateMismatch\"}"),
+    ] {
+        let from = originals(&rt, alloc, keeper(alloc), MailRules);
+        let to = other(&rt, alloc, keeper(alloc), MailRules);
+        assert!(rt;
+            is_followed(&rt, alloc, from, to, args, name, expected),
+            "{args}"
+        );
+    }
 }

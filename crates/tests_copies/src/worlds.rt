@@ -1,6 +1,8 @@
 // Two accounts in memory: A1, from which copies are made, and A2, into which they are made.
-ghost use Rattle.std.specs.Prelude.{◌^◌, IfOk, IsTrue};
+ghost use Rattle.std.specs.Prelude.{◌≤◌, ◌^◌, IfOk, IsTrue};
 ghost use Rattle.mail_records.specs.Contents.{AreNumbered, NextAtMost};
+ghost use Rattle.mail_records.specs.Histories.{max_position};
+ghost use Rattle.state_log.specs.Logs.{log_end};
 
 use account_book::Carried;
 use blob_store::BlobList;
@@ -16,10 +18,11 @@ use std::test::Fail;
 /// A message of 17 bytes.
 pub const HELLO: &str = "Subject: hi\r\n\r\nok";
 
-fn mailbox(alloc: Global) -> Result<Mailbox, NoMemory> {
+/// A mailbox without emails.
+pub fn mailbox(alloc: Global, number: u64) -> Result<Mailbox, NoMemory> {
     Ok(Mailbox {
-        number: 1,
-        name: Text::from_str(alloc, "m")?,
+        number,
+        name: Text::from_string(format!(in alloc; "m{number}")?),
         parent: None,
         role: None,
         sort_order: 0,
@@ -42,16 +45,16 @@ fn summary(alloc: Global) -> Result<Summary, NoMemory> {
     })
 }
 
-// E1, which is $seen, and was received at 2020-01-02T03:04:05Z.
-fn email(alloc: Global) -> Result<Email, NoMemory> {
+/// An email in M1, which is $seen, and was received at 2020-01-02T03:04:05Z.
+pub fn email(alloc: Global, number: u64, thread: u64) -> Result<Email, NoMemory> {
     let mut mailboxes = Numbers::new(alloc);
     mailboxes.push(1)?;
     let mut keywords = Texts::new(alloc);
     keywords.push(Text::from_str(alloc, "$seen")?)?;
     let summary = summary(alloc)?;
     Ok(Email {
-        number: 1,
-        thread: 1,
+        number,
+        thread,
         blob: 1,
         mailboxes,
         keywords,
@@ -63,13 +66,13 @@ fn email(alloc: Global) -> Result<Email, NoMemory> {
     })
 }
 
-// The content after these edits.
-fn enter(alloc: Global, content: Content, edits: &Edits) -> Result<Content, Fail>
+/// The content after these edits, of which there are at most 200,000.
+pub fn enter(alloc: Global, content: Content, edits: &Edits) -> Result<Content, Fail>
     requires numbered { AreNumbered content.content }
     requires next { NextAtMost (2 ^ 40) content.content }
     ensures { IfOk result (λ c. AreNumbered c.content) }
 {
-    if edits.len() > 5000 {
+    if edits.len() > 200_000 {
         return Err("too many edits")?;
     }
     match apply_fitting(alloc, content, edits.as_slice())? {
@@ -82,12 +85,12 @@ fn enter(alloc: Global, content: Content, edits: &Edits) -> Result<Content, Fail
 pub fn content_from(alloc: Global) -> Result<Content, Fail> {
     let mut edits = Edits::new(alloc);
     edits.push(Edit::PutMailbox {
-        item: mailbox(alloc)?,
+        item: mailbox(alloc, 1)?,
         was: false,
         counts: false,
     })?;
     edits.push(Edit::PutEmail {
-        item: email(alloc)?,
+        item: email(alloc, 1, 1)?,
         was: false,
     })?;
     enter(alloc, Content::new(alloc), &edits)
@@ -99,7 +102,7 @@ pub fn content_to(alloc: Global) -> Result<Content, Fail>
 {
     let mut edits = Edits::new(alloc);
     edits.push(Edit::PutMailbox {
-        item: mailbox(alloc)?,
+        item: mailbox(alloc, 1)?,
         was: false,
         counts: false,
     })?;
@@ -153,6 +156,7 @@ pub fn carry(alloc: Global, list: &str, messages: &[&str]) -> Result<Carried, Fa
     Ok(Carried { emails, blobs })
 }
 
+// Whether the next numbers of a content are far from the greatest ones.
 fn is_small(content: &Content) -> bool
     ensures { IsTrue result → NextAtMost (2 ^ 40) content.now.content }
 {
@@ -161,7 +165,29 @@ fn is_small(content: &Content) -> bool
         && content.next(Kind::Thread) <= 1 << 40
 }
 
-/// What A2, which has these blobs, plans for an Email/copy with these arguments, at the timestamp 7.
+/// What A2, with this content, this log and these blobs, plans for an Email/copy with these
+/// arguments, at the timestamp 7.
+pub fn place_into(
+    alloc: Global,
+    content: &Content,
+    log: &Log,
+    blobs: &BlobList,
+    args: &str,
+    carried: &Carried,
+) -> Result<Result<SetPlan, SetFault>, Fail>
+    requires numbered { AreNumbered content.now.content }
+    requires last { log_end log.now ≤ max_position }
+{
+    if !is_small(content) {
+        return Err("numbers past all bounds")?;
+    }
+    let args = read(alloc, args.as_bytes())?;
+    let made = Made::new(alloc);
+    let planned = place_emails(alloc, content, log, blobs, &args, carried, &made, 7);
+    Ok(planned)
+}
+
+/// The same of A2 with M1 alone.
 pub fn place_beside(
     alloc: Global,
     blobs: &BlobList,
@@ -169,14 +195,8 @@ pub fn place_beside(
     carried: &Carried,
 ) -> Result<Result<SetPlan, SetFault>, Fail> {
     let content = content_to(alloc)?;
-    if !is_small(&content) {
-        return Err("numbers past all bounds")?;
-    }
-    let args = read(alloc, args.as_bytes())?;
     let log = Log::new(alloc, 1, 1, 0, 0);
-    let made = Made::new(alloc);
-    let planned = place_emails(alloc, &content, &log, blobs, &args, carried, &made, 7);
-    Ok(planned)
+    place_into(alloc, &content, &log, blobs, args, carried)
 }
 
 /// The same of A2 without blobs.
