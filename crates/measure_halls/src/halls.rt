@@ -16,8 +16,9 @@ use std::sync::Wait;
 use std::thread::Threads;
 use std::time::Clock;
 
-// How many threads make calls at once.
-const THREADS: [u64; 3] = [1, 2, 4];
+// How many threads make calls at once. One is the last, since the system's allocator is slower once
+// a process has had threads, and as slow for one as for several.
+const THREADS: [u64; 3] = [4, 2, 1];
 
 // Which accounts the sessions use: all the same one, or each its own.
 #[derive(Clone, Copy, Debug)]
@@ -155,15 +156,15 @@ fn measure_each<H: Threads + Wait + Clock + Print + Eprint + Sync>(
     Ok(())
 }
 
-/// Measures calls that get a mailbox, so many by each thread: on a book alone, and by 1, 2 and 4
-/// sessions of a hall, which use one account and then an account each.
+/// Measures calls that get a mailbox, so many by each thread: by 4, 2 and 1 sessions of a hall,
+/// which use one account and then an account each, and on a book alone.
 pub(crate) fn measure_halls<H: Threads + Wait + Clock + Print + Eprint + Sync>(
     rt: &H,
     alloc: Global,
     calls: u64,
 ) -> io::Result<()> {
     let filled = fill_keeper(alloc)?;
-    measure_alone(rt, alloc, &filled, calls)?;
     measure_each(rt, alloc, &filled, Spread::One, calls)?;
-    measure_each(rt, alloc, &filled, Spread::Four, calls)
+    measure_each(rt, alloc, &filled, Spread::Four, calls)?;
+    measure_alone(rt, alloc, &filled, calls)
 }
