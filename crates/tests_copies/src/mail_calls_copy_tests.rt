@@ -1,27 +1,15 @@
 // Copies between two accounts by the rules of mail (RFC 8620, sections 5.4 and 6.3; RFC 8621,
 // section 4.7). A fault ends the test.
+use crate::worlds::{json, stop, sure};
 use account_book::{Ask, Book, Call, Out, Rules};
 use copy_calls::build_originals_call;
 use jm_base::{Bytes, Rows, Text};
-use jm_json::{Invocation, Made, read, write};
+use jm_json::{Invocation, Made, write};
 use keep_port::{Keeper, Kept, MemoryKeeper};
 use mail_calls::MailRules;
 use mail_records::Stamp;
 use std::alloc::Global;
 use std::process::Abort;
-
-// Ends the test.
-fn stop<A: Abort>(rt: &A) -> ! {
-    panic!(rt; "a call failed that must not")
-}
-
-// What was returned. An error ends the test.
-fn sure<A: Abort, T: Drop, E: Drop>(rt: &A, returned: Result<T, E>) -> T {
-    match returned {
-        Ok(value) => value,
-        Err(_) => stop(rt),
-    }
-}
 
 // A keeper in memory without base and rows.
 fn keeper(alloc: Global) -> MemoryKeeper {
@@ -61,10 +49,9 @@ fn asked<A: Abort, K: Keeper, R: Rules>(
 }
 
 fn invocation<A: Abort>(rt: &A, alloc: Global, name: &str, args: &str) -> Invocation {
-    let args = sure(rt, read(alloc, args.as_bytes()));
     Invocation {
         name: sure(rt, Text::from_str(alloc, name)),
-        args,
+        args: json(rt, alloc, args),
         id: sure(rt, Text::from_str(alloc, "0")),
     }
 }
@@ -306,38 +293,44 @@ fn emails_and_blobs_are_copied_between_accounts(rt: HostRuntime) {
 }
 
 // The call that follows a copy with this answer.
-fn following<A: Abort>(rt: &A, alloc: Global, call: &Invocation, out: &Out) -> Option<Invocation> {
+fn following<A: Abort>(rt: &A, alloc: Global, call: &Invocation, out: &Out) -> Invocation {
     match out {
         Out::Replies(replied) => match replied.responses.as_slice() {
-            [first, ..] => sure(rt, build_originals_call(alloc, call, first)),
-            [] => None,
+            [first, ..] => match sure(rt, build_originals_call(alloc, call, first)) {
+                Some(set) => set,
+                None => stop(rt),
+            },
+            [] => stop(rt),
         },
-        _ => None,
+        _ => stop(rt),
     }
 }
 
-// Copies, and asks the first account what follows. Returns whether its response has this name and
-// these arguments.
-fn is_followed<A: Abort, K: Keeper, R: Rules>(
+// Copies, and returns the call that follows.
+fn copied_and_following<A: Abort, K: Keeper, R: Rules>(
+    rt: &A,
+    alloc: Global,
+    from: &mut Book<K, R>,
+    to: &mut Book<K, R>,
+    args: &'static str,
+) -> Invocation {
+    let out = copied(rt, alloc, from, to, ("Email/copy", args, "", ""));
+    let call = invocation(rt, alloc, "Email/copy", args);
+    following(rt, alloc, &call, &out)
+}
+
+// Copies, and asks the first account what follows.
+fn followed<A: Abort, K: Keeper, R: Rules>(
     rt: &A,
     alloc: Global,
     from: Book<K, R>,
     to: Book<K, R>,
     args: &'static str,
-    name: &str,
-    expected: &str,
-) -> bool {
+) -> Out {
     let mut from = from;
     let mut to = to;
-    let call = invocation(rt, alloc, "Email/copy", args);
-    let out = copied(rt, alloc, &mut from, &mut to, ("Email/copy", args, "", ""));
-    match following(rt, alloc, &call, &out) {
-        Some(set) => {
-            let out = asked(rt, alloc, &mut from, Ask::Method(set));
-            is_told(rt, alloc, &out, name, expected)
-        }
-        None => false,
-    }
+    let set = copied_and_following(rt, alloc, &mut from, &mut to, args);
+    asked(rt, alloc, &mut from, Ask::Method(set))
 }
 
 // The same copy, whose originals are destroyed in the state 2 alone. Theirs is 3.
@@ -347,18 +340,19 @@ const COPY_IN_STATE: &str =
 const DESTROYED: &str =
     "{\"accountId\":\"A1\",\"created\":null,\"destroyed\":[\"E1\"],\"newState\":\"7\",\"notCreated\":null,\"notDestroyed\":null,\"notUpdated\":null,\"oldState\":\"3\",\"updated\":null}";
 
+// The arguments of a copy, and the name and the arguments of the response to what follows.
+const ORIGINALS: &[(&str, &str, &str)] = &[
+    (COPY, "Email/set", DESTROYED),
+    (COPY_IN_STATE, "error", "{\"type\":\"stateMismatch\"}"),
+];
+
 #[test]
 fn an_original_that_was_copied_is_destroyed_unless_its_state_differs(rt: HostRuntime) {
     let alloc = rt.alloc();
-    for (args, name, expected) in [
-        (COPY, "Email/set", DESTROYED),
-        (COPY_IN_STATE, "error", "{\"type\":\"stateMismatch\"}"),
-    ] {
+    for (args, name, expected) in ORIGINALS {
         let from = originals(&rt, alloc, keeper(alloc), MailRules);
         let to = other(&rt, alloc, keeper(alloc), MailRules);
-        assert!(rt;
-            is_followed(&rt, alloc, from, to, args, name, expected),
-            "{args}"
-        );
+        let out = followed(&rt, alloc, from, to, args);
+        assert!(rt; is_told(&rt, alloc, &out, name, expected), "{args}");
     }
 }
