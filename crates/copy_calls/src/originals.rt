@@ -4,7 +4,6 @@ ghost use Rattle.std.specs.Prelude.{◌≡◌, IfOk, codes, filter_map, map, opt
 ghost use Rattle.jm_json.specs.Invocations.{call_of};
 ghost use Rattle.jm_json.specs.Json.{tree_of};
 ghost use Rattle.jm_json.specs.Tree.{fields_of, object, text as text_tree};
-ghost use Rattle.mail_view.specs.Records.{first_mentions};
 ghost use Rattle.method_args.specs.Arguments.{text_in};
 ghost use Rattle.set_parts.specs.Views.{create_of};
 ghost use Rattle.copy_calls.specs.Originals.{copied_id, copied_ids, created_in, destroys_originals, is_created, originals_call, set_call, set_members, set_of_originals, state_tree};
