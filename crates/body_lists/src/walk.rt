@@ -1,7 +1,7 @@
 // The lists of a message, filled in one walk of its parts.
 ghost use Rattle.std.specs.Prelude.{◌≡◌, true, ◌++◌, ◌≤◌, take, drop, length, IfOk, OnOk};
 ghost use Rattle.mime_type.specs.PartTrees.{PartTrees, none};
-ghost use Rattle.mime_type.specs.PartViews.{node_of, part_before, joined};
+ghost use Rattle.mime_type.specs.PartViews.{node_of, joined};
 ghost use Rattle.body_lists.specs.Lists.{Lists, body_lists, both, given, inside, leaf_in, leaf_gives, ended, item_gives, nothing, number_if, open_after, or_else};
 ghost use Rattle.body_lists.specs.Views.{lists_of, open_of, enclosing_of};
 
