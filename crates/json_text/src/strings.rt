@@ -52,7 +52,7 @@ fn push_front(out: &mut Vec<u8>, text: &[u8], size: usize) -> Result<(), NoMemor
     ensures { OnOk result (out.new.items ≡ out.old.items ++ take size text.now) }
 {
     let before = out.as_slice().len();
-    out.extend_from_slice(text.split_at(BLOCK_BYTES).0)?;
+    out.extend_from_slice(&u8x32::from_slice(text).to_array())?;
     out.truncate(before + size);
     Ok(())
 }

@@ -1,9 +1,16 @@
-use Rattle.std.proofs.Common.{◌++◌, length, ap, ◌∙◌}
-use Rattle.json_text.proofs.Runs.{cut_to}
+use Rattle.std.proofs.Common.{◌≡◌, ◌++◌, sym, ap, ◌∙◌, arith}
+use Rattle.json.specs.Print.{escape_letter}
+use Rattle.json_text.proofs.Bytes.{short_escape, no_escape}
 use Rattle.json_text.proofs.escapes.push_byte.Goals as goal
+
+pub returns-then-letter-gt0 : goal.returns-then-letter-gt0
+returns-then-letter-gt0 c =
+    c.in_ok-extend_from_slice.ensures.items ∙ ap (λ t. c.args.out.now.items ++ t) (short_escape c.args.byte c.letter_of-letter.result c.letter_of-letter.ensures (omega arith))
+
+pub push_code-requires-clause-letter : goal.push_code-requires-clause-letter
+push_code-requires-clause-letter c = omega (arith, c.letter_of-letter.ensures)
 
 pub returns : goal.returns
 returns c =
-    let out = c.args.out.now.items in
-    cut_to out _ _ _ _ _ c.in_ok-extend_from_slice.ensures.items c.truncate.ensures.items (ap length c.as_slice-before.ensures.value)
-    ∙ ap (λ t. out ++ t) c.escape_of-len.ensures.value
+    let none : escape_letter c.args.byte ≡ 0 = omega (arith, c.letter_of-letter.ensures) in
+    c.in_ok-push.ensures.items ∙ ap (λ t. c.args.out.now.items ++ t) (no_escape c.args.byte none (omega arith))
