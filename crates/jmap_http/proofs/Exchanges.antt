@@ -1,5 +1,5 @@
 -- The exchanges of a connection, as more bytes come and one after the other.
-use Rattle.std.proofs.Common.{◌≡◌, ◌≤◌, ◌<◌, ◌+◌, inl, inr, ℕ, zero, suc, Bool, false, List, [], ◌++◌, take, Option, None, Some, refl, sym, ap, ◌∙◌, subst, arith, append_assoc, append-nil, add-one}
+use Rattle.std.proofs.Common.{◌≡◌, ◌≤◌, ◌<◌, ◌+◌, inl, inr, ℕ, zero, suc, Bool, false, List, [], ◌++◌, Option, None, Some, refl, sym, ap, ◌∙◌, subst, arith, append_assoc, append-nil, add-one}
 use Rattle.std.proofs.lemmas.Bool.{eqb-false}
 use Rattle.std.specs.Io.KnownBytes.{Appends, Consumes}
 use Rattle.httparse.specs.Grammar.{RequestHead}
@@ -9,8 +9,8 @@ use Rattle.http_wire.specs.Requests.{Complete, IsMessage, requests}
 use Rattle.http_wire.proofs.MessageStays.{message_stays, due_stays, due_back}
 use Rattle.server_users.specs.declared.users.User.{User}
 use Rattle.jmap_http.specs.Steps.{UserSteps}
-use Rattle.jmap_http.specs.Connections.{Stage, IsInterim, IsExchange, AreExchanges, IsEnding, Serves, is_at_limit, unavailable_bytes}
-use Rattle.jmap_http.specs.Endings.{IsPrefixPut, ServesNext}
+use Rattle.jmap_http.specs.Connections.{Stage, IsInterim, IsExchange, AreExchanges, IsEnding, SaysUnavailable, Serves, is_at_limit}
+use Rattle.jmap_http.specs.Endings.{IsUnavailablePut, ServesNext}
 use Rattle.jmap_http.specs.declared.limits.TheConstants.{MAX_REQUESTS_PER_CONNECTION}
 use Rattle.jmap_http.specs.declared.served.Served.{Served}
 use Rattle.jmap_http.specs.declared.served.Served.TheVariants.{End, CutOff, ReadFault, WriteFault, Limit, NoMemory, Refused}
@@ -68,6 +68,10 @@ one_exchange steps users ends others (suc count) number a b c w v h n x = (
 
 -- ---- the link failed since before
 
+pub unavailable_since : (puts low puts' : ℕ) (said : List ℕ) → puts ≤ low → SaysUnavailable low puts' said → SaysUnavailable puts puts' said
+unavailable_since puts low puts' said p (inl whole) = inl whole
+unavailable_since puts low puts' said p (inr cut) = inr (cut.0, cut.1, rose_before puts low puts' p cut.2)
+
 ending_since : {S : Type 0} (steps : UserSteps S) (users : List User) (ends : RequestHead → Bool) (served : Served) (number : ℕ) (left : Option (List ℕ)) (reads mid reads' puts low puts' : ℕ)
     (a b : Stage S) (w : List ℕ) → reads ≤ mid → puts ≤ low
     → IsEnding steps users ends served number (record { left = left; reads = mid; reads_after = reads'; puts = low; puts_after = puts' }) a b w
@@ -77,7 +81,21 @@ ending_since steps users ends (CutOff count) number left reads mid reads' puts l
 ending_since steps users ends ReadFault number left reads mid reads' puts low puts' a b w r p e = (e.0, rose_before reads mid reads' r e.1)
 ending_since steps users ends WriteFault number left reads mid reads' puts low puts' a b w r p e = (e.0, rose_before puts low puts' p e.1)
 ending_since steps users ends Limit number left reads mid reads' puts low puts' a b w r p e = e
-ending_since steps users ends NoMemory number left reads mid reads' puts low puts' a b w r p e = e
+ending_since steps users ends NoMemory number left reads mid reads' puts low puts' a b w r p (inl e) =
+    inl (record { interim = e.interim; said = e.said; same = e.same; continued = e.continued; unavailable = unavailable_since puts low puts' e.said p e.unavailable; written_is = e.written_is })
+ending_since steps users ends NoMemory number left reads mid reads' puts low puts' a b w r p (inr e) = inr (record {
+  head = e.head;
+  body = e.body;
+  time = e.time;
+  interim = e.interim;
+  said = e.said;
+  message = e.message;
+  shown = e.shown;
+  begun = e.begun;
+  continued = e.continued;
+  unavailable = unavailable_since puts low puts' e.said p e.unavailable;
+  written_is = e.written_is;
+})
 ending_since steps users ends (Refused status) number left reads mid reads' puts low puts' a b w r p e = e
 
 -- ---- the loop
@@ -147,7 +165,7 @@ below_limit n low h = omega (arith, eqb-false (n + 1) MAX_REQUESTS_PER_CONNECTIO
 -- ---- memory ran out before anything was read
 
 pub serves_nothing : {S : Type 0} (steps : UserSteps S) (users : List User) (ends : RequestHead → Bool) (s : S) (times left left' held held' : Option (List ℕ)) (reads reads' puts puts' : ℕ) (served : Served)
-    → served ≡ NoMemory → left' ≡ left → IsPrefixPut held held' unavailable_bytes → Serves steps users ends s s times times left left' held held' reads reads' puts puts' served
+    → served ≡ NoMemory → left' ≡ left → IsUnavailablePut held held' puts puts' → Serves steps users ends s s times times left left' held held' reads reads' puts puts' served
 serves_nothing steps users ends s times left left' held held' reads reads' puts puts' served e f p =
     subst (λ z. Serves steps users ends s s times times left left' held held' reads reads' puts puts' z) (sym e)
     (subst (λ z. Serves steps users ends s s times times left z held held' reads reads' puts puts' NoMemory) (sym f) (record {
@@ -156,10 +174,10 @@ serves_nothing steps users ends s times left left' held held' reads reads' puts 
       middle = record { state = s; times = times; bytes = [] };
       rest = [];
       first = [];
-      last = take p.0 unavailable_bytes;
+      last = p.0;
       consumed = consumes_none left;
       within = omega arith;
       exchanges = (refl, refl);
-      ending = inl (record { interim = []; size = p.0; same = refl; continued = inr refl; written_is = refl });
-      written = p.1;
+      ending = inl (record { interim = []; said = p.0; same = refl; continued = inr refl; unavailable = p.1; written_is = refl });
+      written = p.2;
     }))

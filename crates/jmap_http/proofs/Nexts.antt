@@ -17,9 +17,10 @@ use Rattle.http_wire.specs.Responses.{continue_bytes}
 use Rattle.server_users.specs.declared.users.User.{User}
 use Rattle.jmap_http.specs.Steps.{UserSteps}
 use Rattle.jmap_http.specs.Responses.{AskedRequest, IsResponse, HasBegunRequest, blank_response}
-use Rattle.jmap_http.specs.Connections.{IsExchange, IsInterim, IsRefusedBy, asked_of, asks_to_end, sent_bytes, is_at_limit, refusal_of, unavailable_bytes}
-use Rattle.jmap_http.specs.Endings.{ServesNext, IsSent, IsAnswered, IsPrefixPut, IsRefusalSent, IsRefusedAs}
+use Rattle.jmap_http.specs.Connections.{IsExchange, IsInterim, IsRefusedBy, asked_of, asks_to_end, sent_bytes, is_at_limit, refusal_of}
+use Rattle.jmap_http.specs.Endings.{ServesNext, IsSent, IsAnswered, IsUnavailablePut, IsRefusalSent, IsRefusedAs}
 use Rattle.jmap_http.specs.Views.{asked}
+use Rattle.jmap_http.proofs.Exchanges.{unavailable_since}
 use Rattle.jmap_http.specs.declared.limits.TheConstants.{MAX_REQUESTS_PER_CONNECTION}
 use Rattle.jmap_http.specs.declared.response.Response.{Response}
 use Rattle.jmap_http.specs.declared.served.Served.{Served}
@@ -113,48 +114,50 @@ sent_next steps users number s s' times times' early taken early' left left' hel
 sent_next steps users number s s' times times' early taken early' left left' held hm held' reads reads' puts pm puts' h body interim time r (Some NoMemory) c k i a p sent = record {
   taken = taken;
   rest = early';
-  written = interim ++ take sent.0 unavailable_bytes;
+  written = interim ++ sent.0;
   consumed = c;
   outcome = inr (record {
     head = h;
     body = body;
     time = time;
     interim = interim;
-    size = sent.0;
+    said = sent.0;
     message = k.message;
     shown = k.shown;
     begun = inr (r, a);
     continued = k.continued;
+    unavailable = unavailable_since puts pm puts' sent.0 p sent.1;
     written_is = refl;
   });
-  put = appends_on held hm held' interim (take sent.0 unavailable_bytes) i sent.1;
+  put = appends_on held hm held' interim sent.0 i sent.2;
 }
 sent_next steps users number s s' times times' early taken early' left left' held hm held' reads reads' puts pm puts' h body interim time r (Some (CutOff count)) c k i a p sent = absurd sent
 sent_next steps users number s s' times times' early taken early' left left' held hm held' reads reads' puts pm puts' h body interim time r (Some ReadFault) c k i a p sent = absurd sent
 sent_next steps users number s s' times times' early taken early' left left' held hm held' reads reads' puts pm puts' h body interim time r (Some (Refused status)) c k i a p sent = absurd sent
 
-lost_next : {S : Type 0} (steps : UserSteps S) (users : List User) (number : ℕ) (s s' : S) (times times' : Option (List ℕ)) (early taken early' : List ℕ) (left left' held hm held' : Option (List ℕ)) (reads reads' puts puts' : ℕ)
+lost_next : {S : Type 0} (steps : UserSteps S) (users : List User) (number : ℕ) (s s' : S) (times times' : Option (List ℕ)) (early taken early' : List ℕ) (left left' held hm held' : Option (List ℕ)) (reads reads' puts pm puts' : ℕ)
     (h : RequestHead) (body interim : List ℕ) (time : ℕ) → Consumes left left' taken → Call steps users number s s' times times' early taken early' h body interim time
-    → Appends held hm interim → HasBegunRequest steps users s s' time (asked_of h body) → IsPrefixPut hm held' unavailable_bytes
+    → Appends held hm interim → HasBegunRequest steps users s s' time (asked_of h body) → puts ≤ pm → IsUnavailablePut hm held' pm puts'
     → ServesNext steps users asks_to_end number s s' times times' early early' left left' held held' reads reads' puts puts' (Some NoMemory)
-lost_next steps users number s s' times times' early taken early' left left' held hm held' reads reads' puts puts' h body interim time c k i b sent = record {
+lost_next steps users number s s' times times' early taken early' left left' held hm held' reads reads' puts pm puts' h body interim time c k i b p sent = record {
   taken = taken;
   rest = early';
-  written = interim ++ take sent.0 unavailable_bytes;
+  written = interim ++ sent.0;
   consumed = c;
   outcome = inr (record {
     head = h;
     body = body;
     time = time;
     interim = interim;
-    size = sent.0;
+    said = sent.0;
     message = k.message;
     shown = k.shown;
     begun = inl b;
     continued = k.continued;
+    unavailable = unavailable_since puts pm puts' sent.0 p sent.1;
     written_is = refl;
   });
-  put = appends_on held hm held' interim (take sent.0 unavailable_bytes) i sent.1;
+  put = appends_on held hm held' interim sent.0 i sent.2;
 }
 
 -- ---- a request that came whole
@@ -193,7 +196,7 @@ answered_next steps users number s s' times times' early early' left left' held 
     k = record { message = r.outcome.3; continued = i.1; shown = a.1 }
 
     by : ((response : Response) × IsResponse steps users s s' a.0 (asked x) response × IsSent x.last (is_at_limit number) response hm held' pm puts' served)
-        ⊎ (HasBegunRequest steps users s s' a.0 (asked x) × (served ≡ Some NoMemory) × IsPrefixPut hm held' unavailable_bytes)
+        ⊎ (HasBegunRequest steps users s s' a.0 (asked x) × (served ≡ Some NoMemory) × IsUnavailablePut hm held' pm puts')
         → ServesNext steps users asks_to_end number s s' times times' early early' left left' held held' reads reads' puts puts' served
     by (inl done) =
         sent_next steps users number s s' times times' early r.taken early' left left' held hm held' reads reads' puts pm puts' h body i.0 a.0 done.0 served r.consumed k i.2
@@ -201,8 +204,8 @@ answered_next steps users number s s' times times' early early' left left' held 
         (subst (λ b. IsSent b (is_at_limit number) done.0 hm held' pm puts' served) r.outcome.2.last done.2)
     by (inr lost) =
         subst (λ o. ServesNext steps users asks_to_end number s s' times times' early early' left left' held held' reads reads' puts puts' o) (sym lost.1)
-        (lost_next steps users number s s' times times' early r.taken early' left left' held hm held' reads reads' puts puts' h body i.0 a.0 r.consumed k i.2
-        (subst (λ q. HasBegunRequest steps users s s' a.0 q) same lost.0) lost.2)
+        (lost_next steps users number s s' times times' early r.taken early' left left' held hm held' reads reads' puts pm puts' h body i.0 a.0 r.consumed k i.2
+        (subst (λ q. HasBegunRequest steps users s s' a.0 q) same lost.0) p lost.2)
 
 -- ---- no request was read
 
@@ -249,10 +252,10 @@ refusal_next steps users number status s times early taken early' left left' hel
 refusal_next steps users number status s times early taken early' left left' held hm held' reads reads' puts pm puts' interim response NoMemory c by is k i p sent = record {
   taken = taken;
   rest = early ++ taken;
-  written = interim ++ take sent.0 unavailable_bytes;
+  written = interim ++ sent.0;
   consumed = c;
-  outcome = inl (record { interim = interim; size = sent.0; same = refl; continued = perhaps (early ++ taken) interim k; written_is = refl });
-  put = appends_on held hm held' interim (take sent.0 unavailable_bytes) i sent.1;
+  outcome = inl (record { interim = interim; said = sent.0; same = refl; continued = perhaps (early ++ taken) interim k; unavailable = unavailable_since puts pm puts' sent.0 p sent.1; written_is = refl });
+  put = appends_on held hm held' interim sent.0 i sent.2;
 }
 refusal_next steps users number status s times early taken early' left left' held hm held' reads reads' puts pm puts' interim response End c by is k i p sent = absurd sent
 refusal_next steps users number status s times early taken early' left left' held hm held' reads reads' puts pm puts' interim response (CutOff count) c by is k i p sent = absurd sent
@@ -260,24 +263,24 @@ refusal_next steps users number status s times early taken early' left left' hel
 refusal_next steps users number status s times early taken early' left left' held hm held' reads reads' puts pm puts' interim response Limit c by is k i p sent = absurd sent
 
 -- memory ran out before the request was read whole
-unread_next : {S : Type 0} (steps : UserSteps S) (users : List User) (number : ℕ) (s : S) (times : Option (List ℕ)) (early taken early' : List ℕ) (left left' held hm held' : Option (List ℕ)) (reads reads' puts puts' : ℕ)
-    → Consumes left left' taken → (IsDue (early ++ taken) × Appends held hm continue_bytes) ⊎ Appends held hm [] → IsPrefixPut hm held' unavailable_bytes
+unread_next : {S : Type 0} (steps : UserSteps S) (users : List User) (number : ℕ) (s : S) (times : Option (List ℕ)) (early taken early' : List ℕ) (left left' held hm held' : Option (List ℕ)) (reads reads' puts pm puts' : ℕ)
+    → Consumes left left' taken → (IsDue (early ++ taken) × Appends held hm continue_bytes) ⊎ Appends held hm [] → puts ≤ pm → IsUnavailablePut hm held' pm puts'
     → ServesNext steps users asks_to_end number s s times times early early' left left' held held' reads reads' puts puts' (Some NoMemory)
-unread_next steps users number s times early taken early' left left' held hm held' reads reads' puts puts' c (inl due) sent = record {
+unread_next steps users number s times early taken early' left left' held hm held' reads reads' puts pm puts' c (inl due) p sent = record {
   taken = taken;
   rest = early ++ taken;
-  written = continue_bytes ++ take sent.0 unavailable_bytes;
+  written = continue_bytes ++ sent.0;
   consumed = c;
-  outcome = inl (record { interim = continue_bytes; size = sent.0; same = refl; continued = inl (due.0, refl); written_is = refl });
-  put = appends_on held hm held' continue_bytes (take sent.0 unavailable_bytes) due.1 sent.1;
+  outcome = inl (record { interim = continue_bytes; said = sent.0; same = refl; continued = inl (due.0, refl); unavailable = unavailable_since puts pm puts' sent.0 p sent.1; written_is = refl });
+  put = appends_on held hm held' continue_bytes sent.0 due.1 sent.2;
 }
-unread_next steps users number s times early taken early' left left' held hm held' reads reads' puts puts' c (inr none) sent = record {
+unread_next steps users number s times early taken early' left left' held hm held' reads reads' puts pm puts' c (inr none) p sent = record {
   taken = taken;
   rest = early ++ taken;
-  written = take sent.0 unavailable_bytes;
+  written = sent.0;
   consumed = c;
-  outcome = inl (record { interim = []; size = sent.0; same = refl; continued = inr refl; written_is = refl });
-  put = appends_on held hm held' [] (take sent.0 unavailable_bytes) none sent.1;
+  outcome = inl (record { interim = []; said = sent.0; same = refl; continued = inr refl; unavailable = unavailable_since puts pm puts' sent.0 p sent.1; written_is = refl });
+  put = appends_on held hm held' [] sent.0 none sent.2;
 }
 
 pub refused_next : {S : Type 0} (steps : UserSteps S) (users : List User) (number : ℕ) (s : S) (times : Option (List ℕ)) (early early' : List ℕ) (left left' held hm held' : Option (List ℕ)) (reads reads' puts pm puts' : ℕ)
@@ -337,7 +340,7 @@ refused_next steps users number s times early early' left left' held hm held' re
     refusal_next steps users number 413 s times early r.taken early' left left' held hm held' reads reads' puts pm puts' i.0 (refusal_of limit) served r.consumed (inr (inr (limit, r.outcome, refl))) refl i.1 i.2 p a
 refused_next steps users number s times early early' left left' held hm held' reads reads' puts pm puts' OutOfMemory served r a p q =
     subst (λ z. ServesNext steps users asks_to_end number s s times times early early' left left' held held' reads reads' puts puts' (Some z)) (sym a.0)
-    (unread_next steps users number s times early r.taken early' left left' held hm held' reads reads' puts puts' r.consumed r.continued a.1)
+    (unread_next steps users number s times early r.taken early' left left' held hm held' reads reads' puts pm puts' r.consumed r.continued p a.1)
 
 -- ---- the same, by the links in between
 

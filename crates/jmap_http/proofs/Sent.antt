@@ -5,21 +5,22 @@ use Rattle.jm_edge.specs.Causes.{Rose}
 use Rattle.http_wire.specs.Responses.{IsCutShort}
 use Rattle.http_parts.specs.declared.fault.WireFault.{WireFault}
 use Rattle.http_parts.specs.declared.fault.WireFault.TheVariants.{WriteFault as NotWritten, NoMemory as OutOfMemory}
+use Rattle.jmap_http.proofs.Exchanges.{unavailable_since}
 use Rattle.jmap_http.proofs.Nexts.{rose_later}
-use Rattle.jmap_http.specs.Connections.{sent_bytes, unavailable_bytes}
-use Rattle.jmap_http.specs.Endings.{IsPrefixPut, IsUnsent, IsSent, IsRefusalSent, end_of}
+use Rattle.jmap_http.specs.Connections.{sent_bytes}
+use Rattle.jmap_http.specs.Endings.{IsUnavailablePut, IsUnsent, IsSent, IsRefusalSent, end_of}
 use Rattle.jmap_http.specs.declared.response.Response.{Response}
 use Rattle.jmap_http.specs.declared.served.Served.{Served}
 use Rattle.jmap_http.specs.declared.served.Served.TheVariants.{End, CutOff, ReadFault, WriteFault, Limit, NoMemory, Refused}
 
 pub unsent : (e : WireFault) (bytes : List ℕ) (old mid new : Option (List ℕ)) (p q r : ℕ) (served : Served) → IsCutShort e old mid bytes → (e ≡ NotWritten → Rose p q)
-    → (e ≡ NotWritten → (served ≡ WriteFault) × (new ≡ mid)) → (e ≡ OutOfMemory → (served ≡ NoMemory) × IsPrefixPut mid new unavailable_bytes) → q ≤ r → IsUnsent bytes old new p r served
-unsent e bytes old mid new p q r served (inl cut) rose failed stopped low =
+    → (e ≡ NotWritten → (served ≡ WriteFault) × (new ≡ mid)) → (e ≡ OutOfMemory → (served ≡ NoMemory) × IsUnavailablePut mid new q r) → p ≤ q → q ≤ r → IsUnsent bytes old new p r served
+unsent e bytes old mid new p q r served (inl cut) rose failed stopped before low =
     let f = failed cut.0 in
     subst (λ z. IsUnsent bytes old new p r z) (sym f.0) ((cut.1, subst (λ z. Appends old z (take cut.1 bytes)) (sym f.1) cut.2), rose_later p q r (rose cut.0) low)
-unsent e bytes old mid new p q r served (inr none) rose failed stopped low =
+unsent e bytes old mid new p q r served (inr none) rose failed stopped before low =
     let s = stopped none.0 in
-    subst (λ z. IsUnsent bytes old new p r z) (sym s.0) (subst (λ z. IsPrefixPut z new unavailable_bytes) none.1 s.1)
+    subst (λ z. IsUnsent bytes old new p r z) (sym s.0) (s.1.0, unavailable_since p q r s.1.0 before s.1.1, subst (λ z. Appends z new s.1.0) none.1 s.1.2)
 
 pub sent_whole : (asks at_limit : Bool) (r : Response) (old new : Option (List ℕ)) (puts puts' : ℕ) → Appends old new (sent_bytes r (asks || at_limit)) → IsSent asks at_limit r old new puts puts' (end_of asks at_limit)
 sent_whole true at_limit r old new puts puts' h = (refl, h)

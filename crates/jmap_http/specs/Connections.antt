@@ -140,31 +140,42 @@ unavailable_bytes =
     ++ (codes "Content-Type: application/problem+json\r\n" ++ (codes "Content-Length: 35\r\n" ++ (codes "Cache-Control: no-store\r\n"
     ++ (codes "Connection: close\r\n\r\n" ++ codes "{\"status\":503,\"type\":\"about:blank\"}"))))
 
+-- these bytes say that memory ran out: whole, or a prefix if the link failed
+abbrev pub SaysUnavailable : (puts puts' : ℕ) → List ℕ → Type 0
+SaysUnavailable puts puts' said =
+    (said ≡ unavailable_bytes)
+    ⊎ ((n : ℕ) × (said ≡ take n unavailable_bytes) × Rose puts puts')
+
 -- The request being processed ended out of memory before all of it was read: perhaps the interim
--- response is written, which it is only if it is due, and a prefix of the response that says so.
-pub record IsUnread {S : Type 0} (before after : Stage S) (written : List ℕ) : Type 0 where
-  pub interim : List ℕ
-  pub size : ℕ
-  pub same : after ≡ before
-  pub continued : (IsDue before.bytes × (interim ≡ continue_bytes)) ⊎ (interim ≡ [])
-  pub written_is : written ≡ interim ++ take size unavailable_bytes
+-- response is written, which it is only if it is due, and the response that says so.
+pub record IsUnread {S : Type 0} (puts puts' : ℕ) (before after : Stage S) (written : List ℕ)
+    : Type 0
+  where
+    pub interim : List ℕ
+    pub said : List ℕ
+    pub same : after ≡ before
+    pub continued : (IsDue before.bytes × (interim ≡ continue_bytes)) ⊎ (interim ≡ [])
+    pub unavailable : SaysUnavailable puts puts' said
+    pub written_is : written ≡ interim ++ said
 
 -- All of the request being processed was read, and its response ended out of memory, or was lost.
-pub record IsLost {S : Type 0} (steps : UserSteps S) (users : List User) (before after : Stage S)
-    (written : List ℕ) : Type 0
+-- This is written: the interim response, if it is due, and the response that says so.
+pub record IsLost {S : Type 0} (steps : UserSteps S) (users : List User) (puts puts' : ℕ)
+    (before after : Stage S) (written : List ℕ) : Type 0
   where
     pub head : RequestHead
     pub body : List ℕ
     pub time : ℕ
     pub interim : List ℕ
-    pub size : ℕ
+    pub said : List ℕ
     pub message : IsMessage requests before.bytes (Complete head body after.bytes)
     pub shown : Shows before.times after.times time
     pub begun : HasBegunRequest steps users before.state after.state time (asked_of head body)
         ⊎ ((response : Response) × IsResponse steps users before.state after.state time
         (asked_of head body) response)
     pub continued : IsInterim before.bytes interim
-    pub written_is : written ≡ interim ++ take size unavailable_bytes
+    pub unavailable : SaysUnavailable puts puts' said
+    pub written_is : written ≡ interim ++ said
 
 -- what was written is a prefix of what the request with this number, or its refusal, asks for
 abbrev pub IsCutShort : {S : Type 0} → UserSteps S → List User → (RequestHead → Bool) → ℕ → Stage S
@@ -193,7 +204,8 @@ IsEnding steps users ends Limit number link before after written =
     IsExchange steps users ends number before after false written
     × (number ≡ MAX_REQUESTS_PER_CONNECTION)
 IsEnding steps users ends NoMemory number link before after written =
-    IsUnread before after written ⊎ IsLost steps users before after written
+    IsUnread link.puts link.puts_after before after written
+    ⊎ IsLost steps users link.puts link.puts_after before after written
 IsEnding steps users ends (Refused status) number link before after written =
     IsRefusal before after status written
 

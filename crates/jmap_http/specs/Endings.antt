@@ -9,7 +9,7 @@ use Rattle.jmap_http.specs.Steps.{UserSteps}
 use Rattle.http_parts.specs.declared.fault.WireFault.{WireFault}
 use Rattle.http_parts.specs.declared.fault.WireFault.TheVariants.{End as NoRequest, ReadFault as NotRead, WriteFault as NotWritten, BadHead, HeadTooLong, BodyTooLong, CutOff as IsCutOff, NoMemory as OutOfMemory}
 use Rattle.jmap_http.specs.Responses.{AskedRequest, IsResponse, HasBegunRequest, blank_response}
-use Rattle.jmap_http.specs.Connections.{sent_bytes, unavailable_bytes, refusal_of, is_at_limit, IsExchange, IsEnding, seen_of}
+use Rattle.jmap_http.specs.Connections.{sent_bytes, SaysUnavailable, refusal_of, is_at_limit, IsExchange, IsEnding, seen_of}
 use Rattle.jmap_http.specs.declared.response.Response.{Response}
 use Rattle.jmap_http.specs.declared.served.Served.{Served}
 use Rattle.jmap_http.specs.declared.served.Served.TheVariants.{End, CutOff, ReadFault, WriteFault, Limit, NoMemory, Refused}
@@ -18,11 +18,16 @@ use Rattle.jmap_http.specs.declared.served.Served.TheVariants.{End, CutOff, Read
 abbrev pub IsPrefixPut : Option (List ℕ) → Option (List ℕ) → List ℕ → Type 0
 IsPrefixPut old new bytes = (n : ℕ) × Appends old new (take n bytes)
 
+-- it was written that memory ran out, or a prefix of that if the link failed
+abbrev pub IsUnavailablePut : (old new : Option (List ℕ)) → (puts puts' : ℕ) → Type 0
+IsUnavailablePut old new puts puts' =
+    (said : List ℕ) × SaysUnavailable puts puts' said × Appends old new said
+
 -- These bytes were not written whole, and the connection ends so: the link failed, and a prefix was
--- written; or an allocation failed, and nothing was written but that it did.
+-- written; or an allocation failed, and only that was written.
 abbrev pub IsUnsent : List ℕ → (old new : Option (List ℕ)) → (puts puts' : ℕ) → Served → Type 0
 IsUnsent bytes old new puts puts' WriteFault = IsPrefixPut old new bytes × Rose puts puts'
-IsUnsent bytes old new puts puts' NoMemory = IsPrefixPut old new unavailable_bytes
+IsUnsent bytes old new puts puts' NoMemory = IsUnavailablePut old new puts puts'
 IsUnsent bytes old new puts puts' End = ⊥
 IsUnsent bytes old new puts puts' (CutOff count) = ⊥
 IsUnsent bytes old new puts puts' ReadFault = ⊥
@@ -46,7 +51,7 @@ IsSent asks at_limit r old new puts puts' (Some Limit) =
     (asks ≡ false) × (at_limit ≡ true) × Appends old new (sent_bytes r true)
 IsSent asks at_limit r old new puts puts' (Some WriteFault) =
     IsPrefixPut old new (sent_bytes r (asks || at_limit)) × Rose puts puts'
-IsSent asks at_limit r old new puts puts' (Some NoMemory) = IsPrefixPut old new unavailable_bytes
+IsSent asks at_limit r old new puts puts' (Some NoMemory) = IsUnavailablePut old new puts puts'
 IsSent asks at_limit r old new puts puts' (Some (CutOff count)) = ⊥
 IsSent asks at_limit r old new puts puts' (Some ReadFault) = ⊥
 IsSent asks at_limit r old new puts puts' (Some (Refused status)) = ⊥
@@ -58,7 +63,7 @@ IsRefusalSent r status old new puts puts' (Refused s) =
     (s ≡ status) × Appends old new (sent_bytes r true)
 IsRefusalSent r status old new puts puts' WriteFault =
     IsPrefixPut old new (sent_bytes r true) × Rose puts puts'
-IsRefusalSent r status old new puts puts' NoMemory = IsPrefixPut old new unavailable_bytes
+IsRefusalSent r status old new puts puts' NoMemory = IsUnavailablePut old new puts puts'
 IsRefusalSent r status old new puts puts' End = ⊥
 IsRefusalSent r status old new puts puts' (CutOff count) = ⊥
 IsRefusalSent r status old new puts puts' ReadFault = ⊥
@@ -79,7 +84,7 @@ IsRefusedAs HeadTooLong old new puts puts' served =
 IsRefusedAs (BodyTooLong limit) old new puts puts' served =
     IsRefusalSent (refusal_of limit) 413 old new puts puts' served
 IsRefusedAs OutOfMemory old new puts puts' served =
-    (served ≡ NoMemory) × IsPrefixPut old new unavailable_bytes
+    (served ≡ NoMemory) × IsUnavailablePut old new puts puts'
 
 -- A whole request was answered: its response was sent; or it ended out of memory, which was sent.
 abbrev pub IsAnswered : {S : Type 0} → UserSteps S → List User → (s s' : S) → (times times' : Option
@@ -90,7 +95,7 @@ IsAnswered steps users s s' times times' q asks at_limit old new puts puts' serv
     × (((response : Response) × IsResponse steps users s s' time q response
     × IsSent asks at_limit response old new puts puts' served)
     ⊎ (HasBegunRequest steps users s s' time q × (served ≡ Some NoMemory)
-    × IsPrefixPut old new unavailable_bytes))
+    × IsUnavailablePut old new puts puts'))
 
 -- What a call that serves the next request of a connection did: it read these bytes of the link,
 -- and wrote those; the request was answered and does not end the connection, or the connection

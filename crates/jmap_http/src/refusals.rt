@@ -1,8 +1,8 @@
 // What is written where no request can be read, or memory runs out.
 ghost use Rattle.std.specs.Prelude.{◌≡◌, ◌≤◌, ◌||◌, IfErr, IfOk, OnOk};
 ghost use Rattle.std.specs.Io.KnownBytes.{Appends};
-ghost use Rattle.jmap_http.specs.Connections.{refusal_of, sent_bytes, unavailable_bytes};
-ghost use Rattle.jmap_http.specs.Endings.{end_of, IsPrefixPut, IsRefusalSent, IsRefusedAs, IsSent, IsUnsent};
+ghost use Rattle.jmap_http.specs.Connections.{refusal_of, sent_bytes};
+ghost use Rattle.jmap_http.specs.Endings.{end_of, IsRefusalSent, IsRefusedAs, IsSent, IsUnavailablePut, IsUnsent};
 ghost use Rattle.jmap_http.specs.Responses.{blank_response};
 
 use crate::response::{Response, write_blank, write_limit};
@@ -21,10 +21,11 @@ const UNAVAILABLE: &str = "HTTP/1.1 503 Service Unavailable\r\n\
     Connection: close\r\n\r\n\
     {\"status\":503,\"type\":\"about:blank\"}";
 
-/// Writes that memory ran out, as far as the link takes it.
+/// Writes that memory ran out, or a prefix of that if the link fails.
 pub(crate) fn end_without_memory<L: Link>(link: &mut L) -> Served
     ensures is { result ≡ Served.NoMemory }
-    ensures put { IsPrefixPut (L.held link.old) (L.held link.new) unavailable_bytes }
+    ensures put { IsUnavailablePut (L.held link.old) (L.held link.new) (L.put_faults link.old)
+        (L.put_faults link.new) }
     ensures left { L.left link.new ≡ L.left link.old }
     ensures read_faults { L.read_faults link.new ≡ L.read_faults link.old }
     ensures later { L.put_faults link.old ≤ L.put_faults link.new }
@@ -60,7 +61,8 @@ fn end_unsent<L: Link>(link: &mut L, fault: WireFault) -> Served
     ensures cut { fault ≡ WireFault.WriteFault → (result ≡ Served.WriteFault)
         × (L.held link.new ≡ L.held link.old) }
     ensures unwritten { fault ≡ WireFault.NoMemory → (result ≡ Served.NoMemory)
-        × IsPrefixPut (L.held link.old) (L.held link.new) unavailable_bytes }
+        × IsUnavailablePut (L.held link.old) (L.held link.new) (L.put_faults link.old)
+        (L.put_faults link.new) }
     ensures left { L.left link.new ≡ L.left link.old }
     ensures read_faults { L.read_faults link.new ≡ L.read_faults link.old }
     ensures later { L.put_faults link.old ≤ L.put_faults link.new }

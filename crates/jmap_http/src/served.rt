@@ -18,7 +18,7 @@ pub enum Served {
     /// The last request that a connection may have was answered.
     Limit,
 
-    /// An allocation failed. The response 503 was written, as far as the link took it.
+    /// An allocation failed. The response 503 was written, or a prefix of it if the link failed.
     NoMemory,
 
     /// A message was refused with this status: 400, 413 or 431.

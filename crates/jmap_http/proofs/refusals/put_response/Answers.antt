@@ -8,4 +8,4 @@ pub returns-in-Err-clause-err : goal.returns-in-Err-clause-err
 returns-in-Err-clause-err g c =
     subst (λ b. IsUnsent b (g.L.Link.held c.args.link.now) (g.L.Link.held c.end_unsent.new.link) (g.L.Link.put_faults c.args.link.now) (g.L.Link.put_faults c.end_unsent.new.link) c.end_unsent.result)
     (ap₂ (λ m b. response_bytes c.args.response.now.status m b c.args.last) c.as_slice-media.ensures c.as_slice-body.ensures)
-    (unsent _ _ _ _ _ _ _ _ _ c.in-Err.ensures.err c.in-Err.ensures.cause c.end_unsent.ensures.cut c.end_unsent.ensures.unwritten c.end_unsent.ensures.later)
+    (unsent _ _ _ _ _ _ _ _ _ c.in-Err.ensures.err c.in-Err.ensures.cause c.end_unsent.ensures.cut c.end_unsent.ensures.unwritten c.in-Err.ensures.later c.end_unsent.ensures.later)
