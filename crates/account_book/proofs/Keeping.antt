@@ -31,7 +31,7 @@ IsBounded-within h content log entries blobs n bytes t s within =
       };
     }
 
--- whether threads are kept tells whether the history is sound
+-- threads are kept if and only if the history is sound
 pub sound_is : (h : History) (content : Content) (log : Notes) (entries : List KeptEntry) (blobs : List (List ℕ)) (n bytes : ℕ) (t : Bool) → IsAccountOf h content log entries blobs n bytes t → IsTrue t ↔ IsSound h
 sound_is h content log entries blobs n bytes t s = (
   λ kept. IsSound-from_steps h s.founded s.fits (s.threads.0 kept),

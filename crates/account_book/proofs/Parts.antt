@@ -121,7 +121,7 @@ module _ {E : Type 0} where
 pub none_since : (n : ℕ) (es : List Entry) → n ≡ length es → drop n es ≡ []
 none_since n es is = ap (λ k. drop k es) is ∙ drop_all es
 
--- ---- what the history tells of the keeper's answer
+-- ---- what the history says of the keeper's answer
 
 not_longer : (h : History) (e : Entry) → h ≡ grown h e → ⊥
 not_longer h e same = let l = ap (λ (k : History). length k.entries) same ∙ length-append h.entries (e ∷ []) in omega (arith, l)

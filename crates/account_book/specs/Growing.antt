@@ -1,4 +1,4 @@
--- What comes of edits and blobs more.
+-- The result of more edits and blobs.
 use Rattle.std.specs.Prelude.{◌≡◌, ◌↔◌, ℕ, ◌+◌, ◌<◌, ◌^◌, IsTrue, List, ◌++◌, length}
 use Rattle.blob_store.specs.Blobs.{AreBlobsFew}
 use Rattle.mail_records.specs.Contents.{Content}
@@ -7,7 +7,7 @@ use Rattle.mail_records.specs.declared.edits.Edit.{Edit}
 use Rattle.account_book.specs.declared.growing.Grown.{Grown}
 use Rattle.account_book.specs.declared.growing.Grown.TheVariants.{Misfit, Overfull, Fitting}
 
--- What comes of edits over this content at this last position, and of more blobs after these. There
+-- The result of edits over this content at this last position, and of more blobs after these. There
 -- are 64-bit numbers for the positions.
 abbrev pub IsGrown : Content → ℕ → List Edit → List (List ℕ) → List (List ℕ) → Grown → Type 0
 IsGrown c end edits blobs more Misfit = ¬ AllFit c edits

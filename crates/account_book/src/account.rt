@@ -85,7 +85,7 @@ impl Account {
         &self.log
     }
 
-    /// It does nothing: its clause says that the edits of its history fit one after the other.
+    /// Does nothing. Its clause says that the edits of its history fit one after the other.
     pub fn edits_fit(&self)
         ensures { AllFit self.now.history.base (edits_of self.now.history) }
     {
@@ -155,8 +155,8 @@ impl Account {
         true
     }
 
-    // It does nothing: its clause says that where the edits are within the limit, the last position
-    // and the next numbers are in bounds, which callers can't see.
+    // Does nothing. Its clause says that, if the edits are within the limit, the last position and
+    // the next numbers are in bounds, which callers can't see.
     pub(crate) fn bounds(&self)
         requires { edit_bytes (edits_of self.now.history) ≤ MAX_EDIT_BYTES }
         ensures { IsBounded self.now.history }
@@ -305,7 +305,7 @@ impl Account {
     }
 }
 
-// Lets go of what an account holds besides its content and its blobs, and of edits.
+// Drops what an account holds besides its content and its blobs, and drops edits.
 fn let_go(base: Content, log: Log, entries: Vec<Entry>, edits: Edits) {
     drop(base);
     drop(log);
@@ -313,7 +313,7 @@ fn let_go(base: Content, log: Log, entries: Vec<Entry>, edits: Edits) {
     drop(edits);
 }
 
-// The account of what it holds.
+// Returns the account that holds these parts.
 fn held(
     base: Content,
     content: Content,

@@ -7,17 +7,17 @@ use jm_json::{Invocation, Items, Made};
 pub enum Ask {
     /// A method of JMAP (RFC 8620, section 3.2), with its references resolved.
     Method(Invocation),
-    /// To keep these bytes as a blob (RFC 8620, section 6.1).
+    /// Asks to keep these bytes as a blob (RFC 8620, section 6.1).
     Upload(Bytes),
-    /// For the bytes of the blob, or of the part of a message, that has this id (RFC 8620, section
-    /// 6.2).
+    /// Asks for the bytes of the blob, or of the part of a message, that has this id (RFC 8620,
+    /// section 6.2).
     Blob(Text),
-    /// The side of an Email/copy that reads: the emails to be copied, with their blobs (RFC 8621,
-    /// section 4.7).
+    /// Asks for the emails to be copied, with their blobs: the side of an Email/copy that reads
+    /// (RFC 8621, section 4.7).
     Fetch(Invocation),
-    /// The side of an Email/copy that writes: to make what the other side read.
+    /// Asks to create what the other side read: the side of an Email/copy that writes.
     Place(Invocation, Carried),
-    /// For the present state of each kind of record.
+    /// Asks for the present state of each kind of record.
     States,
 }
 

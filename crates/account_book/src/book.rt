@@ -39,9 +39,9 @@ use std::snapshot::Snapshot;
 ///
 /// The account is always valid by the rules. If the keeper was ready when the book was opened,
 /// whatever a crash leaves of it holds every commit of the account, complete and in order, and at
-/// most one commit more, with which the account is valid too ([`Book::keeps`]). Whoever was told of
-/// a change can rely on it: right after a commit is entered, a crash leaves the account and nothing
-/// more ([`Book::perform`]).
+/// most one commit more, with which the account is valid too ([`Book::keeps`]). Whoever received
+/// the acknowledgement of a change can rely on it: right after a commit is entered, a crash leaves
+/// the account and nothing more ([`Book::perform`]).
 #[derive(Drop)]
 pub struct Book<K: Keeper, R: Rules> {
     rules: R,
@@ -88,7 +88,7 @@ impl<K: Keeper, R: Rules> AccountView for Book<K, R> {
     ghost opening = { λ b. b.opened };
 }
 
-// The answer to a change, by whether it was kept.
+// Returns the answer to a change, by whether it was kept.
 fn answer_of(kept: bool, out: Out, refused: Out) -> Out
     ensures { result ≡ (if kept then out else refused) }
 {
@@ -296,7 +296,7 @@ impl<K: Keeper, R: Rules> Book<K, R> {
                 after: before,
             });
         };
-        // Once the keeper was asked, there may be no memory for this answer.
+        // After the keeper was asked, memory may run out for this answer.
         let refused = refusal(alloc, "serverFail", &call.ask)?;
         let Plan { out, blobs, edits } = plan;
         let commit = Commit {
@@ -312,7 +312,7 @@ impl<K: Keeper, R: Rules> Book<K, R> {
         })
     }
 
-    // The plan of a call, with what the rules promise of it.
+    // Returns the plan of a call. Its clauses are what the rules promise of it.
     fn planned(&self, alloc: Global, call: &Call, moment: u64) -> Result<Plan, NoMemory>
         requires moment { moment ≤ last_moment }
         ensures plan { IfOk result (λ p. p ≡ R.plan_of self.now.rules self.now.history call.now

@@ -4,7 +4,7 @@
 #[derive(Clone, Copy, Debug, PartialEq, Eq)]
 pub enum Reason {
     /// The row is no commit's encoding. The number is the byte offset of the first byte at which no
-    /// commit's encoding goes on as the row does. A base counts as such a row, at offset 0.
+    /// commit's encoding continues as the row does. A base counts as such a row, at offset 0.
     NotACommit(u64),
     /// The row is a commit, but its edits don't fit the content before it.
     DoesNotFit,

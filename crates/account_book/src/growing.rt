@@ -1,4 +1,4 @@
-// Edits more, applied to a content and noted in a log.
+// More edits, which are applied to a content and noted in a log.
 ghost use Rattle.std.specs.Prelude.{◌≡◌, ◌↔◌, ◌+◌, ◌<◌, ◌^◌, ◌++◌, ◌∷◌, [], IfOk, IsTrue, MatchOption, length, map, ⊤};
 ghost use Rattle.mail_records.specs.Edits.{AllFit, AllKeepThread, HasNumbers, after_edits};
 ghost use Rattle.record_codec.specs.Sizes.{capped, edit_bytes};
@@ -15,7 +15,7 @@ use record_codec::edit_bytes;
 use state_log::{Log, note_all_ready};
 use std::alloc::Global;
 
-// Returns whether there are 64-bit numbers for so many edits more. Edits in memory are far too few
+// Returns whether there are 64-bit numbers for so many more edits. Edits in memory are far too few
 // for the numbers to run out.
 fn has_numbers(content: &Content, end: u64, count: usize) -> bool
     ensures numbers { IsTrue result → HasNumbers count content.now.content }
@@ -50,7 +50,7 @@ pub(crate) fn apply_more(
     apply_fitting(alloc, content, edits)
 }
 
-/// What comes of edits and blobs more, over a content and blobs.
+/// The result of more edits and blobs, over a content and blobs.
 #[derive(Drop)]
 pub enum Grown {
     /// The edits don't fit.

@@ -20,7 +20,7 @@ ghost use Rattle.account_book.specs.declared.plans.Point.{Point};
 use crate::Rules;
 use keep_port::Keeper;
 
-/// What was the reply to a call at a point of a history is so at the same point of each history
+/// A reply to a call at a point of a history is a reply to the call at that point of each history
 /// that the history grows to.
 pub fn reply_lasts()
     ensures { (plan : History → Call → ℕ → Plan) (bytes : List Edit → ℕ) (h : History)

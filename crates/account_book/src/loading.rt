@@ -74,7 +74,7 @@ fn take_commit(
     }
 }
 
-// Lets go of what is loaded, and answers why.
+// Drops what is loaded, and returns why it is no valid account.
 fn stop(loading: Loading, fault: StartFault) -> Result<Loading, StartFault>
     ensures { result ≡ Err fault }
 {

@@ -68,7 +68,7 @@ pub struct Done {
     pub after: u64,
 }
 
-// The answer that is one response, which says an error.
+// Returns the answer that is one response, which reports an error.
 fn error_reply(alloc: Global, kind: &str, id: &Text) -> Result<Out, NoMemory>
     ensures { IfOk result (λ out. out ≡ Out.Replies
         (record { responses = error_of kind.now id.now ∷ []; made = [] })) }
@@ -81,7 +81,7 @@ fn error_reply(alloc: Global, kind: &str, id: &Text) -> Result<Out, NoMemory>
     }))
 }
 
-/// The answer to what can't be done: for a method the error of this type, else `Failed`.
+/// Returns the answer to what can't be done: for a method the error of this type, else `Failed`.
 pub(crate) fn refusal(alloc: Global, kind: &str, ask: &Ask) -> Result<Out, NoMemory>
     ensures { IfOk result (λ out. out ≡ refusal kind.now ask.now) }
 {

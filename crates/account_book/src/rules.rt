@@ -27,8 +27,8 @@ pub trait Rules: Drop + Send + Sync {
     /// What a call plans, over the history of the account at a timestamp.
     ghost plan_of: { Self → History → TheCall → ℕ → ThePlan };
 
-    /// Whether an account with this history is valid: founded, sound, and all that the rules want
-    /// of its records.
+    /// Whether an account with this history is valid: founded, sound, and as the rules require of
+    /// its records.
     ghost is_whole: { Self → History → Type 0 };
 
     /// Returns the plan of a call over an account at a timestamp. The account needn't be valid: the

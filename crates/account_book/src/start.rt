@@ -8,7 +8,7 @@ use crate::{Account, Reason, Rules, StartFault};
 use keep_port::Kept;
 use std::alloc::Global;
 
-// Lets go of an account, and answers why.
+// Drops an account, and returns why it is not opened.
 fn stop(account: Account, fault: StartFault) -> Result<Account, StartFault>
     ensures { result ≡ Err fault }
 {
