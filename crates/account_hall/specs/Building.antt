@@ -26,9 +26,9 @@ AreBuilt (a ∷ accounts) (r ∷ rs) (k ∷ ks) =
     (r.name ≡ a.name) × (k ≡ root_of r.lock a.book.before a.book.opened) × AreBuilt accounts rs ks
 AreBuilt _ _ _ = ⊥
 
--- What an account is that was behind a lock with this root. Its entries begin with what the root
--- had seen. Under the name of each session that left they are those that the session had then, and
--- each of them is of such a session. What the account had opened with is as before.
+-- What an account is that was guarded by a lock with this root. Its entries begin with what the
+-- root had seen. Under the name of each session that left they are those that the session had then,
+-- and each of them is of such a session. What the account had opened with is as before.
 pub record IsClosed {K R : Type 0} (root : PassFacts) (book : BookView K R) : Type 0 where
   pub seen : StartsWith (entries_of book) root.seen
   pub ended : KeepsEnded root (entries_of book)

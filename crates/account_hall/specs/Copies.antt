@@ -192,7 +192,7 @@ pub record IsCopy {R : Type 0} (plan_of : R → History → Call → ℕ → Pla
   pub copied : IsCopied (copy_steps plan_of set_of copy moment) taken new answer
 
 -- A copy that ended out of memory: the session may have seen more of both accounts, and the calls
--- that were performed stand, each with its point.
+-- that were performed are kept, each with its point.
 pub record HasBegunCopy {R : Type 0} (plan_of : R → History → Call → ℕ → Plan)
     (set_of : SetOf) (copy : CopyCall) (moment : ℕ)
     (old new : SessionView) : Type 0 where

@@ -10,12 +10,12 @@ use Rattle.account_lock.specs.Passes.{HasEndedAll, HasNoOthers, KeepsEnded, root
 use Rattle.account_lock.specs.Views.{LockFacts, PassFacts}
 use Rattle.jm_base.specs.declared.limits.TheConstants.{MAX_SESSIONS}
 
--- an account behind its lock
+-- an account with its lock
 pub record RoomFacts (B : Type 0) : Type 0 where
   pub name : List ℕ
   pub lock : LockFacts B
 
--- what contracts see of an account of a hall: its name, and which lock it is behind
+-- what contracts see of an account of a hall: its name, and which lock guards it
 pub record RoomView : Type 0 where
   pub name : List ℕ
   pub lock : TableId
@@ -37,8 +37,8 @@ AreOf rooms passes = map lock_of_pass passes ≡ map lock_of_room rooms
 abbrev pub entries_of : {K R : Type 0} → BookView K R → List Entry
 entries_of b = numbered_since b.opened b.since
 
--- What contracts see of the front of a hall: the root of each account's lock, how many sessions are
--- in, and how many were admitted up to now.
+-- What contracts see of a hall's front: the root of each account's lock, how many sessions are in,
+-- and how many were admitted up to now.
 pub record FrontView : Type 0 where
   pub roots : List PassFacts
   pub inside : ℕ

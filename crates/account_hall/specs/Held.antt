@@ -98,7 +98,8 @@ abbrev pub MayHavePlaced : CopySteps HeldState → Carried → HeldState → Hel
 MayHavePlaced c carried s s' =
     (s' ≡ s) ⊎ ((placed : Out) × c.to (place_call c.call carried c.made) s s' placed)
 
--- the same after this answer of the account of the originals, which carries something
+-- what may have followed this answer of the account of the originals: it carries something, and the
+-- account of the copies was asked, or nothing was done
 pub record MayHaveFollowed (c : CopySteps HeldState) (fetched : Out) (s s' : HeldState) : Type 0
   where
     pub carried : Carried

@@ -45,7 +45,8 @@ pub(crate) fn perform_under<K: Keeper, R: Rules>(
     done
 }
 
-// Performs a call on the account behind a lock. The serial is that of its entry, if it makes one.
+// Performs a call on the account that a lock guards. The serial is that of its entry, if it makes
+// one.
 fn call_at<K: Keeper, R: Rules, W: Wait>(
     rt: &W,
     alloc: Global,

@@ -57,13 +57,13 @@ impl<K: Keeper, R: Rules> Hall<K, R> {
     /// It may wait for other sessions that use them: it takes both accounts, the one with the lower
     /// number first, and gives them back at the end. Meanwhile no other session uses either.
     ///
-    /// The account of the originals is asked what is copied. If it carries something, the other
+    /// The account of the originals is asked for what is copied. If it carries something, the other
     /// account is asked to place that. Then `originals` says whether a set of the originals follows
-    /// the response. If so, their account is asked it, and its first response follows in the
-    /// answer; for a user who may only read that account it is the error `accountReadOnly`, and
+    /// the response. If so, their account is asked to perform it, and its first response follows in
+    /// the answer; for a user who may only read that account it is the error `accountReadOnly`, and
     /// nothing is asked. The trail gains a point for each account that was asked, in order.
     ///
-    /// Fails only if memory runs out. Then what was performed before stands, and the trail has its
+    /// Fails only if memory runs out. Then what was performed before is kept, and the trail has its
     /// points; the session may have seen more of both accounts.
     pub fn copy<W: Wait, O: Originals>(
         &self,

@@ -1,4 +1,4 @@
-// The front of a hall, which lets sessions in and out.
+// A hall's front, which lets sessions in and out.
 ghost use Rattle.std.specs.Prelude.{◌≡◌, ◌↔◌, ◌+◌, ◌-◌, ◌<◌, ◌≤◌, [], true, map, IfOk, IfErr, OnErr, vec_len, vec_capacity, length};
 ghost use Rattle.std.specs.List.{AllByRecursion};
 ghost use Rattle.account_lock.specs.Passes.{split_off};

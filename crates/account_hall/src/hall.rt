@@ -5,7 +5,7 @@ use jm_base::Text;
 use keep_port::Keeper;
 use std::marker::Model;
 
-/// An account behind its lock.
+/// An account with its lock.
 #[derive(Drop)]
 pub(crate) struct Room<K: Keeper, R: Rules> {
     pub(crate) name: Text,
@@ -21,7 +21,7 @@ impl<K: Keeper, R: Rules> Model for Room<K, R> {
     ghost view = { λ r. record { name = r.name; lock = r.lock } };
 }
 
-/// Several accounts, each behind a lock. Contracts see the name and the lock of each.
+/// Several accounts, each with a lock. Contracts see the name and the lock of each.
 #[derive(Drop)]
 pub struct Hall<K: Keeper, R: Rules> {
     pub(crate) rooms: Vec<Room<K, R>>,

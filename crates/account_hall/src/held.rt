@@ -147,7 +147,8 @@ fn push_first(responses: &mut Vec<Invocation>, answer: Out)
     }
 }
 
-// Asks the account of the originals the set that follows a copy. `placed` is the reply to the copy.
+// Asks the account of the originals to perform the set that follows a copy. `placed` is the reply
+// to the copy.
 fn ask_set<K: Keeper, R: Rules>(
     alloc: Global,
     from: &mut Held<K, R>,

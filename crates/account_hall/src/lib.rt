@@ -1,4 +1,4 @@
-//! A hall: several accounts, each behind a lock, and the sessions that share them.
+//! A hall: several accounts, each with a lock, and the sessions that share them.
 //!
 //! A session has a pass for each account and a trail, the points of its calls. It may be used by
 //! one thread while other threads use other sessions. Contracts say of each call that its answer
