@@ -394,7 +394,7 @@ module _ {Y : Type 0} (shows : Y → List Entry) (origin : Y → Origin) (built 
         (λ x is. let f : Some y ≡ Some x = ap first_held is in let e : y ≡ x = cc f in ap (λ (z : Y). let u : Me (Option Y) View = (record v { waits = false; turn = false; seen = shows z; own = under v.name (shows z) }, []) in u) e),
       )
 
-  -- the same, of a seat whose slots are known by an equation
+  -- the steps above, of a seat whose slots are known by an equation
   abbrev Sat : Type 0
   Sat = Me (Option Y) View
 

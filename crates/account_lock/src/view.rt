@@ -1,7 +1,7 @@
 // What a pass knows, as the table of words and slots sees it.
 use std::marker::Model;
 
-/// Stands for the view of a pass in the types of the table. No value of it is made: views are ghost
+/// Represents the view of a pass in the types of the table. No value of it is made: views are ghost
 /// data.
 pub struct PassView;
 
