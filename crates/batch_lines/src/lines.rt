@@ -38,8 +38,8 @@ pub fn answer_lines<P: UploadPort, S: Source, O: Sink>(
     }
 }
 
-// Answers what is read, piece by piece. All replies to a piece are written before the next read. Of
-// a piece that goes past the limit, the part within it is answered.
+// Answers the input that is read, piece by piece. All replies to a piece are written before the
+// next read. Of a piece that goes past the limit, the part within it is answered.
 fn answer_reads<P: UploadPort, S: Source, O: Sink>(
     alloc: Global,
     port: &mut P,
