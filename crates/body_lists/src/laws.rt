@@ -4,7 +4,7 @@ ghost use Rattle.mime_type.specs.PartTrees.{none};
 ghost use Rattle.body_lists.specs.Lists.{lists_in};
 ghost use Rattle.body_lists.specs.Examples.{attached, example, leaf, multipart, named};
 
-/// The lists of the example of RFC 8621, section 4.1.4, and of small ones.
+/// Shows the lists of the example of RFC 8621, section 4.1.4, and of small examples.
 pub fn lists_of_examples()
     ensures example { lists_in example ≡ record {
       text = 1 ∷ 2 ∷ 3 ∷ 4 ∷ 10 ∷ [];

@@ -82,8 +82,8 @@ impl BodyLists {
     }
 }
 
-/// If a list ends at the index `from`, adds there what is in another list from the index `place`
-/// on.
+/// Adds to a list what another list has from the index `place` on, if the first list ends at the
+/// index `from`.
 fn fill(
     alloc: Global,
     numbers: &mut Numbers,
