@@ -1,4 +1,4 @@
--- From what a log tells to what is asked of its history.
+-- From what a log says to what is asked of its history.
 use Rattle.std.proofs.Common.{◌≡◌, ℕ, ◌≤◌, List, Option, Some, None, sym, ap, ◌∙◌, subst, arith}
 use Rattle.std.specs.Prelude.{ℤ}
 use Rattle.std.proofs.lemmas.Fmt.{decimal_injective}

@@ -52,7 +52,7 @@ has_step : (b : Bool) (m n : ℕ) (ns : List ℕ) → has (cond b (put (λ k. k)
 has_step true m n ns = has-put m n ns
 has_step false m n ns = refl
 
--- a number is among them exactly where it was before, or an id of the kind has it
+-- a number is among them if and only if it was before, or an id of the kind has it
 pub has-numbers : (ids : List Id) (kind : Kind) (ns : List ℕ) (n : ℕ) → has (numbers_with kind ns ids) n ≡ (has ns n || list_any (is_id kind n) ids)
 has-numbers [] kind ns n = or_false (has ns n)
   where
