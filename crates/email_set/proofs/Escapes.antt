@@ -7,7 +7,7 @@ use Rattle.jm_json.specs.Pointer.{name_of, unescaped}
 unescaped_at : (part : List ℕ) (i : ℕ) (escaped : Bool) → i < length part → unescaped escaped (drop i part) ≡ unescaped escaped (get_or part i 0 ∷ drop (i + 1) part)
 unescaped_at part i escaped lt = ap (unescaped escaped) (drop_more part i 0 lt)
 
--- a name that goes on with what is unescaped
+-- a name that continues with what is unescaped
 abbrev pub with_more : List ℕ → Option (List ℕ) → Option (List ℕ)
 with_more name o = option_map (λ k. name ++ k) o
 
@@ -34,7 +34,7 @@ gives_at part name i b x escaped lt is gives known =
     pushed name x (unescaped false (drop (i + 1) part))
     ∙ (sym (ap (with_more name) (unescaped_at part i escaped lt ∙ (ap (λ y. unescaped escaped (y ∷ drop (i + 1) part)) (sym is) ∙ gives (drop (i + 1) part)))) ∙ known)
 
--- the same of a name and a flag that are equal to these
+-- a name and a flag may be replaced by others that are equal to them
 pub after_step : (part was now : List ℕ) (i : ℕ) (b d : Bool) → now ≡ was → d ≡ b
     → with_more was (unescaped b (drop i part)) ≡ name_of part → with_more now (unescaped d (drop i part)) ≡ name_of part
 after_step part was now i b d same flag known = rw (same, flag) known

@@ -20,7 +20,7 @@ pub named_none : (s : List ℕ) (rows : List Email) → ((n : ℕ) → is_id OfE
 named_none s [] none = refl
 named_none s (e ∷ rows) none = ap (λ b. cond b (Some e) (email_named rows s)) (none e.number) ∙ named_none s rows none
 
--- what a string means, from the identifier that it stands for
+-- what a string means, from the identifier that it refers to
 pub meant_by : (made : List Created) (c : Content) (s : List ℕ) (o : Option (List ℕ)) (r : Option Email) → o ≡ identifier made s → option_and_then (email_named c.emails) o ≡ r → r ≡ email_meant made c s
 meant_by made c s o r is found = sym found ∙ ap (option_and_then (email_named c.emails)) is
 

@@ -36,7 +36,7 @@ filing_tree f =
 -- ---- paths
 
 -- A part of a path that is a reference to a record that was created means the record's id. Any
--- other part means itself, also a reference that stands for nothing.
+-- other part means itself, also a reference that means nothing.
 abbrev pub meant_part : List Created → List ℕ → List ℕ
 meant_part made part =
     unwrap_or
