@@ -89,7 +89,7 @@ pub join_known : (operator : Operator) (ts : Vec Terms Global) (s : EmailInThrea
 join_known operator ts s None h = h
 join_known operator ts s (Some b) h = λ texts. h texts ∙ sym (match_join operator ts (AnEmail texts s))
 
--- the same of what they say of an email with a message
+-- what the joined terms say of an email with a message, their operator does
 pub join_decided : (operator : Operator) (ts : Vec Terms Global) (s : EmailInThread) (m : MessageTexts) (r : Result Bool NoMemory) → IfOk r (IsMatchOf (joined operator) ts.items s m) → IfOk r (IsMatch (Join operator ts) s m)
 join_decided operator ts s m (Ok b) h = λ texts e. h texts e ∙ sym (match_join operator ts (AnEmail texts s))
 join_decided operator ts s m (Err e) h = h

@@ -90,7 +90,8 @@ IsMatch terms s m b =
 abbrev pub IsAlwaysMatch : Terms → EmailInThread → Bool → Type 0
 IsAlwaysMatch terms s b = (texts : ℕ → MessageTexts) → b ≡ terms_match terms (AnEmail texts s)
 
--- the same of a test of the list of whether each of these terms matches
+-- Whether a test passes of the list that says of each of these terms whether it matches, in each
+-- such store; and whether it passes whatever the texts of messages are.
 abbrev pub IsMatchOf
     : (List Bool → Bool) → List Terms → EmailInThread → MessageTexts → Bool → Type 0
 IsMatchOf test ts s m b =

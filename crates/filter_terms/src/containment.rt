@@ -62,7 +62,8 @@ fn find_after<'a>(text: &'a [u8], byte: u8) -> Option<&'a [u8]>
     }
 }
 
-// Returns whether the text contains a needle that begins with this byte and goes on with `others`.
+// Returns whether the text contains a needle that begins with this byte and continues with
+// `others`.
 fn contains_from(text: &[u8], first: u8, others: &[u8]) -> bool
     ensures { result ≡ contains (first ∷ others.now) text.now }
 {
