@@ -228,7 +228,7 @@ fn split_colon(text: &str) -> Option<(&str, &str)>
     text.split_once(':')
 }
 
-// What is asked for after a field's name.
+// Returns what is asked for after a field's name.
 fn after_name(alloc: Global, name: &str, text: &str) -> Result<Option<HeaderProperty>, NoMemory>
     ensures { IfOk result (λ o. o ≡ after_name name.now text.now (at_colon text.now)) }
 {
