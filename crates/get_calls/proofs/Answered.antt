@@ -39,7 +39,7 @@ blamed_by : (fault : WantedFault) (reading : Reading) (content : Content) (blobs
 blamed_by (wanted.Invalid name) reading content blobs state args is = ap (emails_by content blobs state args) is
 blamed_by wanted.NoMemory reading content blobs state args is = tt
 
--- the same, of what the exit of a `?` returns
+-- an argument that is invalid is the answer, also where the exit of a `?` returns it
 pub refused_first : {T : Type 0} (r : Result T GetFault) (fault : WantedFault) (found : Option (List ℕ)) (answer : Got) → IsErrAnd r (λ e. e ≡ fault_of fault) → Names fault found → IfErr r (λ e. GetFails e (got_unless found answer))
 refused_first r fault found answer err is = let p = err_from_is_err_and r err in rw (p.1, p.2) (blamed fault found answer is)
 

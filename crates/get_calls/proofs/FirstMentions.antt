@@ -26,7 +26,7 @@ more_at false true t s firsts e =
 more_at false false t s firsts e =
     ap (λ ys. t ∷ ys) (filter-append (λ s. not (bytes_eq s t)) firsts (s ∷ []) ∙ rw e refl)
 
--- one text more stands first where it stood nowhere before
+-- one more text is a first mention if and only if it is not among those before
 pub mentions_more : (ts : Texts) (s : List ℕ) → first_mentions (ts ++ s ∷ []) ≡ cond (is_among ts s) (first_mentions ts) (first_mentions ts ++ s ∷ [])
 mentions_more [] s = refl
 mentions_more (t ∷ ts) s = ap (λ ys. t ∷ but t ys) (mentions_more ts s) ∙ more_at (is_among ts s) _ t s (first_mentions ts) refl

@@ -150,10 +150,10 @@ all_kept properties names (m ∷ ms) known =
     let both = parts (is_among properties m.0) _ known in
     rw (kept properties names m.0 both.0) (ap (λ ys. cond (is_shown names m.0) (m ∷ ys) ys) (all_kept properties names ms both.1))
 
--- what is left of a mailbox is what is shown of it
+-- what is left of a mailbox is its JSON view
 pub shown_members : (read_only : Bool) (names : Option (List (List ℕ))) (m : Mailbox) → without (hidden_of names mailbox_properties) (mailbox_members read_only m) ≡ filter (λ p. is_shown names p.0) (mailbox_members read_only m)
 shown_members read_only names m = all_kept mailbox_properties names (mailbox_members read_only m) refl
 
--- what is left of a thread is what is shown of it
+-- what is left of a thread is its JSON view
 pub thread_members_shown : (names : Option (List (List ℕ))) (t : Thread) → without (hidden_of names thread_properties) (thread_members t) ≡ filter (λ p. is_shown names p.0) (thread_members t)
 thread_members_shown names t = all_kept thread_properties names (thread_members t) refl

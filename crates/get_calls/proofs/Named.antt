@@ -45,7 +45,7 @@ false_unless : (b : Bool) → (b ≡ true → ⊥) → b ≡ false
 false_unless false never = refl
 false_unless true never = absurd (never refl)
 
--- the same of a string
+-- a string that is an id names the record of its number
 pub named_by_id : {A : Type 0} (kind : Kind) (number_of : A → ℕ) (i : Id) (id : List ℕ) (rows : List A) → IsId i → id ≡ id_text i → i.kind ≡ kind
     → record_named kind number_of rows id ≡ lookup number_of i.number rows
 named_by_id kind number_of i id rows good same of_kind =
@@ -58,7 +58,7 @@ named_none kind number_of id [] never = refl
 named_none kind number_of id (m ∷ ms) never =
     rw (false_unless (is_id_text kind id (number_of m)) (λ e. never (number_of m) ((decides_text kind id (number_of m)).0 e))) (named_none kind number_of id ms never)
 
--- so does one that is no id at all
+-- a string that is no id at all names none
 pub named_by_no_id : {A : Type 0} (kind : Kind) (number_of : A → ℕ) (id : List ℕ) (rows : List A) → ((i : Id) → IsId i → id ≢ id_text i) → record_named kind number_of rows id ≡ None
 named_by_no_id kind number_of id rows never =
     named_none kind number_of id rows (λ a w. never (record { kind = kind; number = a }) (record { from_one = w.0.0; below = w.0.1 }) (sym w.1))
@@ -74,7 +74,7 @@ same_kind OfThread OfMailbox e = absurd (omega (arith, e))
 same_kind OfThread OfEmail e = absurd (omega (arith, e))
 same_kind OfThread OfThread e = refl
 
--- and so does one of another kind
+-- an id of another kind names none
 pub named_by_other_kind : {A : Type 0} (kind : Kind) (number_of : A → ℕ) (i : Id) (id : List ℕ) (rows : List A) → id ≡ id_text i → i.kind ≢ kind → record_named kind number_of rows id ≡ None
 named_by_other_kind kind number_of i id rows text other =
     named_none kind number_of id rows (λ a w. other (sym (same_kind kind i.kind (let same = w.1 ∙ text in cc))))

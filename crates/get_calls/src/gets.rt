@@ -21,7 +21,7 @@ use mail_records::Content;
 use method_args::MAX_OBJECTS_PER_CALL;
 use std::alloc::Global;
 
-// How many objects are asked for, among this many records.
+// Returns how many objects are asked for, among this many records.
 fn count_asked(records: usize, ids: &Option<Vec<&str>>) -> usize
     ensures { result ≡ asked_count records (option_map (λ v. map (λ t. t.now) v.items) ids.now) }
 {

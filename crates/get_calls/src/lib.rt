@@ -1,7 +1,7 @@
 //! Answers the gets of an account (RFC 8620, section 5.1; RFC 8621, sections 2.1, 3.1 and 4.2).
 //!
-//! The answer to any arguments is defined in `mail_view/specs/Gets.antt`, that to an Email/parse in
-//! `mail_view/specs/Parses.antt`. A get that fails returns a [`GetFault`].
+//! The answer to each get is defined in `Rattle.mail_view.specs.Gets`, and the answer to an
+//! Email/parse in `Rattle.mail_view.specs.Parses`. A get that fails returns a [`GetFault`].
 #![tactic(auto)]
 
 mod emails;
