@@ -113,7 +113,7 @@ pub record IsCopied (calls : Calls) (s : PortView) (from to : UserAccount) (c : 
   pub rest : s' ≡ with_session s s'.session
   pub shown : r ≡ replied_of answer
 
--- such a copy ended out of memory, and what was done before that stands
+-- such a copy ended out of memory, and what was done before that is kept
 pub record HasBegunTo (calls : Calls) (s : PortView) (from to : UserAccount) (c : Invocation)
     (made : List Created) (s' : PortView) : Type 0 where
   pub call : TheInvocation

@@ -43,7 +43,7 @@ pub trait Asks: Drop {
         ensures hall { AreOf (rooms self.now) passes.new.passes };
 
     /// Performs a copy from an account to another, at a timestamp in seconds since the beginning of
-    /// 1970. Fails only if memory runs out. Then what was performed before that stands.
+    /// 1970. Fails only if memory runs out. Then what was performed before that is kept.
     fn copy(
         &self,
         alloc: Global,
