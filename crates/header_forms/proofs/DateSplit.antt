@@ -44,7 +44,7 @@ one_more n = omega arith
 abbrev len : List ℕ → ℕ
 len text = prefix_len is_in_word text
 
--- the word's bytes stand before what is read after it
+-- the word's bytes are before what is read after it
 split : (text : List ℕ) → read_from text Outside ≡ option_map (onto_all (take (len text) text)) (read_from (drop (len text) text) Outside)
 split [] = refl
 split (b ∷ bs) =
