@@ -133,8 +133,8 @@ fn is_of_connection(error: &io::Error) -> bool {
     )
 }
 
-// Waits for the next connection. Returns none if it ended before it was accepted, or if it can't be
-// told to send at once what is written. Fails if the listener does.
+// Waits for the next connection. Returns none if it ended before it was accepted, or if TCP_NODELAY
+// can't be set for it. Fails if the listener does.
 fn accept_next(listener: &TcpListener) -> Result<Option<TcpLink>, Failed> {
     match listener.accept() {
         Ok((stream, _)) => match TcpLink::new(stream) {
