@@ -10,7 +10,7 @@ use Rattle.http_parts.specs.declared.body_fault.BodyFault.{BodyFault}
 use Rattle.http_parts.specs.declared.body_fault.BodyFault.TheVariants.{Ended, ReadFault, NoMemory}
 use Rattle.http_parts.proofs.Stopped.{rose_before}
 
--- what was read into the part after the front
+-- what was read into the part after the prefix
 pub filled : (front room old : List ℕ) (at n : ℕ) (a b : Option (List ℕ)) → front ≡ take at old → length front ≡ at → n ≤ length room
     → Consumes a b (take n room) → (n ≡ 0 → 0 < length room → IsAtEnd b) → 0 < length room → Fills old (front ++ room) at a b n
 filled front room old at n a b is len fits con end some =

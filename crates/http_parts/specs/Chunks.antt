@@ -28,7 +28,7 @@ chunk_size text =
     then Some (digits_value 16 (take (digit_count text) text))
     else None
 
--- how many bytes stand before the first LF
+-- how many bytes are before the first LF
 abbrev pub line_feed_at : List ℕ → ℕ
 line_feed_at bytes = prefix_len (λ b. not (b == 10)) bytes
 
@@ -68,7 +68,7 @@ trailer_by body bytes (Some size) =
 abbrev pub trailer : List ℕ → List ℕ → Body
 trailer body bytes = trailer_by body bytes (head_size (lines bytes))
 
--- the CR LF after the bytes of a chunk: it is refused at its first other byte
+-- the CR LF after the bytes of a chunk: it is invalid from its first other byte on
 pub data ChunkEnd : Type 0 where
   EndInvalid EndUnfinished : ChunkEnd
   Ends : (rest : List ℕ) → ChunkEnd
@@ -88,8 +88,8 @@ after_chunk body EndInvalid = Settled BodyInvalid
 after_chunk body EndUnfinished = Settled BodyUnfinished
 after_chunk body (Ends rest) = GoesOn body rest
 
--- A chunk of size 0 is the last one. A chunk by whose size the body passes the limit is refused at
--- its chunk line.
+-- A chunk of size 0 is the last one. If the body passes the limit by a chunk's size, it is too long
+-- from that chunk line on.
 abbrev pub after_line : ℕ → List ℕ → ChunkLine → ChunkStep
 after_line limit body LineInvalid = Settled BodyInvalid
 after_line limit body LineUnfinished = Settled BodyUnfinished

@@ -34,8 +34,8 @@ pub data Beginning : Type 0 where
   Head : (head rest : List ℕ) → Beginning
 
 -- A head ends with its first empty line. It is too long if the first MAX_HEAD_BYTES bytes do not
--- hold it whole, empty lines before it included, or if more than MAX_HEAD_FIELDS lines stand
--- between its first line and the empty one.
+-- hold all of it, empty lines before it included, or if more than MAX_HEAD_FIELDS lines are between
+-- its first line and the empty one.
 abbrev pub beginning_by : List ℕ → ℕ → Option HeadSize → Beginning
 beginning_by bytes empty None =
     if nat_le MAX_HEAD_BYTES (length bytes) then HeadTooLong else Unfinished

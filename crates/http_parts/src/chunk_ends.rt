@@ -8,8 +8,8 @@ ghost use Rattle.http_parts.specs.Found.{end_as, trailer_as, IsEndWithin};
 use crate::heads::find_end;
 use crate::limits::MAX_TRAILER_BYTES;
 
-/// What is at the beginning of some bytes: no valid end, one that has not come whole, or one that
-/// ends after so many bytes.
+/// What is at the beginning of some bytes: no valid end, an incomplete one, or one that ends after
+/// so many bytes.
 #[derive(Clone, Copy, Debug, PartialEq, Eq)]
 pub(crate) enum EndFound {
     Invalid,

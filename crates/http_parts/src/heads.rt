@@ -8,7 +8,7 @@ ghost use Rattle.http_parts.specs.Heads.{empty_bytes, after_empty, head_size, be
 use crate::limits::{MAX_HEAD_BYTES, MAX_HEAD_FIELDS};
 use mime_lines::{is_line_end, split_line};
 
-/// How many bytes some lines have up to the end of the first empty one, and how many lines stand
+/// How many bytes some lines have up to the end of the first empty one, and how many lines are
 /// before it.
 #[derive(Clone, Copy, Debug, PartialEq, Eq)]
 pub(crate) struct HeadSize {

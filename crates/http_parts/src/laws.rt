@@ -19,7 +19,7 @@ pub fn show_examples_of_messages()
     ensures over { chunked_body 4 (codes "3\r\nabc\r\n2\r\n") ≡ BodyTooLong }
 {}
 
-/// Shows that more bytes change no head that has come whole.
+/// Shows that more bytes change no complete head.
 #[tactic(auto, using(crate::proofs::HeadStays::head_stays))]
 pub fn keep_heads()
     ensures { (bytes after head rest : List ℕ) → beginning_of bytes ≡ Head head rest → beginning_of
