@@ -249,7 +249,7 @@ later_request old mid new a b c h k r q s p t (Err e) g low m =
       continued = subst (λ (z : List ℕ). HasContinued (Err e) z h k) seen m.continued;
     }
 
--- ---- the same, by the links in between
+-- ---- the head was read before, by the links in between
 
 pub head_len : (xs head : List ℕ) (start end : ℕ) → head ≡ take (end - start) (drop start xs) → start ≤ end → end ≤ length xs → end - start ≡ length head
 head_len xs head start end is low high = omega (arith, ap length is, low, high, length-take {A = ℕ}, length-drop {A = ℕ})

@@ -1,4 +1,4 @@
--- A message that has come whole stays, whatever bytes follow.
+-- A complete message stays, whatever bytes follow.
 use Rattle.std.proofs.Common.{◌≡◌, ◌≤◌, ◌<◌, ◌+◌, ℕ, Bool, true, false, ◌&&◌, cond, IsTrue, List, [], ◌∷◌, ◌++◌, length, Option, None, Some, refl, sym, ap, ap₂, ◌∙◌, subst, arith, length-append}
 use Rattle.httparse.specs.Grammar.{RequestHead}
 use Rattle.http_parts.specs.Heads.{Beginning, HeadTooLong, Unfinished, Head, beginning_of}
@@ -51,7 +51,7 @@ message_by_stays xs ys h b rest (Some k) (Head head more) e i c =
       refused_stays h k more ys b rest (requests.is_refused k) c ∙ ap (message_by requests (Some k)) (sym stays),
     )
 
--- more bytes change no message that has come whole: they follow it
+-- more bytes change no complete message: they follow it
 pub message_stays : (xs ys : List ℕ) (h : RequestHead) (b rest : List ℕ) → IsMessage requests xs (Complete h b rest) → IsMessage requests (xs ++ ys) (Complete h b (rest ++ ys))
 message_stays xs ys h b rest m = message_by_stays xs ys h b rest m.0 (beginning_of xs) refl m.1 m.2
 

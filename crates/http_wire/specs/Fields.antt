@@ -25,7 +25,7 @@ has_host fields =
     nat_lt 0 (length (values_of (codes "Host") fields))
     && list_all (list_all is_host_byte) (values_of (codes "Host") fields)
 
--- what stands between the commas of a value
+-- what is between the commas of a value
 abbrev pub parts_of : List ℕ → List (List ℕ)
 parts_of [] = [] ∷ []
 parts_of (b ∷ bytes) = if b == 44 then [] ∷ parts_of bytes else onto_first b (parts_of bytes)

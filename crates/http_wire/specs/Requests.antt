@@ -99,8 +99,8 @@ is_open BodyTooLong = false
 is_open BodyUnfinished = true
 is_open (Whole body rest) = true
 
--- The interim response is due: the head has come whole, it is valid, the length that it says is
--- valid and within the limit, and it asks for the response (RFC 9110, 10.1.1).
+-- The interim response is due: the head is complete and valid, the length that it says is valid and
+-- within the limit, and it asks for the response (RFC 9110, 10.1.1).
 abbrev pub is_due_by : Option RequestHead → Beginning → Bool
 is_due_by o HeadTooLong = false
 is_due_by o Unfinished = false
@@ -142,7 +142,8 @@ MayFailWith (BodyOver limit) seen left reads_old reads_new puts_old puts_new =
 MayFailWith OutOfMemory seen left reads_old reads_new puts_old puts_new = ⊤
 
 -- The interim response was written if and only if it is due; after a fault of writing, a prefix of
--- it. If an allocation failed, it was written whole, which it is only if it is due, or nothing was.
+-- it. If an allocation failed, all of it was written, which happens only if it is due, or nothing
+-- was.
 abbrev pub HasContinued : Result HttpRequest WireFault → List ℕ → Option (List ℕ) → Option (List ℕ)
     → Type 0
 HasContinued (Err WriteFault) seen held_old held_new =

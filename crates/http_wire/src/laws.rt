@@ -3,8 +3,8 @@ ghost use Rattle.std.specs.Prelude.{◌++◌, List, ℕ};
 ghost use Rattle.http_wire.specs.Requests.{Complete, IsDue, IsMessage, requests};
 ghost use Rattle.httparse.specs.Grammar.{RequestHead};
 
-/// Shows that more bytes change no message that has come whole, and that the interim response to it
-/// is due for the same bytes.
+/// Shows that more bytes change no complete message, and that the interim response to it is due for
+/// the same bytes.
 #[tactic(auto, using(crate::proofs::MessageStays::message_stays))]
 pub fn keep_messages()
     ensures stays { (bytes after : List ℕ) (h : RequestHead) (body rest : List ℕ) → IsMessage
