@@ -1,4 +1,4 @@
--- Bytes that are laid out as wanted are as many as the layout has.
+-- Bytes that fit a layout are as many as the layout has.
 use Rattle.std.proofs.Common.{◌≡◌, ℕ, suc, Bool, true, false, ◌&&◌, List, [], ◌∷◌, length, refl, ap}
 use Rattle.jm_base.specs.UtcDates.{is_laid_out}
 

@@ -6,7 +6,8 @@ ghost use Rattle.jm_base.specs.declared.identifiers.Id.{Id as TheId};
 use crate::{FormFault, Id, Kind, NUMBER_LIMIT, NoMemory, Text};
 use std::alloc::Global;
 
-// Whether a text may be a number: it is not empty, and begins with no plus and no leading zero.
+// Returns whether a text may be a number: it is not empty, and begins with no plus and no leading
+// zero.
 fn begins_well(text: &[u8]) -> bool
     ensures { IsTrue result ↔ ((0 < length text.now) × (slice_index text.now 0 ≢ 43)
         × (slice_index text.now 0 ≡ 48 → length text.now ≡ 1)) }
@@ -17,7 +18,7 @@ fn begins_well(text: &[u8]) -> bool
     text[0] != b'+' && (text[0] != b'0' || text.len() == 1)
 }
 
-// The number of a text that may be one.
+// Returns the number of a text that may be one.
 fn parse_number(text: &str) -> Option<u64>
     requires some { 0 < length text.now }
     requires no_plus { slice_index text.now 0 ≢ 43 }

@@ -1,4 +1,4 @@
-// The one refusal that any call which takes memory may give.
+// The one error that any call that takes memory may return.
 use std::alloc::{AllocError, AllocFailed};
 
 /// No memory was left. Unless a call says otherwise, all that it was given is as before.

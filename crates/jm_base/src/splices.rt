@@ -29,7 +29,7 @@ fn sort_numbers(alloc: Global, numbers: &[u64]) -> Result<Vec<u64>, NoMemory>
     Ok(sorted)
 }
 
-// Whether numbers in ascending order have this one.
+// Returns whether numbers in ascending order have this one.
 fn has_number(sorted: &[u64], number: u64) -> bool
     requires { IsSorted nat_cmp sorted.now }
     ensures { result ≡ has sorted.now number }
@@ -51,8 +51,8 @@ fn keep_others(alloc: Global, list: &[u64], removed: &[u64]) -> Result<Vec<u64>,
     Ok(kept)
 }
 
-// Moves numbers from the rest of a list to its front until the front has this length, or no number
-// is left. Returns how many were moved.
+// Moves numbers from the rest of a list to the end of its prefix until the prefix has this length,
+// or no number is left. Returns how many were moved.
 fn extend_front(front: &mut Vec<u64>, rest: &[u64], wanted: usize) -> Result<usize, NoMemory>
     ensures bound { IfOk result (λ count. count ≤ length rest.now) }
     ensures moved { IfOk result (λ n. front.new.items ++ drop n rest.now ≡ front.old.items

@@ -25,7 +25,7 @@ const DAY_SECONDS: i64 = 86_400;
 /// The beginning of the text of a date, with a `0` for each digit.
 const LAYOUT: &str = "0000-00-00T00:00:00";
 
-// `YYYY-MM-DD`
+// Returns `YYYY-MM-DD`.
 fn full_date_text(alloc: Global, year: u64, month: u64, day: u64) -> Result<String, NoMemory>
     ensures { IfOk result (λ t. string_bytes t ≡ two_digits (year / 100) ++ two_digits year ++ codes "-" ++ two_digits month ++ codes "-" ++ two_digits day) }
 {
@@ -42,7 +42,7 @@ fn full_date_text(alloc: Global, year: u64, month: u64, day: u64) -> Result<Stri
     )?)
 }
 
-// `HH:MM:SS`
+// Returns `HH:MM:SS`.
 fn partial_time_text(alloc: Global, hour: u64, minute: u64, second: u64) -> Result<String, NoMemory>
     ensures { IfOk result (λ t. string_bytes t ≡ two_digits hour ++ codes ":" ++ two_digits minute ++ codes ":" ++ two_digits second) }
 {
@@ -57,7 +57,7 @@ fn partial_time_text(alloc: Global, hour: u64, minute: u64, second: u64) -> Resu
     )?)
 }
 
-// `YYYY-MM-DD` of a day since the beginning of 1970.
+// Returns `YYYY-MM-DD` of a day, which is counted from the beginning of 1970.
 fn write_full_date(alloc: Global, day: i64) -> Result<String, NoMemory>
     requires from { negsuc 719_161 ≤ℤ day }
     requires to { day ≤ℤ pos 2_932_896 }
@@ -74,7 +74,8 @@ fn write_full_date(alloc: Global, day: i64) -> Result<String, NoMemory>
     }
 }
 
-// `YYYY-MM-DDTHH:MM:SSZ` of a day since the beginning of 1970, and so many seconds of it.
+// Returns `YYYY-MM-DDTHH:MM:SSZ` of a day, which is counted from the beginning of 1970, and of so
+// many seconds of it.
 fn write_date_time(alloc: Global, day: i64, seconds: u64) -> Result<Text, NoMemory>
     requires from { negsuc 719_161 ≤ℤ day }
     requires to { day ≤ℤ pos 2_932_896 }
@@ -94,14 +95,15 @@ pub fn utc_text(alloc: Global, date: &UtcDate) -> Result<Text, NoMemory>
     write_date_time(alloc, date.seconds.div_euclid(DAY_SECONDS), seconds)
 }
 
-// Whether a byte is a digit.
+// Returns whether a byte is a digit.
 fn is_digit(byte: u8) -> bool
     ensures { result ≡ is_digit byte }
 {
     byte >= b'0' && byte <= b'9'
 }
 
-// Whether bytes are a digit wherever the layout has a `0`, and elsewhere what the layout has.
+// Returns whether bytes are a digit wherever the layout has a `0`, and elsewhere what the layout
+// has.
 fn is_laid_out(layout: &[u8], text: &[u8]) -> bool
     ensures { result ≡ is_laid_out layout.now text.now }
 {
@@ -119,14 +121,14 @@ fn is_laid_out(layout: &[u8], text: &[u8]) -> bool
     fits && is_laid_out(layout, text)
 }
 
-// Whether bytes are `Z`.
+// Returns whether bytes are `Z`.
 fn is_z(text: &[u8]) -> bool
     ensures { result ≡ is_z text.now }
 {
     text == "Z".as_bytes()
 }
 
-// Whether bytes are digits, at least one, and `Z`.
+// Returns whether bytes are digits, at least one, and `Z`.
 fn ends_in_digits(text: &[u8]) -> bool
     ensures { result ≡ ends_in_digits text.now }
 {
@@ -143,7 +145,7 @@ fn ends_in_digits(text: &[u8]) -> bool
     false
 }
 
-// Whether bytes are `Z`, perhaps after a point and digits.
+// Returns whether bytes are `Z`, perhaps after a point and digits.
 fn is_end(text: &[u8]) -> bool
     ensures { result ≡ is_end text.now }
 {
