@@ -99,7 +99,7 @@ first_both u l ls us rise e =
     let same : slice_cmp nat_cmp u.0 l.0 ≡ Equal = cc in
     rw same (merge_lower u ls us rise.0)
 
--- ---- the same over the lists from which members are taken
+-- ---- the first member of both, over the lists from which members are taken
 
 pub rises_without_first : (ls rest : List Member) → rest ≡ drop 1 ls → KeysRise (map member_of ls) → KeysRise (map member_of rest)
 unfolding IsStrictlySortedBy

@@ -18,7 +18,7 @@ use Rattle.jm_json.specs.Order.{put}
 use Rattle.jm_json.specs.JsonValues.{data_of, items_of, members_of}
 use Rattle.jm_json.specs.Integers.{first_invalid, first_invalid_item, first_invalid_member, under, pointer_part}
 
--- trees in front of items
+-- trees before items
 abbrev pub items_before : List Tree → Items → Items
 items_before [] rest = rest
 items_before (t ∷ ts) rest = item (data_of t) (items_before ts rest)
@@ -52,7 +52,7 @@ items_over p start found n here rest enough over ends =
     let whole = ends json.no_items rest no_items (items_end p n here rest enough over) refl in
     (whole.0, whole.1, whole.2 ∙ ap Some (items_before-none found))
 
--- the same for the members of an object
+-- whatever ends the members of an object well from here, in n turns, ends them well from the start
 abbrev pub EndsMembers : Parse json.Json → List Token → List (List ℕ × Tree) → ℕ → List Token → Type 0
 EndsMembers p start found n here =
     (js : json.Members) (rest : List Token) (ds : Members) → members p n here ≡ Some (js, rest) → of_members js (members_of (fields_of found)) ≡ Some ds
@@ -84,7 +84,7 @@ pub members_over : (p : Parse json.Json) (start : List Token) (found : List (Lis
     → (all : json.Members) × (members p (length start) start ≡ Some (all, rest)) × (of_members all no_members ≡ Some (members_of (fields_of found)))
 members_over p start found n here rest enough over ends = ends json.no_members rest (members_of (fields_of found)) (members_end p n here rest enough over) refl
 
--- ---- numbers stay whole
+-- ---- numbers stay integers
 
 left_none : (f : List ℕ → List ℕ) (a b : Option (List ℕ)) → option_or (option_map f a) b ≡ None → (a ≡ None) × (b ≡ None)
 left_none f None b e = (refl, e)

@@ -1,4 +1,5 @@
--- Paths that continue from another, among paths in the order of their bytes: they stand where the path with a slash after it would.
+-- Paths that continue from another, among paths in the order of their bytes: they are where the
+-- path with a slash after it would be.
 use Rattle.std.proofs.Common.{◌≡◌, ℕ, ◌+◌, ◌<◌, ◌≤◌, List, [], ◌∷◌, ◌++◌, length, take, drop, get_or, true, false, eqb, ◌&&◌, ◌||◌, Less, Equal, Greater, Ordering, refl, sym, ap, ◌∙◌, subst, arith}
 use Rattle.std.proofs.lemmas.List.{drop_more, drop_all, take-append-drop}
 use Rattle.std.proofs.lemmas.Bool.Decides.{nat_tests}
@@ -69,7 +70,7 @@ above_no (c ∷ cs) (a ∷ more) (b ∷ bs) e stops up =
       | false ↦ λ same. refl
     ] refl
 
--- ---- the same of the paths of an object
+-- ---- the paths of an object, below, at or above the path with a slash
 
 prefix_below : (p : List ℕ) (xs ys : Pairs) → AllBelow (p ++ 47 ∷ []) xs → is_prefix p (xs ++ ys) ≡ is_prefix p ys
 prefix_below p [] ys low = refl

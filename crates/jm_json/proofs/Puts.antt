@@ -148,7 +148,7 @@ stays_low k ms i d h rise differs = below_of k (take i ms) (get_or ms i d) (drop
 goes_high : (k : List ℕ) (ms : Pairs) (i : ℕ) (d : List ℕ × Tree) → i < length ms → KeysRise ms → slice_cmp nat_cmp k (get_or ms i d).0 ≡ Greater → AllBelow k (take (i + 1) ms)
 goes_high k ms i d h rise e = subst (AllBelow k) (sym (take_more ms i d h)) (below_more k (take i ms) (get_or ms i d) (stays_low k ms i d h rise (λ l. cc)) e)
 
--- ---- the same over the members themselves
+-- ---- the three ways of a search by halves, over the members themselves
 
 pub named : (ms : List Member) (i : ℕ) (m : Member) → m ≡ get_or ms i m → i < length ms → get_or (map member_of ms) i (member_of m) ≡ member_of m
 named ms i m is h = get_or-map member_of ms i m (member_of m) h ∙ ap member_of (sym is)

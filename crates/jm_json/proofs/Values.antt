@@ -35,7 +35,7 @@ put_next (m ∷ ms) (suc i) d h rise =
     nat_list_cmp_total.antisymm (get_or ms i d).name m.name ∙ ap ordering_reverse (below_at m.name ms i d (omega arith) rise.0) in
     rw above (ap (json.member m.name (data_of (tree_of m.value))) (put_next ms i d (omega arith) rise.1))
 
--- the same at a member that the loop names
+-- a key that is past those before it goes last, at a member that the loop names
 pub put_member : (ms : List Member) (i : ℕ) (m : Member) → m ≡ get_or ms i m → i < length ms → KeysRise (map member_of ms)
     → put m.name (data_of (tree_of m.value)) (members_of (fields_of (map member_of (take i ms)))) ≡ members_of (fields_of (map member_of (take (i + 1) ms)))
 put_member ms i m is h rise = rw (add-one, is) (put_next ms i m h rise)

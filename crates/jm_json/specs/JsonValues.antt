@@ -1,4 +1,4 @@
--- The JSON value that a tree is, in the words of `serde_json`.
+-- The JSON value that a tree is, as a type of `serde_json`.
 use Rattle.serde_json.specs.Data as json
 use Rattle.serde_json.specs.Find.{of_integer}
 use Rattle.jm_json.specs.Tree.{Tree, null, boolean, number, text, list, object, Trees, no_trees, tree, Fields, no_fields, field}

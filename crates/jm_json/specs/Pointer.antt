@@ -3,7 +3,7 @@ use Rattle.std.specs.Prelude.{ℕ, ◌+◌, List, [], ◌∷◌, Bool, true, fal
 use Rattle.jm_json.specs.Tree.{Tree, null, boolean, number, text, list, object}
 use Rattle.jm_json.specs.Find.{find, list_of, pairs_of}
 
--- a byte in front of the first part
+-- a byte before the first part
 abbrev pub onto : ℕ → List (List ℕ) → List (List ℕ)
 onto x [] = (x ∷ []) ∷ []
 onto x (p ∷ ps) = (x ∷ p) ∷ ps

@@ -96,7 +96,7 @@ pub(crate) fn take_tree(alloc: Global, reader: &mut Reader<'_>, depth: usize) ->
     }
 }
 
-// Returns the tree that a token is alone, and none where it begins an array or an object. It stands
+// Returns the tree that a token is alone, and none where it begins an array or an object. It is
 // outside the cycle, so that the loops over items and members can have it inline.
 #[inline(always)]
 fn take_scalar(alloc: Global, token: Token<'_>) -> Result<Option<Json>, Stop>

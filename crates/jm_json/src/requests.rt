@@ -78,7 +78,7 @@ fn take_request(alloc: Global, reader: &mut Reader<'_>) -> Result<RequestMembers
     }
 }
 
-// With the brace that closes the object.
+// Takes the members of a request, with the brace that closes the object.
 fn take_request_members(alloc: Global, reader: &mut Reader<'_>) -> Result<RequestMembers, Stop>
     ensures { IfOk result (λ r. (ms : List (List ℕ × Tree))
         × MembersTaken (MAX_DEPTH - 1) ms reader.old reader.new

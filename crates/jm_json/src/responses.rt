@@ -63,7 +63,8 @@ fn fill(
     }
 }
 
-// If an allocation fails, some of the text was added.
+// Adds the text of responses and of the session's state. If an allocation fails, some of the text
+// was added.
 fn put_responses(responses: &[Invocation], state: &str, out: &mut Vec<u8>) -> Result<(), NoMemory>
     ensures { OnOk result (out.new.items ≡ out.old.items
         ++ compact_text (data_of (responses_tree (map call_of responses.now) state.now))) }

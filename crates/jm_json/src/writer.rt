@@ -90,7 +90,7 @@ fn fill(alloc: Global, out: &mut Bytes, tree: &Json) -> Result<(), NoMemory>
     }
 }
 
-// If an allocation fails, some of the text was added.
+// Adds the text of a tree. If an allocation fails, some of the text was added.
 #[cycle(put)]
 pub(crate) fn put_tree(tree: &Json, out: &mut Vec<u8>) -> Result<(), NoMemory>
     ensures text { OnOk result
