@@ -43,7 +43,7 @@ number_unread most word small none =
     let n = digits_value 10 word in
     sym (unread_if (bytes_eq word (decimal n)) (nat_le 1 n) (nat_le n most) n most (λ e l. let low : n ≤ most = leb-true n most l in none n (omega arith) ((bytes_eq-Decides word (decimal n)).0 e)))
 
--- ---- five words
+-- ---- five arguments
 
 pub five_words : {A : Type 0} (f : A → List ℕ) (xs : List A) (word port count : A) → 4 < length xs → length xs < 6 → word ≡ get_or xs 0 word → port ≡ get_or xs 3 port → count ≡ get_or xs 4 count → serving (f word) (f port) (f count) ≡ command_of (map f xs)
 five_words f [] word port count low high w p n = absurd (omega arith)

@@ -26,7 +26,7 @@ use Rattle.account_book.specs.declared.asks.Call.{Call as TheCall}
 pub all_of : (h : History) (n : ℕ) → n ≡ length h.entries → account_after h n ≡ h
 all_of h n is = account_after-all h n (omega (arith, is))
 
--- the answer between a history and the one that it goes on to
+-- the answer between a history and the one that it continues to
 pub at_ends : (h k : History) (call : TheCall) (stamp : Stamp) (out : Out) → account_after k (length h.entries) ≡ h → IsMailReply k (point_between h k) call stamp out
     → IsReplyTo (call_plan h call 0) edit_bytes h k (point_between h k) call.ask stamp out
 at_ends h k call stamp out start at =

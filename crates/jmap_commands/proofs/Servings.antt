@@ -48,7 +48,7 @@ serve_begun (BadConfig line) port count v none h = ([], served_text count, none,
 serve_begun DeskFault port count v none h = ([], served_text count, none, h, refl)
 serve_begun TooLong port count v none h = absurd h
 
--- ---- the words of `serve`
+-- ---- the arguments of `serve`
 
 not_named : (a b : Bool) (port count : ℕ) → (if a then Some Batch else (if b then Some Read else None)) ≡ Some (Serve port count) → ⊥
 not_named true b port count e = cc

@@ -6,19 +6,19 @@ use Rattle.jmap_commands.specs.declared.arguments.TheConstants.{MAX_CONNECTIONS,
 use Rattle.jmap_commands.specs.declared.arguments.Command.{Command}
 use Rattle.jmap_commands.specs.declared.arguments.Command.TheVariants.{Batch, Read, Serve}
 
--- the command that one word names
+-- the command that one argument names
 abbrev pub command_named : List ℕ → Option Command
 command_named word =
     if bytes_eq word (codes "batch") then Some Batch
     else (if bytes_eq word (codes "read") then Some Read
     else None)
 
--- this number, if it is from 1 to the greatest one and the word is its decimal
+-- this number, if it is from 1 to the greatest one and the argument is its decimal
 abbrev pub number_if : ℕ → List ℕ → ℕ → Option ℕ
 number_if most word n =
     if bytes_eq word (decimal n) && (nat_le 1 n && nat_le n most) then Some n else None
 
--- the number from 1 to the greatest one that a word is in decimal, without a leading zero
+-- the number from 1 to the greatest one that an argument is in decimal, without a leading zero
 abbrev pub number_in : ℕ → List ℕ → Option ℕ
 number_in most word = number_if most word (digits_value 10 word)
 
@@ -27,14 +27,14 @@ serve_with None count = None
 serve_with (Some port) None = None
 serve_with (Some port) (Some count) = Some (Serve port count)
 
--- the command that a word names before a configuration, a folder, a port and a count
+-- the command that an argument names before a configuration, a folder, a port and a count
 abbrev pub serving : List ℕ → List ℕ → List ℕ → Option Command
 serving word port count =
     if bytes_eq word (codes "serve")
     then serve_with (number_in MAX_PORT port) (number_in MAX_CONNECTIONS count)
     else None
 
--- the command that the words of a command line name
+-- the command that the arguments of a command line name
 abbrev pub command_of : List (List ℕ) → Option Command
 command_of [] = None
 command_of (word ∷ []) = command_named word

@@ -1,4 +1,4 @@
--- What `read` writes for the message that it reads: the line of what a client is shown of it.
+-- What `read` writes for the message that it reads: its JSON view as one line.
 use Rattle.std.specs.Prelude.{ℕ, List, true, None, codes}
 use Rattle.jm_json.specs.Tree.{Tree, null}
 use Rattle.get_args.specs.Wanted.{Reading, invalid, asked, read_arguments, wanted_in}

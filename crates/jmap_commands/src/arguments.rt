@@ -69,7 +69,8 @@ impl Command {
     }
 }
 
-// Returns the number from 1 to the greatest one that a word is in decimal, without a leading zero.
+// Returns the number from 1 to the greatest one that an argument is in decimal, without a leading
+// zero.
 #[tactic(auto, using(crate::proofs::Numbers::number_low, crate::proofs::Numbers::number_high, crate::proofs::Numbers::number_some, crate::proofs::Numbers::number_unread))]
 fn read_number(word: &str, most: u64) -> Option<u64>
     requires { most ≤ MAX_CONNECTIONS }

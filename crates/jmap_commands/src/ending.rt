@@ -23,7 +23,7 @@ impl Status {
 /// Why a run ended.
 #[derive(Debug, Drop)]
 pub enum Ending {
-    /// All that the command does is done.
+    /// The command did all that it does.
     Done,
     /// The arguments name no command.
     Usage,

@@ -69,7 +69,7 @@ impl Keeper for UnfailingKeeper {
     }
 }
 
-// The fault of an allocation, which is the only one where nothing is kept in memory.
+// Returns the fault of an allocation, which is the only one where nothing is kept in memory.
 fn no_memory(fault: StartFault) -> NoMemory
     requires only { fault ≡ TheFault.NoMemory }
 {

@@ -11,7 +11,7 @@ use std::alloc::Global;
 const CONFIGURATION: &str =
     r#"{"users":[{"accounts":[{"id":"A1","name":"A1","readOnly":false}],"name":"batch","token":"batch"}]}"#;
 
-// The fault of an allocation, which is the only one where the configuration is of its form.
+// Returns the fault of an allocation, which is the only one where the configuration is of its form.
 fn no_memory(fault: ConfigFault) -> NoMemory
     requires only { fault ≡ TheFault.NoMemory }
 {

@@ -50,7 +50,7 @@ fn write_line<O: Sink>(line: &[u8], out: &mut O) -> Ending
     }
 }
 
-// The bytes of the input, read to its end.
+// Returns the bytes of the input, which is read to its end.
 fn take_message<S: Source>(alloc: Global, source: &mut S) -> Result<Bytes, Ending>
     ensures ok { IfOk result (λ b. Consumes (S.left source.old) (S.left source.new) b
         × (length b ≤ MAX_MESSAGE_BYTES) × IsAtEnd (S.left source.new)) }

@@ -189,7 +189,7 @@ fn answer_batch<W: Wait, S: Source, O: Sink>(
     }
 }
 
-// How a run ends whose lines were answered so.
+// Returns how a run ends whose lines were answered so.
 fn ending_of(answered: Result<(), LinesFault>) -> Ending
     ensures { result ≡ ending_of answered }
 {

@@ -119,7 +119,7 @@ fn serve_texts<H: Threads + Wait + Sync, W: World, F: RulesSource, O: Sink>(
 }
 
 /// Serves so many connections of a port, and writes how many. The configuration and the folder are
-/// the second and the third word.
+/// the second and the third argument.
 pub(crate) fn serve_words<H: Threads + Wait + Sync, W: World, F: RulesSource, O: Sink>(
     rt: &H,
     alloc: Global,
@@ -150,7 +150,7 @@ pub(crate) fn serve_words<H: Threads + Wait + Sync, W: World, F: RulesSource, O:
     serve_texts(rt, alloc, world, rules, &config, &folder, port, count, out)
 }
 
-// Lends the word of a place.
+// Lends the argument at an index.
 fn word_at(words: &[String], place: usize) -> &str
     requires { place < length words.now }
     ensures { result.now ≡ slice_index_or (map string_bytes words.now) place [] }
