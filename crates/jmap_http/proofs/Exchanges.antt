@@ -100,7 +100,7 @@ ending_since steps users ends (Refused status) number left reads mid reads' puts
 
 -- ---- the loop
 
--- so many requests were answered, and the connection goes on
+-- so many requests were answered, and the connection continues
 pub record Goes {S : Type 0} (steps : UserSteps S) (users : List User) (ends : RequestHead → Bool) (s s' : S) (times times' left left' held held' : Option (List ℕ)) (reads reads' puts puts' : ℕ)
     (count : ℕ) (early : List ℕ) : Type 0 where
   pub taken : List ℕ

@@ -26,7 +26,7 @@ use Rattle.jmap_http.specs.declared.response.Response.{Response}
 use Rattle.jmap_http.specs.declared.served.Served.{Served}
 use Rattle.jmap_http.specs.declared.served.Served.TheVariants.{End, CutOff, ReadFault, WriteFault, Limit, NoMemory, Refused}
 
--- the whole request was answered by this response, and this was sent
+-- the complete request was answered by this response, and this was sent
 exchange_of : {S : Type 0} (steps : UserSteps S) (users : List User) (number : ℕ) (s s' : S) (times times' : Option (List ℕ)) (early taken early' : List ℕ) (h : RequestHead) (body interim : List ℕ) (time : ℕ) (r : Response) (asks : Bool)
     → IsMessage requests (early ++ taken) (Complete h body early') → IsInterim (early ++ taken) interim → Shows times times' time → IsResponse steps users s s' time (asked_of h body) r → asks_to_end h ≡ asks
     → IsExchange steps users asks_to_end number (record { state = s; times = times; bytes = early ++ taken }) (record { state = s'; times = times'; bytes = early' }) asks (interim ++ sent_bytes r (asks || is_at_limit number))
@@ -44,7 +44,8 @@ exchange_of steps users number s s' times times' early taken early' h body inter
   written_is = refl;
 }
 
--- the same, sent with or without the field that ends the connection
+-- the complete request was answered by this response, which was sent with or without the field
+-- that ends the connection
 exchange_as : {S : Type 0} (steps : UserSteps S) (users : List User) (number : ℕ) (s s' : S) (times times' : Option (List ℕ)) (early taken early' : List ℕ) (h : RequestHead) (body interim : List ℕ) (time : ℕ) (r : Response) (asks last : Bool)
     → IsMessage requests (early ++ taken) (Complete h body early') → IsInterim (early ++ taken) interim → Shows times times' time → IsResponse steps users s s' time (asked_of h body) r → asks_to_end h ≡ asks
     → (asks || is_at_limit number) ≡ last
@@ -160,7 +161,7 @@ lost_next steps users number s s' times times' early taken early' left left' hel
   put = appends_on held hm held' interim sent.0 i sent.2;
 }
 
--- ---- a request that came whole
+-- ---- a complete request
 
 -- what was written before the body was read
 interim_of : (bytes : List ℕ) (held hm : Option (List ℕ)) → (IsDue bytes × Appends held hm continue_bytes) ⊎ (¬ (IsDue bytes) × Appends held hm [])
@@ -262,7 +263,7 @@ refusal_next steps users number status s times early taken early' left left' hel
 refusal_next steps users number status s times early taken early' left left' held hm held' reads reads' puts pm puts' interim response ReadFault c by is k i p sent = absurd sent
 refusal_next steps users number status s times early taken early' left left' held hm held' reads reads' puts pm puts' interim response Limit c by is k i p sent = absurd sent
 
--- memory ran out before the request was read whole
+-- memory ran out before all of the request was read
 unread_next : {S : Type 0} (steps : UserSteps S) (users : List User) (number : ℕ) (s : S) (times : Option (List ℕ)) (early taken early' : List ℕ) (left left' held hm held' : Option (List ℕ)) (reads reads' puts pm puts' : ℕ)
     → Consumes left left' taken → (IsDue (early ++ taken) × Appends held hm continue_bytes) ⊎ Appends held hm [] → puts ≤ pm → IsUnavailablePut hm held' pm puts'
     → ServesNext steps users asks_to_end number s s times times early early' left left' held held' reads reads' puts puts' (Some NoMemory)
@@ -342,7 +343,7 @@ refused_next steps users number s times early early' left left' held hm held' re
     subst (λ z. ServesNext steps users asks_to_end number s s times times early early' left left' held held' reads reads' puts puts' (Some z)) (sym a.0)
     (unread_next steps users number s times early r.taken early' left left' held hm held' reads reads' puts pm puts' r.consumed r.continued p a.1)
 
--- ---- the same, by the links in between
+-- ---- what serving the next request does, by the links in between
 
 pub answered_after : {S : Type 0} (steps : UserSteps S) (users : List User) (number : ℕ) (s s' : S) (times times' : Option (List ℕ)) (early early' : List ℕ) (left lm left' held hm held' : Option (List ℕ)) (reads rm reads' puts pm puts' : ℕ)
     (x : HttpRequest) (served : Option Served) → left' ≡ lm → reads' ≡ rm → ReadsRequestFrom early early' left lm held hm reads rm puts pm (Ok x)

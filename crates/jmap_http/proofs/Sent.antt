@@ -1,4 +1,4 @@
--- What was written when a response was sent, or was not sent whole.
+-- What was written when a response was sent, or not all of it was sent.
 use Rattle.std.proofs.Common.{◌≡◌, ◌≤◌, inl, inr, ℕ, Bool, true, false, ◌||◌, List, take, Option, Some, refl, sym, subst}
 use Rattle.std.specs.Io.KnownBytes.{Appends}
 use Rattle.jm_edge.specs.Causes.{Rose}

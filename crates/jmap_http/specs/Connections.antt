@@ -52,7 +52,7 @@ pub record Stage (S : Type 0) : Type 0 where
   pub times : Option (List ℕ)
   pub bytes : List ℕ
 
--- The request with this number came whole: it is the first message of the bytes, and those after
+-- The request with this number is complete: it is the first message of the bytes, and those after
 -- it are left. This is written for it: the interim response, if it is due, and the response, which
 -- says that the connection ends if the request asks for that, or is the last one. `ends` says which
 -- requests ask for it.
@@ -104,7 +104,7 @@ seen_of left reads reads' puts puts' = record {
   puts_after = puts';
 }
 
--- no request is there whole; the interim response to what is there is written, if it is due
+-- no complete request is there; the interim response to what is there is written, if it is due
 abbrev pub IsLeftOver : {S : Type 0} → Stage S → Stage S → List ℕ → Type 0
 IsLeftOver before after written =
     (after ≡ before) × IsMessage requests before.bytes Begun × IsInterim before.bytes written
@@ -140,7 +140,7 @@ unavailable_bytes =
     ++ (codes "Content-Type: application/problem+json\r\n" ++ (codes "Content-Length: 35\r\n" ++ (codes "Cache-Control: no-store\r\n"
     ++ (codes "Connection: close\r\n\r\n" ++ codes "{\"status\":503,\"type\":\"about:blank\"}"))))
 
--- these bytes say that memory ran out: whole, or a prefix if the link failed
+-- these bytes say that memory ran out: all of them, or a prefix if the link failed
 abbrev pub SaysUnavailable : (puts puts' : ℕ) → List ℕ → Type 0
 SaysUnavailable puts puts' said =
     (said ≡ unavailable_bytes)

@@ -16,7 +16,7 @@ abbrev pub strip_start : List ℕ → List ℕ → Option (List ℕ)
 strip_start start bytes =
     if bytes_eq (take (length start) bytes) start then Some (drop (length start) bytes) else None
 
--- what stands before the last bytes, if they are these
+-- what is before the last bytes, if they are these
 abbrev pub strip_end : List ℕ → List ℕ → Option (List ℕ)
 strip_end end bytes =
     if bytes_eq (drop (length bytes - length end) bytes) end

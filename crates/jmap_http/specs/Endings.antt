@@ -1,4 +1,4 @@
--- What is written for a request that came whole, and how the connection ends after it.
+-- What is written for a complete request, and how the connection ends after it.
 use Rattle.std.specs.Prelude.{◌≡◌, ◌⊎◌, ℕ, Bool, true, false, ◌||◌, List, [], ◌++◌, take, Option, None, Some, MatchOption, if◌then◌else◌}
 use Rattle.std.specs.Io.KnownBytes.{Appends, Consumes}
 use Rattle.httparse.specs.Grammar.{RequestHead}
@@ -23,8 +23,8 @@ abbrev pub IsUnavailablePut : (old new : Option (List ℕ)) → (puts puts' : �
 IsUnavailablePut old new puts puts' =
     (said : List ℕ) × SaysUnavailable puts puts' said × Appends old new said
 
--- These bytes were not written whole, and the connection ends so: the link failed, and a prefix was
--- written; or an allocation failed, and only that was written.
+-- Not all of these bytes were written, and the connection ends so: the link failed, and a prefix
+-- was written; or an allocation failed, and only that was written.
 abbrev pub IsUnsent : List ℕ → (old new : Option (List ℕ)) → (puts puts' : ℕ) → Served → Type 0
 IsUnsent bytes old new puts puts' WriteFault = IsPrefixPut old new bytes × Rose puts puts'
 IsUnsent bytes old new puts puts' NoMemory = IsUnavailablePut old new puts puts'
@@ -86,7 +86,8 @@ IsRefusedAs (BodyTooLong limit) old new puts puts' served =
 IsRefusedAs OutOfMemory old new puts puts' served =
     (served ≡ NoMemory) × IsUnavailablePut old new puts puts'
 
--- A whole request was answered: its response was sent; or it ended out of memory, which was sent.
+-- A complete request was answered: its response was sent; or it ended out of memory, which was
+-- sent.
 abbrev pub IsAnswered : {S : Type 0} → UserSteps S → List User → (s s' : S) → (times times' : Option
     (List ℕ)) → AskedRequest → (asks at_limit : Bool) → (old new : Option (List ℕ))
     → (puts puts' : ℕ) → Option Served → Type 0

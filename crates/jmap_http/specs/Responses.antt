@@ -167,7 +167,7 @@ IsResponseBy steps users s s' time q (Some index) r =
     (user : User) × (get_or users index user ≡ user)
     × IsResponseOf steps s s' index time user q (resource_of user.accounts q.target) r
 
--- the response to a whole request, for which the clock showed this timestamp
+-- the response to a complete request, for which the clock showed this timestamp
 abbrev pub IsResponse : {S : Type 0} → UserSteps S → List User → S → S → ℕ → AskedRequest → Response
     → Type 0
 IsResponse steps users s s' time q r =

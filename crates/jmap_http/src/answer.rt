@@ -24,7 +24,7 @@ use method_batch::answer_request_with;
 use server_users::{User, UserAccount, Users};
 use std::alloc::Global;
 
-// The index of the user who asks, and the timestamp at which the request had come whole.
+// The index of the user who asks, and the timestamp at which the request was complete.
 #[derive(Clone, Copy)]
 struct Origin {
     index: u64,
@@ -267,8 +267,8 @@ fn answer_user<P: UserPort>(
     }
 }
 
-/// Answers a whole request, for which the clock showed this timestamp, over a port that answers for
-/// the users. The body is read where it is.
+/// Answers a complete request, for which the clock showed this timestamp, over a port that answers
+/// for the users. The body is read where it is.
 ///
 /// Fails with `NoMemory` if an allocation fails; then the port was not asked, or what it was asked
 /// for was begun.

@@ -18,7 +18,7 @@ use jm_json::Scratch;
 use server_users::Users;
 use std::alloc::Global;
 
-// Answers a request that came whole. Returns how the connection ends after it, if it does.
+// Answers a complete request. Returns how the connection ends after it, if it does.
 fn answer_whole<L: Link, P: UserPort, C: Clock>(
     alloc: Global,
     scratch: &mut Scratch,
@@ -116,8 +116,8 @@ fn serve_all<L: Link, P: UserPort, C: Clock, G: Gate>(
 
 /// Serves the requests of a connection in order, at most [`MAX_REQUESTS_PER_CONNECTION`], over a
 /// port that answers for the users. Each response is written before the next request is read. The
-/// clock is read once for each request that came whole, and the gate is passed before each request
-/// with its number, from 1.
+/// clock is read once for each complete request, and the gate is passed before each request with
+/// its number, from 1.
 ///
 /// What is written is a function of the bytes that are read, of what the port answers and of what
 /// the clock shows, however the bytes come in pieces.

@@ -49,7 +49,7 @@ pub(crate) fn strip_start<'a>(start: &[u8], bytes: &'a [u8]) -> Option<&'a [u8]>
     bytes.strip_prefix(start)
 }
 
-/// Returns what stands before the last bytes, if they are these.
+/// Returns what is before the last bytes, if they are these.
 pub(crate) fn strip_end<'a>(end: &[u8], bytes: &'a [u8]) -> Option<&'a [u8]>
     ensures { option_map (λ b. b.now) result ≡ strip_end end.now bytes.now }
 {

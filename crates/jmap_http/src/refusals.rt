@@ -56,7 +56,7 @@ fn is_last(asks: bool, at_limit: bool) -> bool
     asks || at_limit
 }
 
-// Ends a connection to which a response was not written whole.
+// Ends a connection to which not all of a response was written.
 fn end_unsent<L: Link>(link: &mut L, fault: WireFault) -> Served
     ensures cut { fault ≡ WireFault.WriteFault → (result ≡ Served.WriteFault)
         × (L.held link.new ≡ L.held link.old) }
@@ -73,7 +73,7 @@ fn end_unsent<L: Link>(link: &mut L, fault: WireFault) -> Served
     end_without_memory(link)
 }
 
-// Writes a response. Fails with how the connection ends if it was not written whole.
+// Writes a response. Fails with how the connection ends if not all of it was written.
 fn put_response<L: Link>(
     alloc: Global,
     link: &mut L,
