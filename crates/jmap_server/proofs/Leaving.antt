@@ -1,4 +1,4 @@
--- What the front of a hall knows of the sessions that left.
+-- What a hall's front knows of the sessions that left.
 use Rattle.std.proofs.Common.{◌≡◌, ◌≢◌, ℕ, zero, suc, List, [], ◌∷◌, ◌++◌, map, Some, slice_get, refl, sym, ap, ◌∙◌, subst, append_assoc, append-nil}
 use Rattle.std.specs.List.{AllByRecursion}
 use mathlib.Core.Option.{some}

@@ -1,4 +1,4 @@
--- What a world was told, call after call.
+-- The deeds of a world, call after call.
 use Rattle.std.proofs.Common.{◌≡◌, List, [], ◌∷◌, ◌++◌, Option, None, Some, refl, sym, ap, ◌∙◌, append_assoc, append-nil}
 use Rattle.std.specs.Prelude.{option_map}
 use Rattle.jmap_server.specs.Deeds.{Deed, GaveClock, GaveGate, GaveLine, IsTold}

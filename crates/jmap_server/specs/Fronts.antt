@@ -1,4 +1,4 @@
--- What the front of a hall knows of the sessions that left, and what their accounts have of them.
+-- What a hall's front knows of the sessions that left, and what their accounts have of them.
 use Rattle.std.specs.Prelude.{◌≡◌, ◌≢◌, ℕ, List, [], ◌++◌, Some, slice_get}
 use Rattle.std.specs.List.{AllByRecursion}
 use Rattle.mail_records.specs.Histories.{Entry, History}

@@ -145,8 +145,8 @@ AreLinesServed sight plan_of rooms users taken sessions did =
 
 -- ---- what calls did while lines are served
 
--- Whatever was done before: so many lines more are taken after it, out are no more those lines but
--- these, and these sessions have left.
+-- Whatever was done before: so many more lines are taken after it, the lines that are out are these
+-- and no longer those, and these sessions have left.
 abbrev pub Goes : {K R L C : Type 0} → Sight K L C → Plans R → List RoomView → Configuration
     → ℕ → (out out' : List (Taken L C)) → (left : List SessionView) → List (Deed K L C) → Type 0
 Goes {K} {R} {L} {C} sight plan_of rooms users more out out' left did =

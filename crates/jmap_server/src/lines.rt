@@ -369,8 +369,8 @@ where
     done
 }
 
-// Does nothing. By this use of a reference that was returned, what is behind it is known to be
-// what the one that was lent for it ends with.
+// Does nothing. By this use of a reference that was returned, the value that it refers to is known
+// to be that with which the reference lent for it ends.
 fn take_back<T>(x: &mut T)
     ensures { x.new ≡ x.old }
 {}
