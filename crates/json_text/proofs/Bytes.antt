@@ -1,4 +1,4 @@
--- What stands for a byte, by the letter of its short escape.
+-- The escaped form of a byte, by the letter of its short escape.
 use Rattle.std.proofs.Common.{◌≡◌, ℕ, zero, suc, ◌+◌, ◌/◌, ◌%◌, ◌<◌, ◌≤◌, cond, ltb, List, [], ◌∷◌, get_or, map, refl, ap, sym, ◌∙◌, arith}
 use Rattle.std.specs.Char.{digit_char}
 use Rattle.std.proofs.lemmas.Bool.{lt-ltb, le-ltb}

@@ -1,4 +1,4 @@
--- Bytes that need no escape stand for themselves, and bits tell where they end.
+-- Bytes that need no escape are their own escaped form, and bits show where they end.
 use Rattle.std.proofs.Common.{◌≡◌, ℕ, zero, suc, ◌+◌, ◌-◌, ◌*◌, ◌/◌, ◌%◌, ◌^◌, ◌<◌, ◌≤◌, Bool, true, false, cond, ◌==◌, not, List, [], ◌∷◌, ◌++◌, length, get_or, take, drop, map, replicate, bit_or, ltb, ◌||◌, refl, ap, ap₂, sym, ◌∙◌, append_assoc, arith}
 use Rattle.std.specs.List.{prefix_len}
 use Rattle.std.proofs.lemmas.Bool.{or_parts, not-true, eqb-false, ltb-false}
@@ -13,7 +13,7 @@ use Rattle.json.specs.Print.{escape_byte, escape}
 use Rattle.json.specs.Written.{PlainBetween}
 use Rattle.json.proofs.Printed.Strings.{escape_byte_plain}
 
--- ---- what stands for plain bytes
+-- ---- the escaped form of plain bytes
 
 plain_byte : (x : ℕ) → is_plain x ≡ true → escape_byte x ≡ x ∷ []
 plain_byte x h =

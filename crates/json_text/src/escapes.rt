@@ -60,7 +60,7 @@ fn push_code(out: &mut Vec<u8>, byte: u8) -> Result<(), NoMemory>
     Ok(())
 }
 
-/// Adds what stands for a byte in a string.
+/// Adds the escaped form of a byte: the byte itself if it needs no escape.
 #[inline(always)]
 pub(crate) fn push_byte(out: &mut Vec<u8>, byte: u8) -> Result<(), NoMemory>
     ensures { OnOk result (out.new.items ≡ out.old.items ++ escape_byte byte) }

@@ -91,7 +91,7 @@ fn is_plain_between(text: &[u8]) -> bool
     }
 }
 
-/// Returns whether a text of at most 64 bytes stands for itself in a string.
+/// Returns whether a text of at most 64 bytes is its own escaped form.
 #[inline(always)]
 pub(crate) fn is_plain(text: &[u8]) -> bool
     requires { length text.now ≤ 64 }

@@ -22,8 +22,8 @@ const LONG_BYTES: usize = 2 * BLOCK_BYTES;
 /// How many bytes of a short text are looked at together.
 const STEP_BYTES: usize = 8;
 
-/// Returns the first `BLOCK_BYTES` bytes as bits, the first one lowest, which tell those that need
-/// an escape.
+/// Returns the first `BLOCK_BYTES` bytes as bits, the first one lowest, of which those that are 1
+/// mark the bytes that need an escape.
 #[inline(always)]
 fn mark_stops(text: &[u8]) -> u64
     requires { BLOCK_BYTES ≤ length text.now }
@@ -57,8 +57,8 @@ fn push_front(out: &mut Vec<u8>, text: &[u8], size: usize) -> Result<(), NoMemor
     Ok(())
 }
 
-/// Adds the first `size` bytes of a text and what stands for the byte after them, and returns the
-/// text after that.
+/// Adds the first `size` bytes of a text and the escaped form of the byte after them, and returns
+/// the text after that.
 #[inline(always)]
 fn push_run<'a>(out: &mut Vec<u8>, text: &'a [u8], size: usize) -> Result<&'a [u8], NoMemory>
     requires block { BLOCK_BYTES ≤ length text.now }
@@ -72,7 +72,7 @@ fn push_run<'a>(out: &mut Vec<u8>, text: &'a [u8], size: usize) -> Result<&'a [u
     Ok(text.split_at(size + 1).1)
 }
 
-/// Adds what stands for the first block of a text, and returns the text after the block.
+/// Adds the escaped form of the first block of a text, and returns the text after the block.
 fn push_block<'a>(out: &mut Vec<u8>, text: &'a [u8]) -> Result<&'a [u8], NoMemory>
     requires { LONG_BYTES ≤ length text.now }
     ensures bytes { IfOk result (λ rest. out.new.items ++ escape rest.now
@@ -92,7 +92,7 @@ fn push_block<'a>(out: &mut Vec<u8>, text: &'a [u8]) -> Result<&'a [u8], NoMemor
     Ok(rest.split_at(left).1)
 }
 
-/// Adds what stands for the first byte of a text, and returns the text after it.
+/// Adds the escaped form of the first byte of a text, and returns the text after it.
 #[inline(always)]
 fn push_first<'a>(out: &mut Vec<u8>, text: &'a [u8]) -> Result<&'a [u8], NoMemory>
     requires { 0 < length text.now }
@@ -119,7 +119,7 @@ fn push_plain<'a>(out: &mut Vec<u8>, text: &'a [u8]) -> Result<&'a [u8], NoMemor
     Ok(rest)
 }
 
-/// Adds what stands for the first byte of a text, or for the first 8 if none of them needs an
+/// Adds the escaped form of the first byte of a text, or of the first 8 if none of them needs an
 /// escape, and returns the text after that.
 #[inline(always)]
 fn push_step<'a>(out: &mut Vec<u8>, text: &'a [u8]) -> Result<&'a [u8], NoMemory>
@@ -137,7 +137,7 @@ fn push_step<'a>(out: &mut Vec<u8>, text: &'a [u8]) -> Result<&'a [u8], NoMemory
     push_first(out, text)
 }
 
-/// Adds what stands for a short text that needs escapes.
+/// Adds the escaped form of a short text that needs escapes.
 fn push_few(out: &mut Vec<u8>, text: &[u8]) -> Result<(), NoMemory>
     ensures { OnOk result (out.new.items ≡ out.old.items ++ escape text.now) }
 {
@@ -148,7 +148,7 @@ fn push_few(out: &mut Vec<u8>, text: &[u8]) -> Result<(), NoMemory>
     Ok(())
 }
 
-/// Adds what stands for a text of fewer than `LONG_BYTES` bytes.
+/// Adds the escaped form of a text of fewer than `LONG_BYTES` bytes.
 #[inline(always)]
 fn push_short(out: &mut Vec<u8>, text: &[u8]) -> Result<(), NoMemory>
     requires { length text.now < LONG_BYTES }
@@ -161,7 +161,7 @@ fn push_short(out: &mut Vec<u8>, text: &[u8]) -> Result<(), NoMemory>
     push_few(out, text)
 }
 
-/// Adds what stands for a text in a string.
+/// Adds the escaped form of a text.
 #[inline(always)]
 fn push_escaped(out: &mut Vec<u8>, text: &[u8]) -> Result<(), NoMemory>
     ensures { OnOk result (out.new.items ≡ out.old.items ++ escape text.now) }
