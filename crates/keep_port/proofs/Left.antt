@@ -13,7 +13,7 @@ IsOneOf-push [] y x (inr h) = absurd h
 IsOneOf-push (z ∷ zs) y x (inl e) = inl (inl e)
 IsOneOf-push (z ∷ zs) y x (inr h) = ⊎_elim (λ a. inl (inr a)) (λ b. inr b) (IsOneOf-push zs y x h)
 
--- after a refused row
+-- after an `append` that was refused
 pub row_refused : (m : MemoryKeeper) (row : List ℕ) (calls : Calls) (k : Kept) → may_be_left (record m { refused_rows = m.refused_rows ++ row ∷ []; appends = calls }) k → may_be_left m k ⊎ (Some (with_row row m.kept) ≡ Some k)
 row_refused m row calls k (inl e) = inl (inl e)
 row_refused m row calls k (inr (inl (r, h, e))) =
@@ -23,7 +23,7 @@ row_refused m row calls k (inr (inl (r, h, e))) =
     (IsOneOf-push m.refused_rows row r h)
 row_refused m row calls k (inr (inr w)) = inl (inr (inr w))
 
--- after a refused whole
+-- after a `replace` that was refused
 pub whole_refused : (m : MemoryKeeper) (whole : Kept) (calls : Calls) (k : Kept) → may_be_left (record m { refused_wholes = m.refused_wholes ++ whole ∷ []; replaces = calls }) k → may_be_left m k ⊎ (Some whole ≡ Some k)
 whole_refused m whole calls k (inl e) = inl (inl e)
 whole_refused m whole calls k (inr (inl r)) = inl (inr (inl r))
@@ -55,14 +55,14 @@ kept_or d (Some k) = k
 pub kept_is_left : (m : MemoryKeeper) (k : Kept) → Some m.kept ≡ Some k → may_be_left m k
 kept_is_left m k s = inl (sym (ap (kept_or m.kept) s))
 
--- after a refused row
+-- after an `append` that was refused
 pub row_is_left : (m : MemoryKeeper) (row : List ℕ) (calls : Calls) (k : Kept) → may_be_left m k ⊎ (Some (with_row row m.kept) ≡ Some k) → may_be_left (record m { refused_rows = m.refused_rows ++ row ∷ []; appends = calls }) k
 row_is_left m row calls k (inl (inl e)) = inl e
 row_is_left m row calls k (inl (inr (inl (r, h, e)))) = inr (inl (r, IsOneOf-old m.refused_rows row r h, e))
 row_is_left m row calls k (inl (inr (inr w))) = inr (inr w)
 row_is_left m row calls k (inr s) = inr (inl (row, IsOneOf-last m.refused_rows row, sym (ap (kept_or m.kept) s)))
 
--- after a refused whole
+-- after a `replace` that was refused
 pub whole_is_left : (m : MemoryKeeper) (whole : Kept) (calls : Calls) (k : Kept) → may_be_left m k ⊎ (Some whole ≡ Some k) → may_be_left (record m { refused_wholes = m.refused_wholes ++ whole ∷ []; replaces = calls }) k
 whole_is_left m whole calls k (inl (inl e)) = inl e
 whole_is_left m whole calls k (inl (inr (inl r))) = inr (inl r)

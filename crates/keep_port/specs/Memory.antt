@@ -58,8 +58,8 @@ Loads old new (Err Failed) = (fails_next old.loads ≡ true)
     × (new ≡ record old { loads = failed old.loads })
 Loads old new (Err NoMemory) = new ≡ old
 
--- The same for `append`: the row is added after the others, and what was refused before is
--- forgotten; or the call fails, and the row is one of those that a crash may leave.
+-- What `append` makes of the keeper: the row is added after the others, and what was refused before
+-- is forgotten; or the call fails, and the row is one of those that a crash may leave.
 abbrev pub Appends : {T : Type 0} → List ℕ → MemoryKeeper → MemoryKeeper → Result T EdgeFault
     → Type 0
 Appends row old new (Ok _) =
@@ -77,8 +77,8 @@ Appends row old new (Err Failed) =
     })
 Appends row old new (Err NoMemory) = new ≡ old
 
--- The same for `replace`: the new content takes the place of the old one; or the call fails, and
--- the new content is one of those that a crash may leave.
+-- What `replace` makes of the keeper: the new content takes the place of the old one; or the call
+-- fails, and the new content is one of those that a crash may leave.
 abbrev pub Replaces : {T : Type 0} → Kept → MemoryKeeper → MemoryKeeper → Result T EdgeFault
     → Type 0
 Replaces whole old new (Ok _) =
