@@ -48,7 +48,7 @@ fn begin<S: Alter>(connection: &mut Connection<S>) -> Result<Transaction<'_, S>,
     Ok(connection.transaction())
 }
 
-// the tables are created or checked if the last number is not known yet
+// Returns the last number. The tables are created or checked if it is not known yet.
 fn find_last_number<S: Alter>(
     alloc: Global,
     tx: &mut Transaction<'_, S>,

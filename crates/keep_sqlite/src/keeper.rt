@@ -16,7 +16,7 @@ use std::alloc::Global;
 #[cfg(test)]
 mod tests;
 
-// there is no format with a base yet
+// There is no format with a base yet.
 const BASE: Error = Error::SqliteFailure(ErrorCode::NotADatabase);
 
 /// Keeps rows in a database over a store: a file that the first call opens, or a connection that

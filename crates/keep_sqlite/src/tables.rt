@@ -9,10 +9,10 @@ pub const OTHER_FORM: Error = Error::SqliteFailure(ErrorCode::NotADatabase);
 const MAKE: &str =
     "CREATE TABLE about (item INTEGER PRIMARY KEY, value INTEGER NOT NULL); CREATE TABLE commits (place INTEGER PRIMARY KEY, bytes BLOB NOT NULL); INSERT INTO about (item, value) VALUES (1, 1)";
 
-// how many tables, indexes and views have the names of the two tables
+// How many tables, indexes and views have the names of the two tables.
 const NAMED: &str = "SELECT count(*) FROM sqlite_schema WHERE name IN ('about', 'commits')";
 
-// how many of them were created by the text of `MAKE`
+// How many of them were created by the text of `MAKE`.
 const OURS: &str =
     "SELECT count(*) FROM sqlite_schema WHERE sql IN ('CREATE TABLE about (item INTEGER PRIMARY KEY, value INTEGER NOT NULL)', 'CREATE TABLE commits (place INTEGER PRIMARY KEY, bytes BLOB NOT NULL)')";
 
@@ -37,7 +37,7 @@ pub fn read_rows<S: Alter>(
     read_all(alloc, &mut found)
 }
 
-// returns whether neither table is there
+// Returns whether neither table is there.
 fn is_new<S: Alter>(tx: &mut Transaction<'_, S>) -> Result<bool, Error> {
     let named = count(tx, NAMED)?;
     let ours = count(tx, OURS)?;
@@ -66,7 +66,7 @@ fn check_about<S: Alter>(tx: &mut Transaction<'_, S>) -> Result<(), Error> {
     }
 }
 
-// reads one row after the other, each into memory of its own
+// Reads one row after the other, each into memory of its own.
 fn read_all<S: Alter>(alloc: Global, found: &mut Rows<'_, S>) -> Result<Vec<Bytes>, Error> {
     let mut rows = Vec::new(alloc);
     for number in 1..i64::MAX {
@@ -78,7 +78,7 @@ fn read_all<S: Alter>(alloc: Global, found: &mut Rows<'_, S>) -> Result<Vec<Byte
     Err(OTHER_FORM)
 }
 
-// returns the next row, which is to have this number, or `None` after the last
+// Returns the next row, which is to have this number, or `None` after the last.
 fn read_next<S: Alter>(found: &mut Rows<'_, S>, number: i64) -> Result<Option<Bytes>, Error> {
     found.advance()?;
     match found.get() {
