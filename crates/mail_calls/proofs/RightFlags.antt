@@ -16,7 +16,7 @@ use Rattle.mail_calls.specs.Plans.{set_plan, ground_in, call_plan}
 use Rattle.mail_calls.specs.ValidAfterCalls.{by_ask}
 use Rattle.mail_calls.specs.ValidAfterCommits.{IsWholeMail}
 
--- the flags of an import are right at every moment
+-- the flags of an import are right at every timestamp
 import_flags : (h : History) (call : Invocation) (made : List Created) (moment : ℕ) (o : Outcome)
     → IsWholeMail h → import_in h call.args made moment ≡ o
     → AreCountsFlagsRight (content_of h) (set_plan call o).edits
@@ -26,7 +26,7 @@ import_flags h call made moment sets.state_mismatch whole is = tt
 import_flags h call made moment (sets.planned p) whole is =
     (imported (ground_in h) (blobs_of h) call.args made moment p is).flags whole.tidy.tables
 
--- the flags of copies are right at every moment
+-- the flags of copies are right at every timestamp
 copies_flags : (h : History) (call : Invocation) (carried : Carried) (made : List Created)
     (moment : ℕ) (o : Outcome) → IsWholeMail h → place_in h call.args carried made moment ≡ o
     → AreCountsFlagsRight (content_of h) (set_plan call o).edits

@@ -1,5 +1,5 @@
--- The tests by which an email's message is found among the blobs of an account. Each is true
--- exactly where what it tests holds (`Rattle.plan_promises.specs.Messages`).
+-- The tests by which an email's message is found among the blobs of an account. Each is true if and
+-- only if what it tests holds (`Rattle.plan_promises.specs.Messages`).
 use Rattle.std.specs.Prelude.{ℕ, Bool, true, false, ◌&&◌, ◌==◌, List, [], ◌∷◌, length, Option, Some, None, bytes_eq, slice_get, ◌≡◌}
 use Rattle.std.specs.Bool.{beq}
 use Rattle.std.specs.Ordering.{int_eq}

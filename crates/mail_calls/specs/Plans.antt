@@ -125,7 +125,7 @@ planned_with c p = record {
 abbrev pub set_plan : Invocation → Outcome → Plan
 set_plan c o = unless_rejected c (planned_with c) o
 
--- what the planner of a set, of an import or of copies returned tells this outcome
+-- the planner of a set, of an import or of copies returned this outcome
 abbrev pub IsOutcomeOf : Result SetPlan SetFault → Outcome → Type 0
 IsOutcomeOf returned o =
     MatchResult returned (λ p. o ≡ sets.planned (plan_of p)) (λ e. ExplainsSet e o)
@@ -143,7 +143,7 @@ email_set_plan c made g = set_plan c (email_set_outcome g c.args made)
 
 -- The plan of a method of mail, or of a name that is none's: over an account with this history,
 -- with what the request has made up to here, of a user to whom the account is read-only or not, at
--- a moment.
+-- a timestamp in Unix seconds.
 abbrev pub plan_by : History → Invocation → List Created → Bool → ℕ → Option MailMethod → Plan
 plan_by h c made read_only moment None = refused c (codes "unknownMethod")
 plan_by h c made read_only moment (Some (Get kind)) =

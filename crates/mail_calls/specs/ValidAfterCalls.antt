@@ -110,7 +110,7 @@ email_set_keeps h call made (sets.planned p) whole is =
     (without_blobs h p.edits p.blobs all.none_brought (all.planned summary blobs whole.tidy))
     (few_without h (set_plan call (sets.planned p)) whole all.none_brought)
 
--- an import keeps at each moment up to the last
+-- an import keeps at each timestamp up to the last
 import_keeps : (h : History) (call : Invocation) (made : List Created) (moment : ℕ) (o : Outcome)
     → moment ≤ last_moment → IsWholeMail h → import_in h call.args made moment ≡ o
     → Keeps h (set_plan call o)
@@ -132,7 +132,7 @@ unless_keeps h call p whole keep (Some sets.too_large) = idle_keeps h _ whole re
 unless_keeps h call p whole keep (Some sets.state_mismatch) = idle_keeps h _ whole refl refl
 unless_keeps h call p whole keep (Some (sets.planned q)) = keep
 
--- copies keep at each moment up to the last, with the blobs that they bring
+-- copies keep at each timestamp up to the last, with the blobs that they bring
 copies_keep : (h : History) (call : Invocation) (carried : Carried) (made : List Created)
     (moment : ℕ) (o : Outcome) → moment ≤ last_moment → IsWholeMail h
     → place_in h call.args carried made moment ≡ o
@@ -171,7 +171,8 @@ by_fetch h P all call whole (Some Blobs) =
     all (unless_for call p o)
     (unless_keeps h call p whole (idle_keeps h p whole refl refl) o)
 
--- the same, and what holds of copies, of what is carried to an account
+-- What holds of each plan that keeps, and of those of copies, holds of the plan of what is carried
+-- to an account.
 by_placement : (h : History) (P : Plan → Type 0) → ((p : Plan) → Keeps h p → P p)
     → (call : Invocation) (carried : Carried) (made : List Created) (moment : ℕ)
     → P (copies_plan h call carried made moment) → IsWholeMail h → (m : Option CopyMethod)
