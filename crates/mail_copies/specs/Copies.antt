@@ -81,8 +81,8 @@ abbrev pub first_delivery : List (Option Delivery) → Option Delivery
 first_delivery [] = None
 first_delivery (d ∷ ds) = d
 
--- After copies, one after the other, for each of which this is delivered; nothing for those that
--- have no delivery.
+-- After copies, one after the other, for each of which this is delivered, and nothing if it has no
+-- delivery.
 abbrev pub after_copies : List (List ℕ) → ℕ → Progress → List Create → List (Option Delivery)
     → Progress
 after_copies blobs moment s [] ds = s

@@ -65,7 +65,7 @@ place_outcome g blobs args carried made moment =
     outcome_by forms count_copies (present_state OfEmail g)
     (plan_in g blobs carried made moment) args
 
--- the same, of an account with this history, at its end
+-- the outcome of an Email/copy in an account with this history, at its end
 abbrev pub place_in : History → Tree → Carried → List Created → ℕ → Outcome
 place_in h args carried made moment =
     place_outcome (ground_of_history h) (blobs_of h) args carried made moment
