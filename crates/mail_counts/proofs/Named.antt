@@ -47,7 +47,7 @@ false_unless : (b : Bool) → (b ≡ true → ⊥) → b ≡ false
 false_unless false never = refl
 false_unless true never = absurd (never refl)
 
--- the same of a text
+-- a text that is an identifier of a mailbox names the one of its number
 pub named_by_id : (i : Id) (id : List ℕ) (rows : List Mailbox) → IsId i → id ≡ id_text i → i.kind ≡ OfMailbox → mailbox_named rows id ≡ lookup mailbox_number i.number rows
 named_by_id i id rows good same kind =
     let text : id ≡ mailbox_id i.number = same ∙ ap (λ k. kind_letter k ∷ decimal i.number) kind in
@@ -59,7 +59,7 @@ named_none id [] never = refl
 named_none id (m ∷ ms) never =
     rw (false_unless (is_id_text id m.number) (λ e. never m.number ((decides_text id m.number).0 e))) (named_none id ms never)
 
--- so does one that is none at all
+-- a text that is no identifier at all names none
 pub named_by_no_id : (id : List ℕ) (rows : List Mailbox) → ((i : Id) → IsId i → id ≢ id_text i) → mailbox_named rows id ≡ None
 named_by_no_id id rows never =
     named_none id rows (λ a w. never (record { kind = OfMailbox; number = a }) (record { from_one = w.0.0; below = w.0.1 }) (sym w.1))
@@ -69,6 +69,6 @@ letter_of_mailboxes OfMailbox e = refl
 letter_of_mailboxes OfEmail e = absurd (omega (arith, e))
 letter_of_mailboxes OfThread e = absurd (omega (arith, e))
 
--- and one of another kind
+-- an identifier of another kind names none
 pub named_by_other_kind : (i : Id) (id : List ℕ) (rows : List Mailbox) → id ≡ id_text i → i.kind ≢ OfMailbox → mailbox_named rows id ≡ None
 named_by_other_kind i id rows text other = named_none id rows (λ a w. other (letter_of_mailboxes i.kind (let same = w.1 ∙ text in cc)))

@@ -18,8 +18,7 @@ IsOfMailbox e = kind_of e ≡ OfMailbox
 abbrev pub LeavesEmails : Edit → Type 0
 LeavesEmails e = is_kind OfEmail (kind_of e) ≡ false
 
--- a mailbox that is put has counts 0 where it is new, and else the counts of the one that stood
--- there
+-- a mailbox that is put has counts 0 where it is new, and else the counts of the one that was there
 abbrev pub KeepsCounts : Content → Edit → Type 0
 KeepsCounts c (PutMailbox item was counts) = (was ≡ false → HasNoCounts item)
     × ((m : Mailbox) → mailbox_at c item.number ≡ Some m → SameCounts m item)

@@ -1,5 +1,5 @@
--- What a client is shown of a mailbox: the members of its object, in byte order of their names (RFC
--- 8621, 2).
+-- The JSON view of a mailbox: the members of its object, in byte order of their names (RFC 8621,
+-- 2).
 use Rattle.std.specs.Prelude.{ℕ, ◌^◌, pos, min, List, [], ◌∷◌, Bool, true, false, ◌&&◌, not, nat_le, nat_lt, Option, Some, None, codes, bytes_eq}
 use Rattle.std.specs.List.{find as first_that}
 use Rattle.jm_base.specs.Ids.{id_text}

@@ -1,5 +1,5 @@
-//! What an account's records must be to be tidy, the counts of mailboxes, what a client is shown of
-//! a mailbox, and the plans of sets.
+//! What an account's records must be to be tidy, the counts of mailboxes, the JSON view of a
+//! mailbox, and the plans of sets.
 //!
 //! When a content is tidy is in `specs/Tidy.antt`, and a mailbox's counts in
 //! `specs/Counts.antt`. A call that sets records answers a [`SetPlan`] or a [`SetFault`].

@@ -1,4 +1,4 @@
-// What a client is shown of a mailbox (RFC 8621, section 2).
+// The JSON view of a mailbox (RFC 8621, section 2).
 ghost use Rattle.std.specs.Prelude.{◌≡◌, min, IfOk, OnOk, OnErr, Some, codes};
 ghost use Rattle.jm_json.specs.Json.{tree_of};
 ghost use Rattle.jm_json.specs.Order.{put};
