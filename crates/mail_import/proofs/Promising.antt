@@ -392,7 +392,7 @@ promised g blobs args made moment q e =
     plan_of_planned (Promised g blobs moment) forms count_imports (present_state OfEmail g) (plan_in g blobs made moment)
     (λ ms. promised_imports g blobs made moment (account_in ms) (imports_in ms)) args q e
 
--- a plan promises what plans do, at each moment up to the end of the year 9999
+-- a plan promises what plans do, at each timestamp up to the end of the year 9999
 pub planned_import : (g : Ground) (blobs : List (List ℕ)) (args : Tree) (made : List Created) (moment : ℕ) (p : Plan) → moment ≤ last_moment → IsTidy g.content → import_outcome g blobs args made moment ≡ planned p
     → IsPlanned summary blobs g.content p.edits
 planned_import g blobs args made moment p le tidy e = (promised g blobs args made moment p e).planned le tidy

@@ -59,7 +59,7 @@ abbrev pub import_outcome : Ground → List (List ℕ) → Tree → List Created
 import_outcome g blobs args made moment =
     outcome_by forms count_imports (present_state OfEmail g) (plan_in g blobs made moment) args
 
--- the same, of an account with this history, at its end
+-- the outcome of an Email/import on an account with this history, at its end
 abbrev pub import_in : History → Tree → List Created → ℕ → Outcome
 import_in h args made moment =
     import_outcome (ground_of_history h) (blobs_of h) args made moment
