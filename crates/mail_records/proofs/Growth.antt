@@ -248,8 +248,8 @@ owned_in (x ∷ xs) table = (
       (owned_in xs table.1) table.0,
 )
 
--- A history is sound exactly where its edits fit and keep the threads of their emails, one after the other: this way where
--- the base is in number order with each number below its kind's next one.
+-- A history is sound if and only if its edits fit and keep the threads of their emails, one after
+-- the other: this way where the base is in number order with each number below its kind's next one.
 pub IsSound-from_tables : (h : History) → AreTables h.base → AreNumbered h.base → AllFit h.base (edits_of h) → AllKeepThread h.base (edits_of h) → IsSound h
 IsSound-from_tables h tables below fit keep =
     let own = owned_in h.base.emails tables.emails in

@@ -124,7 +124,7 @@ module _ {K : Type 0} {R : K → K → Ordering} (o : IsTotalOrder R) where
   below_from : (x y : K) → R x y ≡ Less → R y x ≡ Greater
   below_from x y e = o.antisymm y x ∙ ap ordering_reverse e
 
-  -- an item is in a list after a put exactly if it is the item that was put or was there
+  -- an item is in a list after a put if and only if it is the item that was put or was there
   pub has-put : (k l : K) (xs : List K) → has_by R l (put_in R k xs) ≡ (is_eq (R k l) || has_by R l xs)
   has-put k l [] = refl
   has-put k l (x ∷ xs) = step (R x k) refl (has-put k l xs)
@@ -147,7 +147,8 @@ module _ {K : Type 0} {R : K → K → Ordering} (o : IsTotalOrder R) where
       grouped false true c = refl
       grouped false false c = refl
 
-  -- and after a removal exactly if it was there and is not the item that was taken out
+  -- an item is in a list after a removal if and only if it was there and is not the item that was
+  -- taken out
   pub has-take_out : (k l : K) (xs : List K) → has_by R l (take_out R k xs) ≡ (not (is_eq (R k l)) && has_by R l xs)
   has-take_out k l xs =
       has-filter R (λ x. not (is_eq (R x k))) l (λ x e. ap (λ r. not (is_eq r)) (o.congr x l k (eq_Equal (R x l) e))) xs

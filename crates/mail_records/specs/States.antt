@@ -70,8 +70,8 @@ pub record AreNamed (kind : Kind) (ids : List Id) (numbers : List ℕ) : Type 0 
   pub rise : IsStrictlyIncreasing numbers
   pub exactly : (n : ℕ) → list_any (λ x. x == n) numbers ≡ list_any (is_id kind n) ids
 
--- the ids that stand after one position, up to another, where the first one has the position floor
--- + 1
+-- the ids that are after one position, up to another, where the first one has the position floor +
+-- 1
 abbrev pub ids_between : ℕ → ℕ → ℕ → List Id → List Id
 ids_between floor from upto ids = drop (from - floor) (take (upto - floor) ids)
 

@@ -9,7 +9,7 @@ use crate::orders::{Entry, SortKey};
 use crate::{Email, Mailbox, Table};
 use jm_base::Text;
 
-// A key without group and text.
+// Returns a key without group and text.
 fn bare_key(received: i64, number: u64, place: u64) -> SortKey<'static>
     ensures { result
         ≡ record {
@@ -29,7 +29,7 @@ fn bare_key(received: i64, number: u64, place: u64) -> SortKey<'static>
     }
 }
 
-// A key of a text.
+// Returns a key of a text.
 fn text_key(text: &[u8], number: u64, place: u64) -> SortKey<'_>
     ensures { result
         ≡ record {
@@ -49,7 +49,7 @@ fn text_key(text: &[u8], number: u64, place: u64) -> SortKey<'_>
     }
 }
 
-// A key in a group, without text.
+// Returns a key in a group, without text.
 fn group_key(group: u64, received: i64, number: u64) -> SortKey<'static>
     ensures { result
         ≡ record {
@@ -108,7 +108,7 @@ impl Entry<Mailbox> for Named {
     ghost keys_number = { λ m. (refl, tt) };
 }
 
-// The text of a role, or none.
+// Returns the text of a mailbox's role, which is empty if it has none.
 fn role_text(mailbox: &Mailbox) -> &[u8]
     ensures { result.now ≡ unwrap_or mailbox.now.role [] }
 {
@@ -250,7 +250,7 @@ impl Entry<Email> for Placed {
     ghost keys_number = { mailbox_keys_numbers };
 }
 
-// The text of an email's link, or none.
+// Returns the text of an email's link, which is empty if no link has the index.
 fn link_text(email: &Email, place: u64) -> &[u8]
     ensures { result.now ≡ slice_index_or email.now.summary.links place [] }
 {

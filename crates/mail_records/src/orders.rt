@@ -207,8 +207,9 @@ fn drop_entries<R: Record, E: Entry<R>>(table: &Table<R>, entries: &mut Vec<E>, 
     }
 }
 
-/// Before a record is put into the table: takes the entries of the record of its number out, unless
-/// they stay as they are. Returns whether the entries of the new record are to be put in.
+/// Takes the entries of the record of this one's number out, unless they stay as they are. Returns
+/// whether the entries of this record are to be put in. It is called before the record is put into
+/// the table.
 pub(crate) fn leave<R: Record, E: Entry<R>>(
     table: &Table<R>,
     entries: &mut Vec<E>,
@@ -230,7 +231,7 @@ pub(crate) fn leave<R: Record, E: Entry<R>>(
     }
 }
 
-// Like `leave`, for a number that has a record.
+// Does what `leave` does, for a number that has a record.
 fn leave_for<R: Record, E: Entry<R>>(
     table: &Table<R>,
     entries: &mut Vec<E>,
@@ -256,8 +257,8 @@ fn leave_for<R: Record, E: Entry<R>>(
     true
 }
 
-/// After a record was put into the table: puts its entries in, for which room is ready, if they are
-/// to be.
+/// Puts the entries of a record in, for which room is ready, if they are to be. It is called after
+/// the record was put into the table.
 pub(crate) fn settle<R: Record, E: Entry<R>>(
     table: &Table<R>,
     entries: &mut Vec<E>,
@@ -284,7 +285,8 @@ pub(crate) fn settle<R: Record, E: Entry<R>>(
     }
 }
 
-/// Before the record of a number is taken out of the table: takes its entries out.
+/// Takes the entries of the record of a number out. It is called before the record is taken out of
+/// the table.
 pub(crate) fn forget<R: Record, E: Entry<R>>(table: &Table<R>, entries: &mut Vec<E>, number: u64)
     requires exact { AreKeys any_key R.number E.keys table.now.rows
         (keys_of R.number E.owner E.key table.now.rows entries.old.items) }
