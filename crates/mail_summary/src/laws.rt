@@ -24,8 +24,8 @@ pub fn examples_of_texts()
 
 /// In a Received field the date is what follows the last semicolon outside comments (RFC 5322,
 /// section 3.6.7): where the comments before a semicolon are closed and no other semicolon follows,
-/// it is all that follows this one.
-/// The same is so of a whole field on one line, and of the first Received field of a message.
+/// it is all that follows this one. So it is in a field that is read on one line, and in the first
+/// Received field of a message.
 pub fn date_of_received_follows_the_last_semicolon()
     ensures text { (front back : List ℕ) → after_text Outside front ≡ Outside
         → list_any (λ b. b == 59) back ≡ false → after_last Outside (front ++ 59 ∷ back)
