@@ -36,7 +36,7 @@ use Rattle.mailbox_creates.proofs.Naming.{texts_tested, no_role_taken}
 abbrev Pairs : Type 0
 Pairs = List (List ℕ × Tree)
 
--- ---- no bad property
+-- ---- no invalid property
 
 cons_some : {A : Type 0} (x : A) (xs : List A) → x ∷ xs ≢ []
 cons_some x xs e = cc
@@ -50,7 +50,7 @@ pub put_some : (k : List ℕ) (t : Tree) (ms : Pairs) → put k t ms ≢ []
 put_some k t [] e = cons_some (k, t) [] e
 put_some k t (m ∷ ms) e = ordered_some (slice_cmp nat_cmp k m.0) (k, t) (k, t) m (m ∷ ms) ms (put k t ms) e
 
--- where nothing is bad, a name is given
+-- where nothing is invalid, a name is given
 pub named_if_good : (f : Faults) (given ms : Pairs) → bad_members f given ms ≡ [] → is_some (find (codes "name") ms) ≡ true
 named_if_good f given ms none = at (find (codes "name") ms) none
   where
@@ -84,7 +84,7 @@ found_good p (m ∷ ms) k v none is =
     let h = first_fails p m ms (p m) refl none in
     found_at p (bytes_eq m.0 k) m ms k v refl h.0 (found_good p ms k v h.1) is
 
--- ---- the values are good
+-- ---- the values are valid
 
 or_left : (a b : Bool) → (not a || b) ≡ false → (a ≡ true) × (b ≡ false)
 or_left true b e = (refl, e)
@@ -168,7 +168,7 @@ parent_good c made (Some (number z)) n e = absurd (none-some n e)
 parent_good c made (Some (list ts)) n e = absurd (none-some n e)
 parent_good c made (Some (object fs)) n e = absurd (none-some n e)
 
--- ---- a create without bad properties makes a mailbox that may be
+-- ---- a create without invalid properties makes a mailbox that may be
 
 name_free : (c : Content) (parent : Option (Option ℕ)) (name : Option (List ℕ)) → is_some parent ≡ true → is_some name ≡ true → is_name_taken c parent name ≡ false
     → list_any (is_sibling (unwrap_or parent None) (unwrap_or name [])) c.mailboxes ≡ false

@@ -65,7 +65,7 @@ rise_pushed p sent i m bad name lt is passes same all rise =
     append_assoc bad ((m.name, null) ∷ []) rest ∙ (ap (λ xs. bad ++ xs) (sym split) ∙ all) in
     rw same (rise_before (bad ++ (m.name, null) ∷ []) rest (subst KeysRise (sym whole) (rise_properties (filter p (map member_of sent)) (rise_kept p (map member_of sent) rise))))
 
--- the same where members are moved
+-- a member that passes may be put after those before it, where members are moved
 pub rise_moved : (p : List ℕ × Tree → Bool) (all told rest : Pairs) (m : List ℕ × Tree) → p m ≡ true → told ++ filter p (m ∷ rest) ≡ filter p all → KeysRise all → KeysRise (told ++ m ∷ [])
 rise_moved p all told rest m passes is rise =
     let first : filter p (m ∷ rest) ≡ m ∷ filter p rest = rw passes refl in

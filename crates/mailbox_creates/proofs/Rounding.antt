@@ -10,7 +10,7 @@ use Rattle.set_parts.specs.Arguments.{Create}
 use Rattle.mailbox_creates.specs.Rounds.{after_each, after_round, in_rounds, stands, taken_out}
 use Rattle.set_parts.specs.declared.arguments.SentCreate.{SentCreate}
 
--- something is known at a creation id exactly where something was made under it
+-- something is known at a creation id if and only if something was made under it
 pub id_some : (o : Option (List ℕ)) (k : Option (Option ℕ)) → IsIdFor o k → is_some k ≡ is_some o
 id_some None None h = refl
 id_some None (Some n) h = absurd h
@@ -20,7 +20,7 @@ id_some (Some s) (Some n) h = refl
 abbrev pub behind : List Create → Create × List Create → Create × List Create
 behind front r = (r.0, front ++ r.1)
 
--- what was taken out of a list, with more in front that don't pass
+-- what was taken out of a list, with more before it that don't pass
 abbrev pub Searched : (Create → Bool) → List SentCreate → ℕ → Type 0
 Searched p ds i = taken_out p (map create_of ds) ≡ option_map (behind (map create_of (take i ds))) (taken_out p (map create_of (drop i ds)))
 
@@ -73,7 +73,7 @@ searched_here p ds i e lt is passes so = (
 pub searched_all : (p : Create → Bool) (ds : List SentCreate) (i : ℕ) → length ds ≡ i → Searched p ds i → IsFirst p ds None
 searched_all p ds i e so = so ∙ ap (λ xs. option_map (behind (map create_of (take i ds))) (taken_out p (map create_of xs))) (drop_all i ds (omega arith))
 
--- rounds end where no reference stands
+-- rounds end where no create's reference is resolved
 pub rounds_end : (n : ℕ) (s : Creating) (xs : List Create) → taken_out (stands s.made) xs ≡ None → in_rounds n s xs ≡ after_each s xs
 rounds_end zero s xs none = refl
 rounds_end (suc n) s xs none = ap (after_round (in_rounds n) s xs) none

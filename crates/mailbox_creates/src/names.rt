@@ -21,7 +21,8 @@ pub fn has_other_sibling(siblings: &[Named], first: u64, next: u64) -> bool
     false
 }
 
-/// Returns the same of mailboxes with a role.
+/// Returns whether one of these mailboxes with a role has a number that a set didn't give, which
+/// began with the first number and has come to the next one.
 pub fn has_other_role(mailboxes: &[Roled], first: u64, next: u64) -> bool
     ensures { result ≡ list_any
         (λ (r : TheRoled). not (is_new first next r.mailbox)) mailboxes.now }
