@@ -56,7 +56,8 @@ length_new m (x ∷ rows) none =
 
 -- ---- some other mailbox
 
--- what none of a mailbox's number passes, some mailbox passes after its put exactly if some did before
+-- if no mailbox of a number passes a test, some mailbox passes after a put of that number if and
+-- only if some did before
 pub any_put : (test : Mailbox → Bool) (m : Mailbox) (rows : List Mailbox) → IsTable mailbox_number rows → ((x : Mailbox) → x.number ≡ m.number → test x ≡ false)
     → list_any test (put mailbox_number m rows) ≡ list_any test rows
 any_put test m rows table none =

@@ -1,5 +1,5 @@
--- What the updates of a set put: mailboxes that are there, each of a good form, within a mailbox that
--- is there, with the counts that it had.
+-- What the updates of a set put: mailboxes that are there, each of a valid form, within a mailbox
+-- that is there, with the counts that it had.
 use Rattle.std.proofs.Common.{◌≡◌, ◌≢◌, ℕ, ◌<◌, Bool, true, false, ◌||◌, ◌==◌, cond, eqb, List, [], ◌∷◌, ◌++◌, filter, length, map, Option, Some, None, is_some, unwrap_or, option_and_then, refl, sym, ap, ◌∙◌, subst, arith, ⊎_elim, eq-eqb, ne_eqb, bytes_eq, codes}
 use Rattle.std.specs.Prelude.{⊤}
 use Rattle.std.specs.List.{AllByRecursion, list_all, list_any}
@@ -70,7 +70,7 @@ none_put : (xs ms : Pairs) → put_all xs ms ≡ [] → ms ≡ []
 none_put [] ms e = e
 none_put (x ∷ xs) ms e = absurd (put_some x.0 x.1 ms (none_put xs (put_member x.0 x.1 ms) e))
 
--- the mailbox that a valid patch makes has a good form, and its parent is there
+-- the mailbox that a valid patch makes has a valid form, and its parent is there
 pub record IsGood (c : Content) (old item : Mailbox) : Type 0 where
   pub number : item.number ≡ old.number
   pub counts : SameCounts old item

@@ -27,7 +27,7 @@ use Rattle.mailbox_updates.specs.declared.patches.Changed.TheVariants.{Invalid, 
 
 -- ---- a patch by itself
 
--- The object that a patch changes: all that a client is shown of the mailbox.
+-- The object that a patch changes: the JSON view of the mailbox.
 abbrev pub mailbox_tree : Mailbox → Tree
 mailbox_tree m = object (fields_of (mailbox_members false m))
 

@@ -250,8 +250,8 @@ fn apply_changes(alloc: Global, tree: Json, changes: &Json) -> Result<Option<Jso
 }
 
 /// Returns what a patch makes of a mailbox by itself, whatever other mailboxes are named. The patch
-/// changes all that a client is shown of the mailbox; a property that only the server sets must be
-/// as it was before.
+/// changes the JSON view of the mailbox. A property that only the server sets must be as it was
+/// before.
 pub fn change_mailbox<'a>(
     alloc: Global,
     current: &Current,
