@@ -1,4 +1,4 @@
--- A value of bytes that stand for themselves is its own Text form, but for the spaces at its beginning.
+-- A value of plain bytes is its own Text form, but for the spaces at its beginning.
 use Rattle.std.proofs.Common.{◌≡◌, ◌≢◌, ℕ, zero, suc, ◌+◌, ◌<◌, ◌≤◌, true, false, eqb, List, [], ◌∷◌, ◌++◌, get_or, length, drop, filter, refl, sym, ap, ◌∙◌, subst, arith, eq-eqb}
 use Rattle.std.specs.Prelude.{◌&&◌, nat_le, not}
 use Rattle.std.specs.List.{list_all, prefix_len}

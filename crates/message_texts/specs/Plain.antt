@@ -1,4 +1,4 @@
--- Bytes that stand for themselves in a Text form (RFC 8621, 4.1.2.2).
+-- Plain bytes: those that are unchanged in a Text form (RFC 8621, 4.1.2.2).
 use Rattle.std.specs.Prelude.{ℕ, Bool, ◌&&◌, ◌==◌, nat_le, not}
 
 -- printable ASCII, and not =, with which an encoded-word begins (RFC 2047, 2)
