@@ -108,7 +108,7 @@ pub quiet_end : (xs ys : List ℕ) → ((k : ℕ) → k < length ys → is_quiet
 quiet_end xs [] h = ap escapes (append-nil xs)
 quiet_end xs (y ∷ ys) h = omega (arith, past_quiet xs ys y (h 0 (omega arith)), all_quiet ys (λ k low. h (suc k) (omega arith)))
 
--- what tells an escape, without a branch
+-- whether an escape is there, without a branch
 by_cases : (p q r : Bool) → (bit_and (bit_and (cond p 1 0) (cond q 1 0)) (cond r 1 0) ≡ cond (p && (q && r)) 1 0) × (bit_and (bit_and (cond p 1 0) (cond q 1 0)) (cond r 1 0) ≤ 1)
 by_cases true true true = (refl, omega arith)
 by_cases true true false = (refl, omega arith)
