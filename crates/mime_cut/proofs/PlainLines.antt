@@ -189,7 +189,7 @@ are_other : (b line : List ℕ) (fs ms more : List (List ℕ)) → fs ++ ms ≡ 
 are_other b line [] ms more e is plain = tt
 are_other b line (l ∷ ls) ms more e is plain = (ap (line_kind b) (ap first_or e) ∙ is, are_plain_other b ls plain)
 
--- the front's lines, of which the first is no delimiter, are passed over
+-- the lines of the prefix, of which the first is no delimiter, are passed over
 pub passed : (b line front rest xs : List ℕ) (more : List (List ℕ)) (x y : ℕ) → lines xs ≡ lines front ++ lines rest → 0 < length front → Dashless front
     → lines xs ≡ line ∷ more → line_kind b line ≡ Other
     → (up_to_delimiter b x y (lines xs) ≡ up_to_delimiter b (y + length (text front)) (y + length front) (lines rest)) × (lines_after b (lines xs) ≡ lines_after b (lines rest))
