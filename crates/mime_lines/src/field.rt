@@ -63,8 +63,8 @@ pub fn find_last_value<'a>(bytes: &'a [u8], fields: &FieldSpans, name: &[u8]) ->
     None
 }
 
-/// For all bytes: what is at the byte offsets of a header's fields is the name and the value that
-/// the lines of the header give.
+/// What is at the byte offsets of a header's fields is the name and the value that the lines of the
+/// header give, for all bytes.
 pub fn fields_stand()
     ensures { (bytes : List ℕ) → map (read_at bytes) (fields_of bytes) ≡ field_texts bytes }
 {}
