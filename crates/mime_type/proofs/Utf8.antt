@@ -18,7 +18,7 @@ use Rattle.mime_type.specs.Grammar.{◌>>=◌, after_blanks, after_byte, after_m
 use Rattle.mime_type.specs.Labels.{without_open, without_close}
 use Rattle.mime_type.specs.Texts.{AreTexts, IsText}
 
--- a text round one of its ASCII characters
+-- a text around one of its ASCII characters
 at_seam : (xs ys : List ℕ) (b : ℕ) → get_or (xs ++ b ∷ ys) (length xs) 0 ≡ b
 at_seam [] ys b = refl
 at_seam (x ∷ xs) ys b = at_seam xs ys b
