@@ -194,7 +194,7 @@ pub plain_all : (o : Option Word) (text : List ℕ) → HasNoSign text → said_
 plain_all None text none = ap (λ c. said false (joined c)) (plain_cut text none)
 plain_all (Some w) text none = ap (λ c. said false (joined (word [] w c))) (plain_cut text none)
 
--- a text in which =? doesn't stand
+-- a text without =?
 abbrev pub HasNoStart : List ℕ → Type 0
 HasNoStart text = (front rest : List ℕ) → text ≢ front ++ 61 ∷ 63 ∷ rest
 
