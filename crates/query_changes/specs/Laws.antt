@@ -15,7 +15,7 @@ pub record AreTheTouched (h : History) (q : QueryTree) (s : ℕ) : Type 0 where
   pub rise : IsStrictlyIncreasing (touched h q s)
   pub exactly : (n : ℕ) → has (touched h q s) n ≡ is_touched h q s n
 
--- A record that is not touched since a state is shown now exactly where it was shown then.
+-- A record that is not touched since a state is shown now if and only if it was shown then.
 abbrev pub ShownAlike : Type 0
 ShownAlike =
     (h : History) (q : QueryTree) (texts : ℕ → MessageTexts) (s n : ℕ) → IsSound h

@@ -18,7 +18,7 @@ pub struct Delta {
     pub total: u64,
 }
 
-/// Why there are no changes of a result list to tell.
+/// Why the changes of a result list are not returned.
 #[derive(Clone, Copy, Debug, PartialEq, Eq)]
 pub enum DeltaFault {
     /// The text is not the text of a state from which all edits of the kind are known (RFC 8620,
