@@ -38,7 +38,7 @@ use Rattle.query_engine.proofs.Results.{is_matches_list}
 use Rattle.query_engine.proofs.RowLists.{all_map, all_sorted, any_sorted, falling_one, falling_total}
 use Rattle.mail_records.proofs.Rising.{rise-put_all}
 
--- ---- rows that stand for emails of a content
+-- ---- rows that are of emails of a content
 
 abbrev pub Stands : Content → Row → Type 0
 Stands c r = (e : Email) × (email_at c r.number ≡ Some e) × (e.received.seconds ≡ r.received)
@@ -108,7 +108,7 @@ module _ (q : QueryTree) (c : Content) (k : q.kind ≡ OfEmails) (ascending : Bo
       heads [] a b = tt
       heads (y ∷ ys) a b = (order_at r y all.0 a.0 ∙ b.0, heads ys a.1 b.1)
 
-  -- rows that stand for emails, all that match among them
+  -- rows that are of emails, all that match among them
   pub walked : (texts : ℕ → MessageTexts) (rows : List Row) → AllByRecursion (Stands c) rows → RowsAscend rows
       → ((n : ℕ) → is_match q c texts n ≡ true → has (numbers_in rows) n ≡ true)
       → matching q c texts (directed_rows ascending rows) ≡ matches_list q c texts
