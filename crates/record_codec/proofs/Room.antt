@@ -1,4 +1,5 @@
--- Behind each text that is not as long as can be there is room for as many greater ones as can be counted.
+-- After each text that is not as long as can be there is room for as many greater ones as can be
+-- counted.
 use Rattle.std.proofs.Common.{◌≡◌, ℕ, zero, suc, ◌+◌, ◌*◌, ◌^◌, ◌<◌, ◌≤◌, Bool, true, List, [], ◌∷◌, ◌++◌, length, get_or, refl, inl, inr, length-append, arith, lit<, lit≤}
 use Rattle.std.specs.Str.{IsUtf8, IsAscii}
 use Rattle.std.proofs.lemmas.Bool.{cases_lt}

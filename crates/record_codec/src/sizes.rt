@@ -6,7 +6,7 @@ ghost use Rattle.record_codec.specs.Encoding.{blob, listed, number, optional, da
 use jm_base::{Text, UtcDate};
 use mail_records::{Edit, Email, Mailbox, Summary, Thread};
 
-// The sum with the bytes of a string.
+// Returns the sum with the bytes of a string added.
 #[tactic(auto, using(crate::proofs::Lengths::blob_size))]
 fn add_text(sum: u64, text: &Text) -> u64
     ensures { result ≡ capped (sum + length (blob text.now)) }
@@ -15,7 +15,7 @@ fn add_text(sum: u64, text: &Text) -> u64
         .saturating_add(text.as_bytes().len() as u64)
 }
 
-// The sum with the bytes of a list of strings.
+// Returns the sum with the bytes of a list of strings added.
 fn add_texts(sum: u64, texts: &[Text]) -> u64
     ensures { result ≡ capped (sum + length (listed blob texts.now)) }
 {
@@ -26,7 +26,7 @@ fn add_texts(sum: u64, texts: &[Text]) -> u64
     total
 }
 
-// The sum with the bytes of a list of numbers.
+// Returns the sum with the bytes of a list of numbers added.
 #[tactic(auto, using(crate::proofs::Lengths::numbers_size))]
 fn add_numbers(sum: u64, numbers: &[u64]) -> u64
     ensures { result ≡ capped (sum + length (listed number numbers.now)) }
@@ -35,7 +35,7 @@ fn add_numbers(sum: u64, numbers: &[u64]) -> u64
     sum.saturating_add(8).saturating_add(bytes)
 }
 
-// The sum with the bytes of an optional number.
+// Returns the sum with the bytes of an optional number added.
 #[tactic(auto, using(crate::proofs::Lengths::number_size))]
 fn add_optional_number(sum: u64, value: Option<u64>) -> u64
     ensures { result ≡ capped (sum + length (optional number value)) }
@@ -46,7 +46,7 @@ fn add_optional_number(sum: u64, value: Option<u64>) -> u64
     }
 }
 
-// The sum with the bytes of an optional string.
+// Returns the sum with the bytes of an optional string added.
 fn add_optional_text(sum: u64, value: &Option<Text>) -> u64
     ensures { result ≡ capped (sum + length (optional blob value.now)) }
 {
@@ -56,7 +56,7 @@ fn add_optional_text(sum: u64, value: &Option<Text>) -> u64
     }
 }
 
-// The sum with the bytes of an optional date.
+// Returns the sum with the bytes of an optional date added.
 #[tactic(auto, using(crate::proofs::Lengths::number_size))]
 fn add_optional_date(sum: u64, value: &Option<UtcDate>) -> u64
     ensures { result ≡ capped (sum + length (optional date value.now)) }
@@ -67,8 +67,8 @@ fn add_optional_date(sum: u64, value: &Option<UtcDate>) -> u64
     }
 }
 
-// The sum with the bytes of a mailbox: besides the name, the parent and the role, its six numbers
-// and one truth value.
+// Returns the sum with the bytes of a mailbox added: besides the name, the parent and the role, its
+// six numbers and one truth value.
 #[tactic(auto, using(crate::proofs::Lengths::mailbox_size))]
 fn add_mailbox(sum: u64, m: &Mailbox) -> u64
     ensures { result ≡ capped (sum + length (mailbox m.now)) }
@@ -78,7 +78,7 @@ fn add_mailbox(sum: u64, m: &Mailbox) -> u64
     add_optional_text(placed, &m.role).saturating_add(49)
 }
 
-// The sum with the bytes of a summary: besides its strings and date, one truth value.
+// Returns the sum with the bytes of a summary added: besides its strings and date, one truth value.
 fn add_summary(sum: u64, s: &Summary) -> u64
     ensures { result ≡ capped (sum + length (summary s.now)) }
 {
@@ -89,8 +89,8 @@ fn add_summary(sum: u64, s: &Summary) -> u64
     add_optional_date(to, &s.sent).saturating_add(1)
 }
 
-// The sum with the bytes of an email: besides its mailboxes, keywords and summary, its four numbers
-// and its date.
+// Returns the sum with the bytes of an email added: besides its mailboxes, keywords and summary,
+// its four numbers and its date.
 #[tactic(auto, using(crate::proofs::Lengths::email_size))]
 fn add_email(sum: u64, e: &Email) -> u64
     ensures { result ≡ capped (sum + length (email e.now)) }
@@ -100,7 +100,7 @@ fn add_email(sum: u64, e: &Email) -> u64
     add_summary(keywords, &e.summary).saturating_add(40)
 }
 
-// The sum with the bytes of a thread.
+// Returns the sum with the bytes of a thread added.
 #[tactic(auto, using(crate::proofs::Lengths::thread_size))]
 fn add_thread(sum: u64, t: &Thread) -> u64
     ensures { result ≡ capped (sum + length (thread t.now)) }
@@ -108,7 +108,7 @@ fn add_thread(sum: u64, t: &Thread) -> u64
     add_numbers(sum, t.emails.as_slice()).saturating_add(8)
 }
 
-// The sum with the bytes of an edit: its tag, and its fields.
+// Returns the sum with the bytes of an edit added: its tag, and its fields.
 #[tactic(auto, using(crate::proofs::Lengths::drop_mailbox_size, crate::proofs::Lengths::drop_email_size, crate::proofs::Lengths::drop_thread_size))]
 fn add_edit(sum: u64, change: &Edit) -> u64
     ensures { result ≡ capped (sum + length (edit change.now)) }

@@ -42,7 +42,7 @@ fn lead(byte: u8) -> Option<CharacterRest>
 }
 
 impl CharacterRest {
-    /// Returns the rest of the character after the byte, or None if the byte may not stand here.
+    /// Returns the rest of the character after the byte, or None if the byte may not be here.
     pub fn advance(self, byte: u8) -> Option<CharacterRest>
         ensures { result ≡ after_byte self byte }
     {
