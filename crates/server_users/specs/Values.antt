@@ -17,7 +17,8 @@ flag_at key t = option_and_then as_flag (value_at key t)
 abbrev pub items_at : List ℕ → Tree → Option (List Tree)
 items_at key t = option_and_then as_list (value_at key t)
 
--- the same, and the empty string, false or no item if there is no such value
+-- the string, the boolean or the items of the list at a key; the empty string, false or no item if
+-- there is no such value
 abbrev pub text_or_empty : List ℕ → Tree → List ℕ
 text_or_empty key t = unwrap_or (text_at key t) []
 
