@@ -64,7 +64,7 @@ after_create creation s (Done x) = record s {
   created = put creation (object (fields_of x.members)) s.created;
 }
 
--- After creates, one after the other. `step` tells what comes of a create after those before it.
+-- After creates, one after the other. `step` is what comes of a create after those before it.
 abbrev pub after_creates : (Creating → Create → CreateStep) → Creating → List Create → Creating
 after_creates step s [] = s
 after_creates step s (x ∷ xs) = after_creates step (after_create x.creation s (step s x)) xs

@@ -27,8 +27,8 @@ by_reference made s (Some k) = last_made k made
 abbrev pub identifier : List Created → List ℕ → Option (List ℕ)
 identifier made s = by_reference made s (reference s)
 
--- The id under which an object of a set is reported: the one that its reference stands for, or the
--- string as it was sent (the RFC leaves open what stands for an unknown reference).
+-- The id under which an object of a set is reported: the one that its reference means, or the
+-- string as it was sent (the RFC leaves open what is reported for an unknown reference).
 abbrev pub reported_id : List Created → List ℕ → List ℕ
 reported_id made s = unwrap_or (identifier made s) s
 

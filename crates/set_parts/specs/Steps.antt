@@ -73,16 +73,16 @@ after_destroy id s (Rejected error) =
 after_destroy id s (Done edits) =
     with_edits edits (record s { reported = note_destroyed id s.reported })
 
--- After updates, one after the other. `step` tells what comes of an update on a content, here on
--- the one that those before it left.
+-- After updates, one after the other. `step` is what comes of an update on a content, here on the
+-- one that those before it left.
 abbrev pub after_updates : (Content → Update → Step) → List Created → Progress → List Update
     → Progress
 after_updates step made s [] = s
 after_updates step made s (x ∷ xs) =
     after_updates step made (after_update (reported_id made x.id) s (step s.content x)) xs
 
--- After destroys, one after the other. `step` tells what comes of a destroy on a content, here on
--- the one that those before it left.
+-- After destroys, one after the other. `step` is what comes of a destroy on a content, here on the
+-- one that those before it left.
 abbrev pub after_destroys : (Content → List ℕ → Step) → List Created → Progress → List (List ℕ)
     → Progress
 after_destroys step made s [] = s

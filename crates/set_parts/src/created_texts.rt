@@ -53,8 +53,8 @@ pub fn find_text<'a>(texts: &CreatedTexts<'a>, creation: &[u8]) -> Option<&'a st
     }
 }
 
-/// Returns the id that a string or its reference means, or None if it is a reference that stands
-/// for nothing.
+/// Returns the id that a string or its reference means, or None if it is a reference that means
+/// nothing.
 pub fn find_identifier<'a>(texts: &CreatedTexts<'a>, id: &'a str) -> Option<&'a str>
     ensures { (made : List TheCreated) → HoldTexts texts.now made
         → option_map (λ t. t.now) result ≡ identifier made id.now }
@@ -65,7 +65,7 @@ pub fn find_identifier<'a>(texts: &CreatedTexts<'a>, id: &'a str) -> Option<&'a 
     }
 }
 
-/// Returns the id under which an object is reported: the one that its reference stands for, or the
+/// Returns the id under which an object is reported: the one that its reference means, or the
 /// string as it was sent.
 pub fn find_reported_id<'a>(texts: &CreatedTexts<'a>, id: &'a str) -> &'a str
     ensures { (made : List TheCreated) → HoldTexts texts.now made

@@ -122,7 +122,8 @@ fn find_invalid_argument<'a>(members: &Members, own: &[Argument<'a>]) -> Option<
     }
 }
 
-// The same, of the arguments from `own` on.
+// Returns the name of the first argument of a set that does not have its form, of the arguments
+// from `own` on.
 fn find_invalid_after<'a>(members: &Members, own: &[Argument<'a>]) -> Option<&'a str>
     ensures { option_map (λ s. s.now) result
         ≡ find_invalid (map form_of own.now ++ update_form ∷ []) members.now }

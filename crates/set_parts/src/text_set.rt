@@ -20,7 +20,7 @@ pub struct TextSet<'a> {
     pub keys: BTreeSet<Key<'a>>,
 }
 
-/// No text. It takes no memory.
+/// Returns the empty set. It takes no memory.
 pub fn new_set<'a>(alloc: Global) -> TextSet<'a>
     ensures { (g : Option ℕ) (s : List ℕ) → holds result.keys.keys g s ≡ false }
 {
@@ -29,7 +29,7 @@ pub fn new_set<'a>(alloc: Global) -> TextSet<'a>
     }
 }
 
-/// Whether a text is in the set, in this group.
+/// Returns whether a text is in the set, in this group.
 pub fn has_text<'a>(set: &TextSet<'a>, group: Option<u64>, text: &'a str) -> bool
     ensures { result ≡ holds set.now.keys.keys group text.now }
 {
