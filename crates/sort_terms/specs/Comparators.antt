@@ -52,7 +52,7 @@ abbrev pub directed : {X : Type 0} → Bool → (X → X → Ordering) → X →
 directed true R = R
 directed false R = flip_args R
 
--- by each comparator in turn, until one tells them apart
+-- by each comparator in turn, up to the first by which they differ
 abbrev pub emails_cmp : List Comparator → EmailInThread → EmailInThread → Ordering
 emails_cmp [] = equal_cmp
 emails_cmp (c ∷ cs) =
