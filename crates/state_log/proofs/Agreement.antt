@@ -1,4 +1,4 @@
--- What a log tells is what its history says.
+-- What a log says is what its history says.
 use Rattle.std.proofs.Common.{◌≡◌, ℕ, ◌+◌, ◌-◌, ◌≤◌, List, [], ◌∷◌, map, take, length, refl, sym, ap, ap₂, ◌∙◌, subst}
 use Rattle.std.proofs.lemmas.List.{length-map}
 use Rattle.jm_base.specs.declared.identifiers.Id.{Id}
@@ -33,7 +33,7 @@ state_at-log h l kind k is =
     ap (λ (ids : List Id). last_position kind l.floor l.floors (take (k - l.floor) ids)) (ids_in-log h l is)
     ∙ ap₂ (λ (floor : ℕ) (floors : Floors). last_position kind floor floors (take (k - floor) (ids_of h))) is.floor is.floors
 
--- what `reaches` tells is whether the history reaches the position
+-- what `reaches` answers is whether the history reaches the position
 pub Reaches-log : (h : History) (l : Notes) (kind : Kind) (s : ℕ) → IsLogOf h l → (floor_of l.floors kind ≤ s) × (s ≤ log_end l) → Reaches h kind s
 Reaches-log h l kind s is reached = (
   subst (λ (floors : Floors). floor_of floors kind ≤ s) is.floors reached.0,

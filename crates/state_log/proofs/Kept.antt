@@ -37,7 +37,7 @@ IsLogOf-grown h l m e is same = record {
 pub IsLogOf-committed : (h : History) (l m : Notes) (c : Commit) → IsLogOf h l → m ≡ record l { notes = l.notes ++ map note_of c.edits; spare = m.spare } → IsLogOf (grown h (Committed c)) m
 IsLogOf-committed h l m c is same = IsLogOf-grown h l m (Committed c) is same
 
--- the log of a history is that of the history with a refusal too, whatever room stands ready in it
+-- the log of a history is that of the history with a refusal too, whatever room is ready in it
 pub IsLogOf-refused : (h : History) (l : Notes) (s : Stamp) → IsLogOf h l → IsLogOf (grown h (Refused s)) l
 IsLogOf-refused h l s is = record { floor = is.floor; floors = is.floors; notes = is.notes ∙ ap (map note_of) (sym (edits_of-refused h s)) }
 

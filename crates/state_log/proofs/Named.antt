@@ -40,7 +40,7 @@ any-dedup xs sorted moved n =
     (λ h. any-Contains (dedup eqb sorted) n (Contains-dedup_nat sorted n (Contains-any sorted n h)))
     ∙ sym (list_any-IsPermutation (λ x. eqb x n) xs sorted moved)
 
--- a number is among those of a kind exactly where an id of that kind and number is there
+-- a number is among those of a kind if and only if an id of that kind and number is there
 pub any-numbers_named : (kind : Kind) (ids : List Id) (n : ℕ) → list_any (λ x. eqb x n) (numbers_named kind ids) ≡ list_any (is_id kind n) ids
 any-numbers_named kind [] n = refl
 any-numbers_named kind (i ∷ is) n =

@@ -54,7 +54,7 @@ impl Model for Log {
         l.notes.items };
 }
 
-// The position of a kind.
+// Returns the position of a kind.
 fn position_of(positions: &Positions, kind: Kind) -> u64
     ensures { result ≡ floor_of (record {
       mailbox = positions.now.mailbox;
@@ -69,7 +69,7 @@ fn position_of(positions: &Positions, kind: Kind) -> u64
     }
 }
 
-// The positions with that of one kind moved.
+// Returns the positions with that of one kind moved.
 fn moved(positions: Positions, kind: Kind, position: u64) -> Positions
     ensures mailbox { result.mailbox ≡ (if is_kind Kind.Mailbox kind then position
         else positions.mailbox) }
@@ -145,7 +145,7 @@ impl Log {
         }
     }
 
-    // The notes of the edits up to a position.
+    // Lends the notes of the edits up to a position.
     fn notes_upto(&self, position: u64) -> &[Note]
         ensures { result.now ≡ take (position - self.now.floor) self.now.notes }
     {
