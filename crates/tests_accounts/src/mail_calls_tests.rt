@@ -196,7 +196,7 @@ fn performs_the_methods_of_mail(rt: HostRuntime) -> Result<(), Fail> {
     Ok(())
 }
 
-// The front and 500 items more, each of its own name.
+// The prefix and 500 more items, each of its own name.
 fn many(alloc: Global, front: &str, end: &str) -> Result<String, NoMemory> {
     let mut args = String::from_str(alloc, front)?;
     for i in 0..500u32 {
