@@ -18,7 +18,8 @@ const ONE_MAILBOX: &str =
     "{\"using\":[\"urn:ietf:params:jmap:mail\"],\"methodCalls\":[[\"Mailbox/set\",{\"accountId\":\"A1\",\"create\":{\"a\":{\"name\":\"A\"}}},\"0\"]]}";
 
 const ROWS: &[Row] = &[
-    // Without `receivedAt` and without a Received field the email is received at the moment of the call, which is 0.
+    // Without `receivedAt` and without a Received field the email is received at the timestamp of
+    // the call, which is 0.
     Row {
         before: "+U3ViamVjdDogaGkNCg0Kb2s=",
         calls: "[\"Email/import\",{\"accountId\":\"A1\",\"emails\":{\"k\":{\"blobId\":\"b1\",\"mailboxIds\":{\"M1\":true}}}},\"0\"],[\"Email/get\",{\"accountId\":\"A1\",\"ids\":[\"E1\"],\"properties\":[\"receivedAt\"]},\"1\"]",

@@ -9,7 +9,8 @@ use std::sync::Wait;
 use std::test::Fail;
 use std::thread::Threads;
 
-// A source that gives a byte over and over, to a count, and then ends. A byte of 0 is left as it stands in the room.
+// A source that gives a byte over and over, to a count, and then ends. A byte of 0 is left as it is
+// in the room.
 #[derive(Drop)]
 struct Repeated {
     byte: u8,

@@ -1,5 +1,5 @@
-// Runs over inputs in memory. The expected lines are those of RFC 8620 and RFC 8621, and of the rules in
-// docs/rules.
+// Runs over inputs in memory. The expected lines are those of RFC 8620 and RFC 8621, and of the
+// rules in docs/rules.
 use crate::no_world::NoWorld;
 use jm_base::{Bytes, Numbers};
 use jm_edge::{MemorySink, MemorySource};
@@ -9,8 +9,8 @@ use std::sync::Wait;
 use std::test::Fail;
 use std::thread::Threads;
 
-// The calls that fail in a run: of the source, of the output and of the error output, each counted from 1,
-// and 0 where none does.
+// The calls that fail in a run: of the source, of the output and of the error output, each counted
+// from 1, and 0 where none does.
 #[derive(Clone, Copy)]
 pub(crate) struct Faults {
     pub(crate) read: u64,
