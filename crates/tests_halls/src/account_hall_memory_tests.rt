@@ -1,5 +1,5 @@
-// Copies that run out of memory between their calls: what was performed before that stands, and the
-// trail shows it.
+// Copies that run out of memory between their calls: what was performed before that is kept, and
+// the trail shows it.
 ghost use Rattle.std.specs.Prelude.{◌≡◌, ◌<◌, Some, length};
 ghost use Rattle.account_hall.specs.Halls.{AreOf};
 ghost use Rattle.keep_port.specs.Memory.{may_be_left};
