@@ -1,8 +1,8 @@
-// Bytes that are read, and bytes that are refused, with the place of the first byte at which no
-// commit continues. `bench/codec_places` finds the same places without a decoder of ours, and says
-// whether a row here differs.
+// Bytes that are read, and bytes that are refused, with the byte offset of the first byte at which
+// no commit continues. `bench/codec_places` finds the same offsets without a decoder of ours, and
+// says whether a row here differs.
 
-/// Spellings of commits. `#5` is the number 5, and other words are hexadecimal digits.
+/// Encodings of commits. `#5` is the number 5, and other words are hexadecimal digits.
 pub const READ: [&str; 6] = [
     // a dropped thread
     "01 #1 #1 #0 #1 06 #5",
@@ -18,7 +18,7 @@ pub const READ: [&str; 6] = [
     "01 #0 #0 #0 #0",
 ];
 
-/// Bytes that are no commit's encoding, and the place.
+/// Bytes that are no commit's encoding, and the byte offset.
 pub const REFUSED: [(&str, u64); 95] = [
     // a byte more
     ("01 #1 #1 #0 #1 06 #5 00", 42),
