@@ -1,5 +1,5 @@
 // Tables of readings. The expected values are those of RFC 8259 and of Python's `json`, with the
-// bounds of whole numbers put in.
+// bounds of integers put in.
 use jm_base::{Bytes, Text};
 use jm_json::{
     Created, Invocation, Invocations, Items, Json, Made, Members, PatchFault, ReadFault, Replied,
@@ -116,7 +116,8 @@ const BLANKS: [(&[u8], &str); 22] = [
     (b"[1]\xc3", "not JSON"),
 ];
 
-// A tree, a patch, and what the patch makes of the tree, or its bad path (RFC 8620, section 5.3).
+// A tree, a patch, and what the patch makes of the tree, or its invalid path (RFC 8620, section
+// 5.3).
 const PATCHES: &str = "{\"a\":{\"b\":1}} with {\"a/b\":2,\"a/c\":3} => {\"a\":{\"b\":2,\"c\":3}}\n\
     {\"a\":{\"b\":1}} with {\"a\":1,\"a/b\":2} => bad: a\n\
     {\"a\":{\"b\":1}} with {\"x/y\":1} => bad: x/y\n\
