@@ -44,7 +44,7 @@ const COPIED: &str = "HTTP/1.1 200 OK\r\nContent-Type: application/json\r\nConte
      \"notUpdated\":null,\"oldState\":\"3\",\"updated\":null},\"0\"]],\
      \"sessionState\":\"0\"}";
 
-// The points of the connection's session, for each the account's place in the configuration, and
+// The points of the connection's session, for each the account's index in the configuration, and
 // how many entries it had before and after. They are of the upload, the set and the import in A1,
 // the set in A2, and the copy: what is carried, the new email and the destroyed original.
 const POINTS: &[u64] = &[

@@ -74,7 +74,7 @@ const ROWS: &[Row] = &[
         status: 13,
         err: "desk fault\n",
     },
-    // A port of 0, a leading zero, too many connections, and a word less.
+    // A port of 0, a leading zero, too many connections, and an argument too few.
     Row {
         arguments: "serve c d 0 1",
         config: CONFIG,

@@ -11,8 +11,9 @@ use std::alloc::Global;
 pub(crate) const CONFIG: &str =
     "{\"users\":[{\"accounts\":[{\"id\":\"A1\",\"name\":\"Mail\",\"readOnly\":false}],\"name\":\"ann\",\"token\":\"t\"}]}";
 
-// The configuration, what each connection asks, the row that the keeper of each account keeps, or none where it is
-// empty, whether the first `load` of a keeper succeeds, and whether the world listens.
+// The configuration, what each connection asks, the row that the keeper of each account keeps, or
+// none where it is empty, whether the first `load` of a keeper succeeds, and whether the world
+// listens.
 #[derive(Clone, Copy)]
 pub(crate) struct Setting {
     pub(crate) config: &'static str,
@@ -22,7 +23,8 @@ pub(crate) struct Setting {
     pub(crate) listens: bool,
 }
 
-// A keeper in memory that counts how often its `load` has failed. Contracts don't know what it keeps.
+// A keeper in memory that counts how often its `load` has failed. Contracts don't know what it
+// keeps.
 #[derive(Drop)]
 pub(crate) struct RowKeeper {
     memory: MemoryKeeper,
@@ -84,8 +86,8 @@ impl Keeper for RowKeeper {
     }
 }
 
-// A world of this setting, what was written to the connections that came back, the points of their sessions, and its
-// counts of faults.
+// A world of this setting, what was written to the connections that came back, the points of their
+// sessions, and its counts of faults.
 #[derive(Drop)]
 pub(crate) struct MemoryWorld {
     alloc: Global,
@@ -113,13 +115,15 @@ impl MemoryWorld {
         self.written.as_slice()
     }
 
-    // Lends of each point of their sessions the account's place, and how many entries it had before and after.
+    // Lends of each point of their sessions the account's index, and how many entries it had before
+    // and after.
     pub(crate) fn points(&self) -> &[u64] {
         self.points.as_slice()
     }
 }
 
-// Adds the points of the session that served a connection. Where memory runs out, numbers are missing.
+// Adds the points of the session that served a connection. Where memory runs out, numbers are
+// missing.
 fn add_points(points: &mut Numbers, finished: &Finished<MemoryLink>) {
     for point in finished.trail.as_slice() {
         let _ = points.push(point.account);

@@ -6,10 +6,10 @@ use std::thread::yield_now;
 // How often a thread looks before it gives up.
 const LOOKS: u64 = 10_000_000;
 
-// What the threads of connections tell each other.
+// What the threads of connections share.
 #[derive(Drop)]
 pub(crate) struct Signs {
-    // How many connections were told that nothing more is written.
+    // How many connections were finished: nothing more is written to them.
     finished: AtomicU64,
     // How often a thread gave up.
     late: AtomicU64,
@@ -23,12 +23,12 @@ impl Signs {
         }
     }
 
-    // Says that a connection was told that nothing more is written.
+    // Counts a connection that was finished.
     pub(crate) fn finish(&self) {
         self.finished.fetch_add(1, Ordering::SeqCst);
     }
 
-    // Waits until so many connections were told so.
+    // Waits until so many connections were finished.
     fn wait(&self, count: u64) {
         for _ in 0..LOOKS {
             if self.finished.load(Ordering::SeqCst) >= count {
@@ -45,8 +45,7 @@ impl Signs {
     }
 }
 
-// A gate at which each request waits until so many connections were told that nothing more is
-// written.
+// A gate at which each request waits until so many connections were finished.
 #[derive(Drop)]
 pub(crate) struct WaitingGate<'a> {
     pub(crate) signs: &'a Signs,

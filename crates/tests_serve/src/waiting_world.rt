@@ -1,4 +1,5 @@
-// A world in memory with two connections, of which the first one waits until the second one was answered.
+// A world in memory with two connections, of which the first one waits until the second one was
+// answered.
 use crate::memory_world::{CONFIG, RowKeeper};
 use crate::waiting_gate::{Signs, WaitingGate};
 use crate::watched_link::WatchedLink;
@@ -14,8 +15,8 @@ const REQUEST: &str =
 const RESPONSE: &str =
     "HTTP/1.1 200 OK\r\nContent-Type: application/json\r\nContent-Length: 41\r\nCache-Control: no-store\r\n\r\n{\"methodResponses\":[],\"sessionState\":\"0\"}";
 
-// Each connection asks the request. The gate of the first one waits until another connection was told that nothing
-// more is written, and the other gates let all pass.
+// Each connection asks the request. The gate of the first one waits until another connection was
+// finished, and the other gates let all pass.
 #[derive(Drop)]
 pub(crate) struct WaitingWorld<'a> {
     alloc: Global,

@@ -1,4 +1,4 @@
-// A link in memory that says when it is told that nothing more is written.
+// A link in memory that gives a sign when it is finished: nothing more is written to it.
 use crate::waiting_gate::Signs;
 use jm_base::{Bytes, NoMemory};
 use jm_edge::{Failed, Link, MemoryLink, MemorySocket};
