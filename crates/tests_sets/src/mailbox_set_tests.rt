@@ -118,7 +118,7 @@ fn second_reply(alloc: Global, create: &str) -> Result<Bytes, Fail> {
     reply_to(alloc, &Made::new(alloc), INBOX, set)
 }
 
-// Whether it is answered that these properties of the create `x` are bad.
+// Whether it is answered that these properties of the create `x` are invalid.
 fn is_refused(alloc: Global, create: &str, names: &str) -> Result<bool, Fail> {
     let wanted = format!(in alloc;
         "{{\"accountId\":\"A1\",\"created\":null,\"destroyed\":null,\"newState\":\"1\",\"notCreated\":{{\"x\":{{\"properties\":{names},\"type\":\"invalidProperties\"}}}},\"notDestroyed\":null,\"notUpdated\":null,\"oldState\":\"1\",\"updated\":null}}"

@@ -18,7 +18,7 @@ fn made(alloc: Global, pairs: &[(&str, &str)]) -> Result<Made, Fail> {
 
 const PAIRS: [(&str, &str); 4] = [("a", "M1"), ("b", "E1"), ("a", "M2"), ("#", "x/y")];
 
-// The id under which an object is reported, after `?` if it is a reference that stands for nothing.
+// The id under which an object is reported, after `?` if it is a reference that means nothing.
 fn reported(alloc: Global, made: &Made, sent: &str) -> Result<String, NoMemory> {
     let created = collect_created(alloc, made.as_slice())?;
     let mark = match find_identifier(&created.texts, sent) {

@@ -10,7 +10,7 @@ const THREE: &str =
     "{\"accountId\":\"A1\",\"create\":{\"a\":{\"name\":\"A\"},\"b\":{\"name\":\"B\",\"parentId\":\"#a\"},\"c\":{\"name\":\"C\"}}}";
 
 // Returns the response to a set with these arguments of an account with these three mailboxes,
-// where `k` stands for the last one.
+// where `k` means the last one.
 fn respond(alloc: Global, args: &str) -> Result<Bytes, Fail> {
     let set = format!(in alloc; "{{\"accountId\":\"A1\",{args}}}")?;
     let mut made = Made::new(alloc);
@@ -233,8 +233,8 @@ fn updates_are_reported_under_the_ids_that_are_meant(rt: HostRuntime) -> Result<
     Ok(())
 }
 
-// What is left of a set of creates, updates and destroys: an update comes before the destroy of what
-// it leaves empty, and what the set creates may be a parent.
+// What is left of a set of creates, updates and destroys: an update comes before the destroy of
+// what it leaves empty, and what the set creates may be a parent.
 const ALL: &str =
     "\"create\":{\"n\":{\"name\":\"N\"}},\"destroy\":[\"M1\",\"#k\"],\"update\":{\"M2\":{\"parentId\":\"#n\"},\"M3\":{\"name\":1},\"M4\":{\"role\":\"sent\"}}";
 
