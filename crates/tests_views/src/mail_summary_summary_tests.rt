@@ -47,7 +47,7 @@ fn summaries_of_messages(rt: HostRuntime) -> Result<(), Fail> {
             b"References: <b@x> <a@x>\nIn-Reply-To: <c@x>\nMessage-ID: <b @x>\n",
             "|||||a@x b@x c@x ",
         ),
-        // Moments outside the years 0001 to 9999.
+        // Timestamps outside the years 0001 to 9999.
         (b"Date: 1 Jan 0001 00:00 +0001\n", "|||||"),
         (b"Date: 31 Dec 9999 23:59:59 -0001\n", "|||||"),
         // Attachments: of any disposition but inline.
