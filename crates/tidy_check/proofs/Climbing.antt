@@ -14,7 +14,7 @@ ended : (k : ℕ) (c : Content) → ancestor k c None ≡ None
 ended zero c = refl
 ended (suc k) c = refl
 
--- a chain of a known depth ends within so many steps exactly if the depth is at most that
+-- a chain of a known depth ends within so many steps if and only if the depth is at most that
 depth_within : (d k : ℕ) (c : Content) (start : Option ℕ) → HasDepth c d start → is_none (ancestor k c start) ≡ nat_le d k
 depth_within zero k c start e = subst (λ s. is_none (ancestor k c s) ≡ nat_le zero k) (sym e) (ap is_none (ended k c) ∙ sym (leb-zero k))
 depth_within (suc d) k c None e = absurd e
@@ -29,7 +29,7 @@ reached : (c : Content) (start : Option ℕ) (path : List ℕ) (end : Option ℕ
 reached c start [] end p = p
 reached c start (n ∷ ns) end p = subst (λ s. ancestor (suc (length ns)) c s ≡ end) (sym p.0) (reached c (parent_of c n) ns end p.1)
 
--- a path as long as there are mailboxes that goes on
+-- a path as long as there are mailboxes that continues
 pub no_root : (c : Content) (start : Option ℕ) (path : List ℕ) (n : ℕ) → IsPath c start path (Some n) → length path ≡ length c.mailboxes → has_root c start ≡ false
 no_root c start path n p count = ap is_none (subst (λ k. ancestor k c start ≡ Some n) count (reached c start path (Some n) p))
 

@@ -1,4 +1,4 @@
--- A content passes the tests exactly if it is tidy.
+-- A content passes the tests if and only if it is tidy.
 use Rattle.std.proofs.Common.{◌≡◌, ◌↔◌, Result, Ok, Err, IfOk, ℕ, ℤ, pos, ◌≤ℤ◌, int_le, T, Bool, true, false, ◌&&◌, not, ◌≤◌, ◌<◌, nat_le, nat_lt, eqb, List, [], ◌∷◌, map, filter, length, Option, Some, None, is_none, is_some, refl, sym, ap, ap₂, ◌∙◌, subst, arith, ⊎_elim, Decides, IsPermutation, IsTrue}
 use Rattle.std.specs.Int.Signed.{le_z_yes}
 use Rattle.std.specs.List.{AllByRecursion, IsDistinct, list_all, list_any}

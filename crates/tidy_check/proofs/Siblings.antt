@@ -1,4 +1,5 @@
--- No two records of a table share something exactly if none shares it with a record of another number.
+-- No two records of a table share something if and only if none shares it with a record of another
+-- number.
 use Rattle.std.proofs.Common.{◌≡◌, ℕ, ◌<◌, Bool, true, false, ◌&&◌, ◌||◌, not, ◌==◌, eqb, List, [], ◌∷◌, Option, Some, None, refl, sym, ap, ap₂, ◌∙◌, subst, arith, Decides, bytes_eq, ne_eqb, eq-eqb}
 use Rattle.std.specs.List.{AllByRecursion, IsDistinct, list_any}
 use Rattle.std.proofs.lemmas.Bool.{true≢false}
