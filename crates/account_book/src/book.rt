@@ -7,7 +7,7 @@ ghost use Rattle.keep_port.specs.Keeping.{IsContent};
 ghost use Rattle.keep_port.specs.declared.kept.Kept.{Kept as TheKept};
 ghost use Rattle.mail_records.specs.Commits.{IsFormed};
 ghost use Rattle.mail_records.specs.Edits.{AllFit, IsSmall};
-ghost use Rattle.mail_records.specs.Histories.{Committed, History, IsSound, Refused, account_after, blobs_of, content_of, edits_of, grown, grown_by};
+ghost use Rattle.mail_records.specs.Histories.{Committed, IsSound, Refused, account_after, blobs_of, content_of, edits_of, grown, grown_by};
 ghost use Rattle.mail_records.specs.declared.edits.Commit.{Commit as TheCommit};
 ghost use Rattle.mail_records.specs.declared.edits.Stamp.{Stamp as TheStamp};
 ghost use Rattle.record_codec.specs.Sizes.{edit_bytes};
