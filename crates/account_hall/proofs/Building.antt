@@ -1,10 +1,10 @@
 -- Accounts that are put into rooms from the last one on, and taken out again.
-use Rattle.std.proofs.Common.{◌≡◌, ℕ, ◌+◌, List, [], ◌∷◌, ◌++◌, map, length, reverse, refl, sym, ap, ap₂, ◌∙◌, subst, append_assoc, arith}
-use Rattle.std.proofs.lemmas.List.{append-nil, map-append, reverse-append}
+use Rattle.std.proofs.Common.{◌≡◌, ℕ, ◌+◌, List, [], ◌∷◌, ◌++◌, map, reverse, refl, sym, ap, ap₂, ◌∙◌, subst, append_assoc, arith}
+use Rattle.std.proofs.lemmas.List.{map-append, reverse-append}
 use Rattle.std.specs.List.{AllByRecursion}
 use Rattle.account_book.specs.Books.{BookView}
-use Rattle.account_lock.specs.Views.{LockFacts, PassFacts}
-use Rattle.account_hall.specs.Building.{AreBuilt, IsFresh, first_root, named_of}
+use Rattle.account_lock.specs.Views.{PassFacts}
+use Rattle.account_hall.specs.Building.{AreBuilt, first_root, named_of}
 use Rattle.account_hall.specs.Halls.{AreOf, IsFrontPass, RoomFacts, lock_of_pass, lock_of_room, room_view}
 use Rattle.account_hall.specs.declared.named.Named.{Named}
 

@@ -1,12 +1,12 @@
 -- Roots of which some were changed, one after the other, and passes at an index.
-use Rattle.std.proofs.Common.{◌≡◌, ℕ, zero, suc, ◌+◌, ◌-◌, ◌<◌, ◌≤◌, Bool, true, false, List, [], ◌∷◌, ◌++◌, map, take, drop, length, get_or, Option, Some, None, slice_get, refl, sym, ap, ap₂, ◌∙◌, subst, arith, length-append}
+use Rattle.std.proofs.Common.{◌≡◌, ℕ, zero, suc, ◌+◌, ◌-◌, ◌<◌, ◌≤◌, List, [], ◌∷◌, ◌++◌, map, take, drop, length, get_or, Some, slice_get, refl, sym, ap, ap₂, ◌∙◌, subst, arith, length-append}
 use Rattle.std.specs.List.{AllByRecursion}
 use Rattle.std.proofs.Math.ListN.{set}
 use Rattle.std.proofs.lemmas.Option.{slice_get_read, slice_get_within}
 use Rattle.account_book.proofs.Rows.{rest_dropped, rest_there}
 use Rattle.account_lock.specs.Entries.{StartsWith}
 use Rattle.account_lock.specs.Passes.{split_off, taken_in}
-use Rattle.account_lock.specs.Views.{Ended, LockFacts, PassFacts}
+use Rattle.account_lock.specs.Views.{Ended, PassFacts}
 use Rattle.account_hall.specs.Halls.{AreOf, HaveHeard, IsFrontPass, RoomFacts, RoomView, all_taken_in, lock_of_pass, lock_of_room, one_given, room_view}
 use Rattle.account_hall.specs.Sessions.{IsFree}
 

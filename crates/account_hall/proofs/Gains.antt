@@ -1,23 +1,21 @@
 -- What a call adds to the entries of a book, each with the number of its pass.
-use Rattle.std.proofs.Common.{◌≡◌, ◌⊎◌, inl, inr, ⊎_elim, ℕ, suc, ◌+◌, ◌^◌, ◌<◌, ◌≤◌, List, [], ◌∷◌, ◌++◌, map, take, drop, length, Result, Ok, Err, IfOk, OnErr, refl, sym, ap, ap₂, ◌∙◌, subst, arith, length-append}
+use Rattle.std.proofs.Common.{◌≡◌, ◌⊎◌, inl, inr, ⊎_elim, ℕ, suc, ◌+◌, ◌^◌, ◌<◌, ◌≤◌, List, [], ◌∷◌, ◌++◌, map, drop, length, Result, Ok, Err, IfOk, OnErr, refl, sym, ap, ap₂, ◌∙◌, subst, arith, length-append}
 use Rattle.std.proofs.lemmas.List.{append-nil, map-append}
 use Rattle.std.proofs.Math.Seq.{drop-append_seam}
 use Rattle.mail_records.specs.Histories.{History, Entry, Committed, Refused, account_after, entry_pass, entry_stamp, grown, grown_by}
 use Rattle.mail_records.specs.declared.edits.Stamp.{Stamp}
 use Rattle.mail_records.proofs.Prefixes.{account_after-all}
 use Rattle.record_codec.specs.Sizes.{edit_bytes}
-use Rattle.account_book.specs.Replies.{IsAnswered, IsCommitted, IsRefused, IsReply, IsReplyTo, IsUnavailable, commit_of}
+use Rattle.account_book.specs.Replies.{IsAnswered, IsCommitted, IsRefused, IsReply, IsUnavailable, commit_of}
 use Rattle.account_book.specs.Passes.{greatest_pass, named_from, named_since, number_from, numbered_from, numbered_since, pass_from}
 use Rattle.account_book.proofs.Parts.{drop_all}
-use Rattle.account_book.specs.declared.asks.Ask.{Ask}
 use Rattle.account_book.specs.declared.asks.Call.{Call}
 use Rattle.account_book.specs.declared.plans.Done.{Done}
 use Rattle.account_book.specs.declared.plans.Out.{Out}
 use Rattle.account_book.specs.declared.plans.Plan.{Plan}
-use Rattle.account_book.specs.declared.plans.Point.{Point}
-use Rattle.account_lock.specs.Entries.{AreUnder, ExtendsUnder}
+use Rattle.account_lock.specs.Entries.{ExtendsUnder}
 use Rattle.account_hall.specs.Calls.{IsPerformed, point_at}
-use Rattle.account_hall.specs.Histories.{GainsAtMostOne, GainsNone, GainsOne, count_with, history_with, stamp_from}
+use Rattle.account_hall.specs.Histories.{GainsAtMostOne, count_with, stamp_from}
 
 -- ---- what a reply says of the history
 

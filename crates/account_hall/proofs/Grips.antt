@@ -1,12 +1,12 @@
 -- Accounts are taken and given back, one after the other.
-use Rattle.std.proofs.Common.{◌≡◌, ◌≢◌, ℕ, suc, ◌<◌, List, [], ◌∷◌, map, length, get_or, Some, false, slice_get, refl, sym, ap, ◌∙◌, subst, arith}
+use Rattle.std.proofs.Common.{◌≡◌, ◌≢◌, ℕ, suc, ◌<◌, List, [], ◌∷◌, map, length, get_or, Some, slice_get, refl, sym, ap, ◌∙◌, subst, arith}
 use Rattle.std.proofs.Math.ListN.{set}
 use Rattle.account_lock.specs.Views.{PassFacts}
 use Rattle.account_hall.specs.Halls.{AreOf, RoomFacts, RoomView, room_view}
 use Rattle.account_hall.specs.Held.{AreTaken, IsFreeAt, IsTaken, entries_in, holding}
 use Rattle.account_hall.specs.declared.held.Held.{Held}
 use Rattle.account_hall.proofs.Fronts.{of_set, pass_there, room_lock}
-use Rattle.account_hall.proofs.Places.{flipped, set_apart, set_elsewhere}
+use Rattle.account_hall.proofs.Places.{set_apart, set_elsewhere}
 
 pub count_map : {A B : Type 0} (f : A → B) (xs : List A) → length (map f xs) ≡ length xs
 count_map f [] = refl

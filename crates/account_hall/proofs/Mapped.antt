@@ -1,14 +1,13 @@
 -- A copy over states is one over what these states show.
-use Rattle.std.proofs.Common.{◌≡◌, ◌⊎◌, inl, inr, ⊎_elim, ℕ, Bool, true, false, cond, List, [], ◌∷◌, ◌++◌, Option, Some, None, option_and_then, Result, Ok, Err, codes, refl, sym, ap, subst}
-use Rattle.jm_json.specs.Call.{Call as Invocation, error_of}
+use Rattle.std.proofs.Common.{◌≡◌, ◌⊎◌, inl, inr, ⊎_elim, ℕ, Bool, true, false, cond, List, [], ◌∷◌, ◌++◌, Option, Some, None, Result, Ok, Err, refl, sym, ap, subst}
+use Rattle.jm_json.specs.Call.{Call as Invocation}
 use Rattle.jm_json.specs.declared.invocation.Invocation.{Invocation as TheInvocation}
 use Rattle.jm_json.specs.declared.invocation.Created.{Created}
 use Rattle.jm_json.specs.declared.invocation.Replied.{Replied}
 use Rattle.account_book.specs.declared.asks.Call.{Call}
 use Rattle.account_book.specs.declared.asks.Carried.{Carried}
 use Rattle.account_book.specs.declared.plans.Out.{Out}
-use Rattle.account_book.specs.declared.plans.Out.TheVariants as out
-use Rattle.account_hall.specs.Copies.{CopySteps, HasBegun, HasFetched, HasPlaced, IsCopied, IsFetchedSo, IsFollowed, IsPlaced, IsPlacedSo, IsSetAsked, SetOf, carried_in, fetch_call, joined, place_call, replied_in, set_after}
+use Rattle.account_hall.specs.Copies.{CopySteps, HasBegun, HasFetched, HasPlaced, IsCopied, IsFetchedSo, IsFollowed, IsPlaced, IsPlacedSo, IsSetAsked, SetOf, carried_in, replied_in, set_after}
 
 module _ {S T : Type 0} (from to : Call → S → S → Out → Type 0) (from' to' : Call → T → T → Out → Type 0) (set_of : SetOf) (read_only : Bool) (call : TheInvocation) (made : List Created)
     (show : S → T) (K : S → Type 0)

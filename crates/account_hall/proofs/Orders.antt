@@ -1,7 +1,6 @@
 -- A session stays in order.
-use Rattle.std.proofs.Common.{◌≡◌, ◌≢◌, ◌⊎◌, inl, inr, ⊎_elim, ℕ, zero, suc, ◌+◌, ◌-◌, ◌<◌, ◌≤◌, Bool, true, false, ◌&&◌, if◌then◌else◌, eqb, eq-eqb, ne_eqb, List, [], ◌∷◌, ◌++◌, map, take, drop, length, Option, Some, None, slice_get, refl, sym, ap, ap₂, ◌∙◌, subst, append_assoc, arith, length-append}
+use Rattle.std.proofs.Common.{◌≡◌, ◌≢◌, ◌⊎◌, inl, inr, ⊎_elim, ℕ, zero, suc, ◌+◌, ◌-◌, ◌<◌, ◌≤◌, Bool, true, false, ◌&&◌, if◌then◌else◌, eqb, eq-eqb, ne_eqb, List, [], ◌∷◌, ◌++◌, map, take, drop, length, refl, sym, ap, ap₂, ◌∙◌, subst, append_assoc, arith, length-append}
 use Rattle.std.specs.List.{AllByRecursion}
-use Rattle.std.proofs.Math.ListN.{set}
 use Rattle.std.proofs.lemmas.List.{append-nil, drop-append-le, map-append, take-append-le}
 use Rattle.std.proofs.lemmas.Bool.{eqb-true}
 use Rattle.mail_records.specs.Histories.{History, Entry, entry_stamp}
@@ -11,7 +10,7 @@ use Rattle.account_lock.specs.Entries.{StartsWith, under}
 use Rattle.account_lock.specs.Views.{PassFacts}
 use Rattle.account_lock.proofs.Entries.{under-append}
 use Rattle.account_hall.specs.Calls.{HasLooked}
-use Rattle.account_hall.specs.Histories.{GainsAtMostOne, GainsNone, GainsOne, count_with, seen_count}
+use Rattle.account_hall.specs.Histories.{GainsAtMostOne, count_with, seen_count}
 use Rattle.account_hall.specs.Sessions.{AreInOrder, IsAfter, IsInOrder, IsWithinSeen, entries_at, entry_serial, is_entered, numbers_at}
 
 -- ---- a test of two numbers, and of a point

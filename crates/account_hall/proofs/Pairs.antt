@@ -1,25 +1,24 @@
 -- A session that holds two accounts: what the calls of a copy on them make of it.
-use Rattle.std.proofs.Common.{◌≡◌, ◌≢◌, ◌⊎◌, inl, inr, ℕ, suc, ◌+◌, Bool, true, false, List, [], ◌∷◌, ◌++◌, length, Option, Some, None, slice_get, Result, Ok, Err, IfOk, OnErr, refl, sym, ap, ap₂, ◌∙◌, subst, append_assoc}
+use Rattle.std.proofs.Common.{◌≡◌, ◌≢◌, ◌⊎◌, ℕ, ◌+◌, Bool, false, List, [], ◌∷◌, ◌++◌, length, Some, slice_get, refl, sym, ap, ◌∙◌, subst}
 use Rattle.std.proofs.Math.ListN.{set}
 use Rattle.std.proofs.lemmas.List.{append-nil}
-use Rattle.jm_json.specs.Call.{Call as Invocation}
 use Rattle.mail_records.specs.Histories.{Entry, History}
 use Rattle.account_book.specs.declared.asks.Call.{Call}
 use Rattle.account_book.specs.declared.plans.Out.{Out}
 use Rattle.account_book.specs.declared.plans.Plan.{Plan}
 use Rattle.account_book.specs.declared.plans.Point.{Point}
-use Rattle.account_lock.specs.Entries.{AreUnder, ExtendsUnder, StartsWith, under}
+use Rattle.account_lock.specs.Entries.{ExtendsUnder, StartsWith, under}
 use Rattle.account_lock.specs.Views.{PassFacts}
 use Rattle.account_hall.specs.Calls.{HasLooked, IsCalled, point_at}
-use Rattle.account_hall.specs.Copies.{CopySteps, HasBegun, HasBegunCopy, HasTaken, IsCopied, IsCopy, IsNextCall, SetOf, copy_steps}
+use Rattle.account_hall.specs.Copies.{HasBegun, HasBegunCopy, HasTaken, IsCopied, IsCopy, IsNextCall, SetOf}
 use Rattle.account_hall.specs.Halls.{AreOf, RoomView}
-use Rattle.account_hall.specs.Held.{AreTaken, HasGained, HeldState, IsFreeAt, IsHeldBy, IsStep, IsTaken, MayRelease, Side, entries_in, held_copy, held_steps, holding, released, released_at, released_to, side_of}
-use Rattle.account_hall.specs.Sessions.{IsFree, IsSession, SessionView, session_of}
+use Rattle.account_hall.specs.Held.{AreTaken, HasGained, HeldState, IsHeldBy, IsStep, MayRelease, Side, entries_in, held_copy, holding, released, released_at, released_to, side_of}
+use Rattle.account_hall.specs.Sessions.{IsSession, SessionView, session_of}
 use Rattle.account_hall.specs.declared.copies.CopyCall.{CopyCall}
 use Rattle.account_hall.specs.declared.held.Held.{Held}
 use Rattle.account_hall.proofs.Mapped.{begun, copied}
-use Rattle.account_hall.proofs.Fronts.{all_at, of_set}
-use Rattle.account_hall.proofs.Places.{flipped, set_apart, set_elsewhere, set_there, set_twice, set_under}
+use Rattle.account_hall.proofs.Fronts.{of_set}
+use Rattle.account_hall.proofs.Places.{flipped, set_elsewhere, set_there, set_twice, set_under}
 use Rattle.account_hall.proofs.Steps.{after_call, after_look, is_look, is_next, session_called, session_looked}
 
 -- the pass of a session that has seen these entries

@@ -1,5 +1,5 @@
 -- The parts of a copy between two held accounts.
-use Rattle.std.proofs.Common.{◌≡◌, ◌⊎◌, inl, inr, ⊎_elim, ℕ, suc, ◌+◌, Bool, true, false, cond, List, [], ◌∷◌, ◌++◌, map, take, length, Option, Some, None, option_map, slice_get, Result, Ok, Err, IfOk, OnErr, codes, refl, sym, ap, ap₂, ◌∙◌, subst, append_assoc}
+use Rattle.std.proofs.Common.{◌≡◌, ◌⊎◌, inl, inr, ⊎_elim, ℕ, ◌+◌, Bool, true, false, List, [], ◌∷◌, ◌++◌, map, take, Option, Some, option_map, slice_get, Result, Ok, Err, IfOk, OnErr, codes, refl, sym, ap, ◌∙◌, subst, append_assoc}
 use Rattle.std.proofs.lemmas.List.{append-nil, map-append}
 use Rattle.jm_json.specs.Call.{Call as Invocation, error_of}
 use Rattle.jm_json.specs.Invocations.{call_of}
@@ -15,7 +15,7 @@ use Rattle.account_book.specs.declared.plans.Plan.{Plan}
 use Rattle.account_book.specs.declared.plans.Point.{Point}
 use Rattle.account_lock.specs.Entries.{AreUnder, ExtendsUnder}
 use Rattle.account_hall.specs.Copies.{CopySteps, HasBegun, IsCopied, IsFetchedSo, IsFollowed, IsPlaced, IsPlacedSo, SetOf, carried_in, fetch_call, first_of, first_response, joined, place_call, replied_in}
-use Rattle.account_hall.specs.Held.{HasAskedSet, HasGained, HeldState, MayHaveFollowed, MayHavePlaced, Side, entries_in, held_steps, side_of}
+use Rattle.account_hall.specs.Held.{HasAskedSet, HasGained, HeldState, MayHaveFollowed, MayHavePlaced, Side, entries_in, held_steps}
 use Rattle.account_hall.specs.declared.held.Held.{Held}
 
 -- what a reply, and what another answer, has as first response

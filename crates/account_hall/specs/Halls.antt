@@ -1,12 +1,12 @@
 -- What contracts see of a hall and of its front, and which passes are of which hall.
-use Rattle.std.specs.Prelude.{◌≡◌, ℕ, ◌+◌, ◌≤◌, ◌<◌, Bool, true, false, List, [], ◌∷◌, ◌++◌, Some, map, length, slice_get, ⊤}
+use Rattle.std.specs.Prelude.{◌≡◌, ℕ, ◌+◌, ◌≤◌, ◌<◌, true, List, [], ◌∷◌, ◌++◌, map, length, ⊤}
 use Rattle.std.specs.List.{AllByRecursion}
 use Rattle.atomic_table.specs.Seated.{TableId}
-use Rattle.mail_records.specs.Histories.{Entry, History}
+use Rattle.mail_records.specs.Histories.{Entry}
 use Rattle.account_book.specs.Books.{BookView}
 use Rattle.account_book.specs.Passes.{numbered_since}
 use Rattle.account_lock.specs.Entries.{StartsWith}
-use Rattle.account_lock.specs.Passes.{HasEndedAll, HasNoOthers, KeepsEnded, root_of, split_off, taken_in}
+use Rattle.account_lock.specs.Passes.{taken_in}
 use Rattle.account_lock.specs.Views.{LockFacts, PassFacts}
 use Rattle.jm_base.specs.declared.limits.TheConstants.{MAX_SESSIONS}
 

@@ -1,5 +1,5 @@
 // Halls are built of books, and give them back.
-ghost use Rattle.std.specs.Prelude.{◌≡◌, ◌+◌, ◌≤◌, ◌++◌, ◌∷◌, [], false, true, IfErr, IfNone, IfOk, IfSome, OnErr, map, reverse, vec_capacity, vec_len};
+ghost use Rattle.std.specs.Prelude.{◌≡◌, ◌+◌, ◌≤◌, ◌++◌, ◌∷◌, [], false, true, IfErr, IfNone, IfOk, IfSome, map, reverse, vec_capacity, vec_len};
 ghost use Rattle.std.specs.List.{AllByRecursion};
 ghost use Rattle.account_hall.specs.Building.{AreBuilt, IsClosed, IsFresh, IsParted, first_root, named_of};
 ghost use Rattle.account_lock.specs.Passes.{IsLast};

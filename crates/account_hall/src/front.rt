@@ -1,9 +1,9 @@
 // A hall's front, which lets sessions in and out.
-ghost use Rattle.std.specs.Prelude.{◌≡◌, ◌↔◌, ◌+◌, ◌-◌, ◌<◌, ◌≤◌, [], true, map, IfOk, IfErr, OnErr, vec_len, vec_capacity, length};
+ghost use Rattle.std.specs.Prelude.{◌≡◌, ◌↔◌, ◌+◌, ◌-◌, ◌<◌, ◌≤◌, [], true, map, IfOk, IfErr, OnErr, vec_len, vec_capacity};
 ghost use Rattle.std.specs.List.{AllByRecursion};
 ghost use Rattle.account_lock.specs.Passes.{split_off};
 ghost use Rattle.account_lock.specs.declared.limits.TheConstants.{MAX_NAMES as TheMaxNames};
-ghost use Rattle.account_hall.specs.Halls.{AreOf, IsFrontPass, all_taken_in, HaveHeard, lock_of_pass, one_given, room_view};
+ghost use Rattle.account_hall.specs.Halls.{AreOf, IsFrontPass, all_taken_in, HaveHeard, one_given, room_view};
 ghost use Rattle.account_hall.specs.Sessions.{IsFree};
 ghost use Rattle.account_hall.specs.declared.front.AdmitFault.TheVariants as TheFault;
 ghost use Rattle.jm_base.specs.declared.limits.TheConstants.{MAX_SESSIONS as TheMaxSessions};

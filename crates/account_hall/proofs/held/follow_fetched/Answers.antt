@@ -1,4 +1,4 @@
-use Rattle.std.proofs.Common.{IfOk, refl, subst}
+use Rattle.std.proofs.Common.{refl, subst}
 use Rattle.account_hall.specs.Copies.{IsFetchedSo}
 use Rattle.account_hall.specs.Held.{held_steps, side_of, state_of}
 use Rattle.account_hall.proofs.Parts.{followed_begun, followed_if, gained_none}

@@ -1,5 +1,4 @@
-use Rattle.std.proofs.Common.{IfOk, option_map, refl, subst}
-use Rattle.jm_json.specs.Invocations.{call_of}
+use Rattle.std.proofs.Common.{IfOk, refl, subst}
 use Rattle.account_hall.specs.Copies.{IsFollowed, IsPlacedSo}
 use Rattle.account_hall.specs.Held.{held_steps, side_of, state_from}
 use Rattle.account_hall.proofs.Parts.{gained_none}
