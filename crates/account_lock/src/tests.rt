@@ -1,5 +1,5 @@
 // Threads that take turns at a small value, a waiter that parks, and passes that are joined.
-ghost use Rattle.std.specs.Prelude.{◌≡◌, ◌+◌, ◌<◌, ◌^◌, [], true, false, length, IfOk, IfSome, OnOk, ◌++◌, ◌∷◌};
+ghost use Rattle.std.specs.Prelude.{◌≡◌, ◌+◌, ◌<◌, ◌^◌, [], true, false, length, IfOk, IfSome, ◌++◌, ◌∷◌};
 
 mod diary;
 

@@ -1,5 +1,5 @@
 // The simplest value with a history, and one turn at it: the value that the tests lock.
-ghost use Rattle.std.specs.Prelude.{◌≡◌, ◌++◌, ◌∷◌, [], true, false, OnOk, OnErr, map};
+ghost use Rattle.std.specs.Prelude.{◌≡◌, ◌++◌, ◌∷◌, [], false, OnOk, OnErr, map};
 ghost use Rattle.mail_records.specs.Histories.{Refused};
 ghost use Rattle.account_lock.specs.Entries.{StartsWith};
 
