@@ -1,17 +1,16 @@
 -- What is read of an identifier's text.
-use Rattle.std.proofs.Common.{◌≡◌, ◌≢◌, ℕ, suc, get_or, ap₂, ◌<◌, ◌^◌, ◌==◌, ◌&&◌, Bool, true, false, cond, nat_lt, bytes_eq, List, [], ◌∷◌, ◌++◌, length, Option, Some, None, refl, sym, ap, ◌∙◌, subst, arith, append-nil, eqb}
+use Rattle.std.proofs.Common.{◌≡◌, ◌≢◌, ℕ, suc, get_or, ap₂, ◌<◌, ◌^◌, ◌==◌, ◌&&◌, Bool, true, false, cond, nat_lt, bytes_eq, List, [], ◌∷◌, ◌++◌, length, Option, Some, None, refl, sym, ap, ◌∙◌, arith, append-nil}
 use Rattle.std.specs.List.{AllByRecursion}
 use Rattle.std.specs.Option.{ForSome}
 use Rattle.std.specs.Fmt.{decimal}
 use Rattle.std.specs.Str.Parse.{AllDigits, digits_value}
 use Rattle.std.specs.Int.{IsInRange}
-use Rattle.std.proofs.lemmas.Bool.{cases_Bool, lt-ltb, ltb-true, eq-eqb, ne_eqb, true≢false}
+use Rattle.std.proofs.lemmas.Bool.{lt-ltb, ltb-true, ne_eqb, true≢false}
 use Rattle.std.proofs.lemmas.Fmt.{digits_value-decimal, digits_decimal}
 use Rattle.std.proofs.lemmas.Str.Parse.{IsNumeralModel, numerals_by_value, tells_digits, not_in_digits}
 use Rattle.std.proofs.lemmas.Slice.Eq.{bytes_eq-Decides}
-use Rattle.jm_base.specs.Ids.{IsNumberText, IsState, state_text}
 use Rattle.jm_base.specs.declared.identifiers.TheConstants.{NUMBER_LIMIT}
-use Rattle.blob_ids.specs.BlobIds.{IsBlobId, blob_id_in, blob_id_text, numbers_in, number_in, number_if, before_dash, after_dash, id_with, leaf_with, leaf_of, blob_with, leaf_text}
+use Rattle.blob_ids.specs.BlobIds.{IsBlobId, blob_id_in, blob_id_text, numbers_in, number_in, number_if, before_dash, after_dash, id_with, leaf_with, blob_with, leaf_text}
 use Rattle.blob_ids.specs.declared.ids.BlobId.{BlobId}
 
 own : IsNumeralModel (AllDigits 10) (digits_value 10)

@@ -1,6 +1,6 @@
 -- The identifiers of blobs and of the leaves of messages (RFC 8620, 6; RFC 8621, 4.1.4: blobId; the
 -- form is our own).
-use Rattle.std.specs.Prelude.{◌≡◌, ℕ, ◌<◌, ◌==◌, nat_lt, ◌&&◌, List, [], ◌∷◌, ◌++◌, Option, Some, None, option_map, option_and_then, cond, bytes_eq}
+use Rattle.std.specs.Prelude.{◌≡◌, ℕ, ◌<◌, ◌==◌, nat_lt, ◌&&◌, List, [], ◌∷◌, ◌++◌, Option, Some, None, cond, bytes_eq}
 use Rattle.std.specs.Option.{ForSome}
 use Rattle.std.specs.Fmt.{decimal}
 use Rattle.std.specs.Str.Parse.{digits_value}
