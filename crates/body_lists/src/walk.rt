@@ -1,8 +1,8 @@
 // The lists of a message, filled in one walk of its parts.
 ghost use Rattle.std.specs.Prelude.{◌≡◌, true, ◌++◌, ◌≤◌, take, drop, length, IfOk, OnOk};
-ghost use Rattle.mime_type.specs.PartTrees.{PartTrees, none};
+ghost use Rattle.mime_type.specs.PartTrees.{none};
 ghost use Rattle.mime_type.specs.PartViews.{node_of, joined};
-ghost use Rattle.body_lists.specs.Lists.{Lists, body_lists, both, given, inside, leaf_in, leaf_gives, ended, item_gives, nothing, number_if, open_after, or_else};
+ghost use Rattle.body_lists.specs.Lists.{Lists, body_lists, both, given, inside, leaf_in, leaf_gives, ended, item_gives, number_if, or_else};
 ghost use Rattle.body_lists.specs.Views.{lists_of, open_of, enclosing_of};
 
 use crate::enclosing_list::{EnclosingList, Open, is_html, is_media, is_plain};
