@@ -5,10 +5,10 @@ ghost use Rattle.jm_json.specs.Json.{tree_of};
 ghost use Rattle.jm_json.specs.Tree.{text};
 ghost use Rattle.mail_records.specs.Histories.{History};
 ghost use Rattle.change_calls.specs.Changes.{IsKeptBy};
-ghost use Rattle.change_calls.specs.Responses.{ExplainsCall, changes_outcome, count_properties, invalid_argument, max_in, outcome_with, page_members, page_tree, properties_tree, replied, string_in};
+ghost use Rattle.change_calls.specs.Responses.{ExplainsCall, changes_outcome, count_properties, invalid_argument, outcome_with, page_members, page_tree, properties_tree, replied, string_in};
 
 use crate::{ChangeFault, ChangePage, changes};
-use jm_base::{Kind, NoMemory, Numbers, Text, state_text};
+use jm_base::{Kind, NoMemory, Text, state_text};
 use jm_json::{Items, Json, Members};
 use method_args::{Argument, Presence, Shape, find_invalid, make_ids, read_integer, read_text};
 use state_log::Log;

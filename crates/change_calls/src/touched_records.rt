@@ -1,5 +1,5 @@
 // What the notes of edits say of each record that they name.
-ghost use Rattle.std.specs.Prelude.{◌≡◌, ◌+◌, IfOk, false, length, not, true};
+ghost use Rattle.std.specs.Prelude.{◌≡◌, ◌+◌, IfOk, false, length, true};
 ghost use Rattle.change_calls.specs.Changes.{is_within};
 ghost use Rattle.mail_records.specs.States.{is_kind};
 ghost use Rattle.change_calls.specs.TouchedRecords.{IsFull, IsTaken, IsWalk, are_counts, is_mark, mark_after, mark_of, numbers_marked};
