@@ -1,17 +1,15 @@
 // What a patch makes of the mailboxes and keywords of an email (RFC 8620, section 5.3; RFC 8621,
 // sections 4.1.1 and 4.6).
 ghost use Rattle.std.specs.Prelude.{◌≡◌, ◌++◌, ◌∷◌, [], ℕ, IfOk, List, MatchOption, OnOk, codes, if◌then◌else◌, map};
-ghost use Rattle.std.specs.List.{filter_map};
 ghost use Rattle.jm_json.specs.Find.{find};
 ghost use Rattle.jm_json.specs.Json.{member_of, tree_of};
 ghost use Rattle.jm_json.specs.Patch.{bad_patch, patched, patching_by};
-ghost use Rattle.jm_json.specs.Tree.{fields_of};
 ghost use Rattle.jm_json.specs.declared.invocation.Created.{Created as TheCreated};
 ghost use Rattle.mail_records.specs.Contents.{mailbox_number};
 ghost use Rattle.set_parts.specs.Names.{keywords_in, mailboxes_in};
 ghost use Rattle.set_parts.specs.Views.{AreMade, HoldTexts};
 ghost use Rattle.email_set.specs.Emails.{filing_of};
-ghost use Rattle.email_set.specs.Patches.{bad_names, filing_tree, fixed_names, meant_changes, name_unless, refiled, refiled_by, refiled_in, refiled_to, refiled_unless, value_of, within_limits};
+ghost use Rattle.email_set.specs.Patches.{bad_names, filing_tree, fixed_names, meant_changes, refiled, refiled_by, refiled_to, value_of, within_limits};
 
 use crate::filing::{Filing, Refiled};
 use crate::paths::{build_meant_path, is_fixed, read_property};

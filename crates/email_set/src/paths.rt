@@ -1,5 +1,5 @@
 // The paths of a patch as they are applied to an email (RFC 8621, sections 4.1.1 and 4.6).
-ghost use Rattle.std.specs.Prelude.{◌≡◌, ◌++◌, IfOk, List, OnOk, codes, option_map};
+ghost use Rattle.std.specs.Prelude.{◌≡◌, ◌++◌, IfOk, List, OnOk, codes};
 ghost use Rattle.jm_json.specs.Pointer.{cut, stripped};
 ghost use Rattle.jm_json.specs.declared.invocation.Created.{Created as TheCreated};
 ghost use Rattle.email_set.specs.Patches.{is_fixed, meant_in_mailboxes, meant_part, meant_path, property_of};

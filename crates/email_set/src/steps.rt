@@ -1,6 +1,6 @@
 // The updates and destroys of emails (RFC 8620, section 5.3; RFC 8621, section 4.6).
 ghost use Rattle.std.specs.Prelude.{◌≡◌, ◌<◌, [], ℕ, IfOk, List, OnOk, Some, length, map, option_map, slice_index_or};
-ghost use Rattle.jm_json.specs.Json.{member_of, tree_of};
+ghost use Rattle.jm_json.specs.Json.{member_of};
 ghost use Rattle.jm_json.specs.declared.invocation.Created.{Created as TheCreated};
 ghost use Rattle.mail_counts.specs.DerivedEdits.{same_numbers};
 ghost use Rattle.mail_records.specs.Contents.{Content as TheContent};
@@ -15,7 +15,7 @@ use crate::filing::{Filing, Refiled};
 use crate::patches::refile;
 use crate::planner::{Planner, enter_edits, find_email};
 use jm_base::{Kind, NoMemory, Text, read_id};
-use jm_json::{Json, Member};
+use jm_json::Member;
 use mail_records::{Content, Edit, Edits, Email, Record};
 use set_parts::{
     CreatedRecords, Reported, SetError, Step, TextSet, find_identifier, find_reported_id, has_text,
