@@ -1,5 +1,5 @@
 -- What terms say of an email whatever its texts are, one term after another.
-use Rattle.std.proofs.Common.{◌≡◌, ℕ, ◌<◌, ◌≤◌, ◌+◌, List, [], ◌∷◌, drop, length, get_or, Bool, true, false, ◌&&◌, ◌||◌, Vec, Global, Option, Some, None, refl, sym, ap, subst, ◌∙◌}
+use Rattle.std.proofs.Common.{◌≡◌, ℕ, ◌<◌, ◌≤◌, ◌+◌, List, [], ◌∷◌, drop, length, get_or, Bool, true, false, ◌&&◌, ◌||◌, Vec, Global, Option, Some, None, refl, sym, ap, ◌∙◌}
 use Rattle.std.specs.Prelude.{IfSome, IfOk, Result, Ok, Err}
 use Rattle.std.proofs.lemmas.Bool.{true≢false}
 use Rattle.jm_base.specs.declared.memory.NoMemory.{NoMemory}

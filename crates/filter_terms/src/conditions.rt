@@ -5,16 +5,13 @@ ghost use Rattle.std.specs.Str.{str_to_ascii_lowercase};
 ghost use Rattle.jm_json.specs.Find.{as_text};
 ghost use Rattle.jm_json.specs.Json.{tree_of};
 ghost use Rattle.mail_records.specs.declared.records.Mailbox.{Mailbox};
-ghost use Rattle.filter_terms.specs.EmailTerms.{email_term_holds, field_holds, is_in_mailbox, is_mailbox_id};
+ghost use Rattle.filter_terms.specs.EmailTerms.{email_term_holds, is_in_mailbox, is_mailbox_id};
 ghost use Rattle.filter_terms.specs.MailboxTerms.{has_parent, mailbox_term_holds};
 ghost use Rattle.filter_terms.specs.Compiled.{email_matches, mailbox_matches};
 ghost use Rattle.filter_terms.specs.Targets.{EmailInThread};
-ghost use Rattle.filter_terms.specs.Texts.{MessageTexts, has_field};
-ghost use Rattle.filter_terms.specs.Values.{field_test};
-ghost use Rattle.method_args.specs.Arguments.{passes};
+ghost use Rattle.filter_terms.specs.Texts.{MessageTexts};
 
 use crate::terms::{EmailTerm, KeywordTest, MailboxTerm};
-use crate::texts::Place;
 use crate::values::{as_count, as_date, as_flag, mailbox_number};
 use jm_base::{NoMemory, Numbers, Text};
 use jm_json::Json;

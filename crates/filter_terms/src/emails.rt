@@ -1,5 +1,5 @@
 // Whether a condition matches an email (RFC 8621, section 4.4.1).
-ghost use Rattle.std.specs.Prelude.{◌≡◌, ◌==◌, not};
+ghost use Rattle.std.specs.Prelude.{◌≡◌, ◌==◌};
 ghost use Rattle.std.specs.List.{list_all, list_any};
 ghost use Rattle.mail_counts.specs.Counts.{has_keyword, is_in};
 ghost use Rattle.mail_records.specs.Contents.{email_at};

@@ -1,5 +1,5 @@
 // Whether a condition matches a mailbox (RFC 8621, section 2.3).
-ghost use Rattle.std.specs.Prelude.{◌≡◌, ◌==◌, not, is_some, Some};
+ghost use Rattle.std.specs.Prelude.{◌≡◌, ◌==◌, is_some, Some};
 ghost use Rattle.method_args.specs.Arguments.{passes};
 ghost use Rattle.filter_terms.specs.MailboxTerms.{has_role};
 ghost use Rattle.filter_terms.specs.Compiled.{mailbox_matches};

@@ -1,5 +1,5 @@
 // What a filter asks about messages (RFC 8621, section 4.4.1).
-ghost use Rattle.std.specs.Prelude.{◌≡◌, ℕ, List, IfOk, option_map};
+ghost use Rattle.std.specs.Prelude.{◌≡◌, ℕ, IfOk, option_map};
 ghost use Rattle.filter_terms.specs.Texts.{MessageTexts, has_field, has_text};
 
 use jm_base::NoMemory;

@@ -1,5 +1,5 @@
 // The values of conditions: dates, identifiers of mailboxes, and tests of header fields.
-ghost use Rattle.std.specs.Prelude.{◌≡◌, ℕ, ◌==◌, option_and_then, option_map, IfOk};
+ghost use Rattle.std.specs.Prelude.{◌≡◌, ℕ, ◌==◌};
 ghost use Rattle.jm_json.specs.Find.{as_text};
 ghost use Rattle.jm_json.specs.Json.{tree_of};
 ghost use Rattle.method_args.specs.Arguments.{as_count, as_flag, passes};

@@ -1,11 +1,11 @@
-use Rattle.std.proofs.Common.{◌≡◌, Bool, sym, subst, arith}
+use Rattle.std.proofs.Common.{◌≡◌, sym, subst, arith}
 use Rattle.filter_terms.specs.Compiled.{IsAlwaysMatch}
 use Rattle.filter_terms.specs.Targets.{email_in_thread}
 use Rattle.filter_terms.specs.declared.compiled.Terms.{Terms}
-use Rattle.filter_terms.proofs.Certain.{AllFollow, SomeFollow, all_after_true, all_after_unknown, all_at_false, all_ends, some_after_false, some_after_unknown, some_at_true, some_ends, join_known}
+use Rattle.filter_terms.proofs.Certain.{all_after_true, all_after_unknown, all_at_false, all_ends, some_after_false, some_after_unknown, some_at_true, some_ends, join_known}
 use Rattle.filter_terms.proofs.without_texts.+known.Goals as goal
 use Rattle.filter_terms.proofs.without_texts.+known.Goals.{all_known-in-Some-true, all_known-in-None, some_known-in-Some-false, some_known-in-None}
-use Rattle.std.proofs.Common.{Option, IfSome}
+use Rattle.std.proofs.Common.{IfSome}
 
 pub all_known-returns-in-Some-false : goal.all_known-returns-in-Some-false
 all_known-returns-in-Some-false t c =
