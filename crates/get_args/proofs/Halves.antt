@@ -1,5 +1,5 @@
 -- Tables of names are their halves, one after the other.
-use Rattle.std.proofs.Common.{◌≡◌, ℕ, Bool, true, false, cond, List, Option, Some, None, refl, sym, ap, ◌∙◌}
+use Rattle.std.proofs.Common.{◌≡◌, ℕ, Bool, true, false, cond, List, Option, Some, None, refl, ap, ◌∙◌}
 use Rattle.get_args.specs.NameHalves.{first_field_form, first_form_named, first_own_part_property, first_own_property, last_field_form, last_form_named, last_own_part_property, last_own_property}
 use Rattle.get_args.specs.PropertyNames.{field_form, form_named, or_else, own_part_property, own_property}
 

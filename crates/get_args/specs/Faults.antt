@@ -1,6 +1,6 @@
 -- Which argument a fault blames (RFC 8620, 3.6.2: `invalidArguments`).
 use Rattle.std.specs.Prelude.{◌≡◌, ℕ, List, Option, Some, ⊤}
-use Rattle.get_args.specs.Wanted.{Reading, invalid, asked}
+use Rattle.get_args.specs.Wanted.{Reading, invalid}
 use Rattle.get_args.specs.declared.fault.WantedFault.{WantedFault}
 use Rattle.get_args.specs.declared.fault.WantedFault.TheVariants.{Invalid, NoMemory}
 

@@ -4,7 +4,7 @@ ghost use Rattle.std.specs.List.{list_all};
 ghost use Rattle.mime_lines.specs.Fields;
 ghost use Rattle.get_args.specs.NameHalves.{first_field_form, first_form_named, last_field_form, last_form_named};
 ghost use Rattle.get_args.specs.PropertyNames as Names;
-ghost use Rattle.get_args.specs.PropertyNames.{at_colon, after_name, by_name, address_fields, date_fields, field_asked, field_form, header_named, id_fields, raw_fields, text_fields, url_fields, if_field, in_form};
+ghost use Rattle.get_args.specs.PropertyNames.{at_colon, after_name, address_fields, date_fields, field_asked, field_form, header_named, id_fields, raw_fields, text_fields, url_fields, if_field, in_form};
 ghost use Rattle.get_args.specs.Views.{halves, field_form_of};
 
 use crate::property::HeaderProperty;
