@@ -1,11 +1,9 @@
 // The records that a get finds (RFC 8620, section 5.1).
-ghost use Rattle.std.specs.Prelude.{◌≡◌, ◌≢◌, ℕ, IfOk, MatchOption};
-ghost use Rattle.jm_base.specs.Ids.{IsId, id_text};
-ghost use Rattle.jm_base.specs.declared.identifiers.Id.{Id as IdRecord};
+ghost use Rattle.std.specs.Prelude.{◌≡◌, ◌≢◌, ℕ, IfOk};
 ghost use Rattle.jm_json.specs.Json.{tree_of};
 ghost use Rattle.mail_view.specs.Gets.{reply_tree};
 
-use jm_base::{Id, Kind, NoMemory, Text, read_id, state_text};
+use jm_base::{NoMemory, Text, state_text};
 use jm_json::{Items, Json, Members};
 use std::alloc::Global;
 

@@ -1,8 +1,8 @@
-use Rattle.std.proofs.Common.{◌≡◌, ◌∙◌, subst, ap, ap₂, IfOk, IfErr}
+use Rattle.std.proofs.Common.{◌≡◌, ◌∙◌, subst, ap₂, IfOk, IfErr}
 use Rattle.jm_base.specs.declared.identifiers.Kind.TheVariants.{Mailbox}
 use Rattle.jm_json.specs.Json.{tree_of}
 use Rattle.mail_records.specs.States.{state_of}
-use Rattle.mail_records.specs.Histories.{blobs_of, content_of}
+use Rattle.mail_records.specs.Histories.{content_of}
 use Rattle.state_log.proofs.Agreement.{state_of-log}
 use Rattle.get_calls.specs.Faults.{GetFails}
 use Rattle.mail_view.specs.Gets.{get_mailboxes, got}

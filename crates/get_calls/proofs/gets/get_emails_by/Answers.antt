@@ -1,8 +1,8 @@
 use Rattle.std.proofs.Common.{◌≡◌, ℕ, List, length, ◌≤◌, ◌∙◌, subst, sym, ap, map, option_map, Option, Some, false}
-use Rattle.mail_view.specs.Gets.{Got, got, got_unless, get_records, emails_by}
+use Rattle.mail_view.specs.Gets.{got, got_unless, emails_by}
 use Rattle.mail_view.specs.Emails.{email_named, email_view}
 use Rattle.method_args.specs.declared.TheConstants.{MAX_OBJECTS_PER_CALL}
-use Rattle.mail_view.specs.Records.{asked_records, asked_count}
+use Rattle.mail_view.specs.Records.{asked_count}
 use Rattle.get_args.specs.Wanted.{wanted_by}
 use Rattle.get_args.specs.Selection.{invalid_selection}
 use Rattle.get_calls.proofs.Answered.{answered, refused_first, refused_wanted, too_many}

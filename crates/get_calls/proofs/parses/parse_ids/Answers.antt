@@ -1,9 +1,8 @@
-use Rattle.std.proofs.Common.{◌≡◌, ℕ, List, length, ◌≤◌, ◌∙◌, subst, sym, ap, map, Some, true}
+use Rattle.std.proofs.Common.{◌≡◌, ℕ, List, length, ◌≤◌, ◌∙◌, subst, sym, ap, map}
 use Rattle.std.proofs.lemmas.List.{length-map}
 use Rattle.method_args.specs.declared.TheConstants.{MAX_OBJECTS_PER_CALL}
 use Rattle.mail_view.specs.Gets.{got}
-use Rattle.mail_view.specs.Parses.{parse_asked, parsed_member}
-use Rattle.mail_view.specs.Records.{first_mentions}
+use Rattle.mail_view.specs.Parses.{parse_asked}
 use Rattle.get_calls.proofs.Parsed.{parsed}
 use Rattle.get_calls.proofs.parses.parse_ids.Goals as goal
 
