@@ -1,11 +1,11 @@
 -- What each call of a copy keeps, the whole copy keeps.
-use Rattle.std.proofs.Common.{◌≡◌, ◌⊎◌, inl, inr, Bool, cond, Option, Some, None, Result, Ok, Err, sym, subst}
+use Rattle.std.proofs.Common.{◌≡◌, ◌⊎◌, inl, inr, Option, Some, None, Result, Ok, Err, sym, subst}
 use Rattle.jm_json.specs.Call.{Call as Invocation}
 use Rattle.jm_json.specs.declared.invocation.Replied.{Replied}
 use Rattle.account_book.specs.declared.asks.Call.{Call}
 use Rattle.account_book.specs.declared.asks.Carried.{Carried}
 use Rattle.account_book.specs.declared.plans.Out.{Out}
-use Rattle.account_hall.specs.Copies.{CopySteps, HasBegun, HasFetched, HasPlaced, IsCopied, IsFetchedSo, IsFollowed, IsPlaced, IsPlacedSo, IsSetAsked, carried_in, replied_in, set_after}
+use Rattle.account_hall.specs.Copies.{CopySteps, HasBegun, HasFetched, IsCopied, IsFetchedSo, IsFollowed, IsPlaced, IsPlacedSo, IsSetAsked, carried_in, replied_in, set_after}
 use Rattle.hall_port.proofs.Through.{by_cond}
 
 module _ {S : Type 0} (c : CopySteps S) (K : S → S → Type 0) (stay : (s : S) → K s s) (go : (s m s' : S) → K s m → K m s' → K s s')

@@ -1,9 +1,7 @@
 // A port over a hall of accounts, with a session of the hall.
-ghost use Rattle.std.specs.Prelude.{◌≡◌, ◌≢◌, ◌⊎◌, ◌<◌, ◌≤◌, ◌∷◌, [], IfOk, OnErr, length, option_map};
-ghost use Rattle.jm_base.specs.declared.utc_dates.TheConstants.{LAST_TIMESTAMP};
+ghost use Rattle.std.specs.Prelude.{◌≡◌, ◌≢◌, ◌⊎◌, ◌<◌, ◌≤◌, ◌∷◌, [], IfOk, OnErr, length};
 ghost use Rattle.jm_json.specs.Invocations.{call_of};
 ghost use Rattle.account_hall.specs.Halls.{AreOf};
-ghost use Rattle.server_users.specs.declared.users.UserAccount.{UserAccount as TheAccount};
 ghost use Rattle.hall_port.specs.Steps.{HasBegunTo, HasStopped, IsAsked, IsCopied, IsPerformed, IsRead, IsUploaded};
 
 use crate::asking::Asks;

@@ -1,6 +1,5 @@
 // Serving a connection over a hall.
 ghost use Rattle.std.specs.Prelude.{◌≡◌, ◌<◌, ◌≤◌, IfOk, OnErr, length};
-ghost use Rattle.jm_base.specs.declared.utc_dates.TheConstants.{LAST_TIMESTAMP};
 ghost use Rattle.account_hall.specs.Copies.{HasBegunCopy, IsCopy};
 ghost use Rattle.account_hall.specs.Halls.{AreOf};
 ghost use Rattle.account_hall.specs.Sessions.{IsLook};

@@ -1,11 +1,11 @@
 // The account that a call names, or the error by the accounts that it names.
-ghost use Rattle.std.specs.Prelude.{◌≡◌, ◌<◌, IfErr, IfOk, IfSome, Ok as TheOk, Err as TheErr, length, option_map, Option, List, ℕ};
+ghost use Rattle.std.specs.Prelude.{◌≡◌, ◌<◌, IfErr, IfOk, Ok as TheOk, Err as TheErr, option_map, Option, ℕ};
 ghost use Rattle.std.specs.List.{AllByRecursion};
 ghost use Rattle.jm_json.specs.Json.{tree_of};
 ghost use Rattle.jm_json.specs.Invocations.{call_of};
 ghost use Rattle.jmap_http.specs.Targets.{account_with};
 ghost use Rattle.server_users.specs.Configuration.{IsNumbered};
-ghost use Rattle.hall_port.specs.Targets.{accounts_of, argument_in, from_found, from_named, is_change, is_copy, source_of, target_of, to_found, to_named};
+ghost use Rattle.hall_port.specs.Targets.{accounts_of, argument_in, from_named, is_change, is_copy, source_of, target_of, to_found, to_named};
 
 use jm_json::{Invocation, Json};
 use method_args::read_text;
