@@ -1,5 +1,5 @@
 -- A text of plain characters is one address.
-use Rattle.std.proofs.Common.{◌≡◌, ℕ, suc, ◌<◌, ◌+◌, Bool, true, false, ◌&&◌, ◌||◌, not, cond, eqb, ltb, List, [], ◌∷◌, ◌++◌, length, map, Option, Some, None, refl, sym, ap, ◌∙◌, arith}
+use Rattle.std.proofs.Common.{◌≡◌, ℕ, suc, ◌<◌, ◌+◌, Bool, true, false, ◌&&◌, ◌||◌, not, cond, eqb, ltb, List, [], ◌∷◌, ◌++◌, length, map, Some, None, refl, sym, ap, ◌∙◌, arith}
 use Rattle.std.specs.Prelude.{filter}
 use Rattle.std.specs.List.{list_all, list_any, position_or_len, before_first, flat_map}
 use Rattle.std.specs.Str.{IsUtf8, chars, encode_utf8_all}
@@ -13,9 +13,9 @@ use Rattle.header_forms.specs.declared.address_characters.State.TheVariants.{Out
 use Rattle.header_forms.specs.declared.address_characters.Part.TheVariants.{Plain, Remark, Phrase, Whole}
 use Rattle.header_forms.specs.declared.address.Address.{Address}
 use Rattle.header_forms.specs.declared.address.Group.{Group}
-use Rattle.header_forms.specs.AddressCharacters.{characters_from, address_characters}
-use Rattle.header_forms.specs.Groups.{last, onto, sliced, sign_of, slices_from, entries, entries_from}
-use Rattle.header_forms.specs.Addresses.{in_part, part_text, within_bracket, phrase_of, is_shown, group_of, opens_bracket, has_bracket, email_of, if_some, or_else, comment_name, name_before, opens_comment, last_comment, name_of, address_of, if_address, groups_by, addresses_in}
+use Rattle.header_forms.specs.AddressCharacters.{characters_from}
+use Rattle.header_forms.specs.Groups.{last, onto, sliced, sign_of, slices_from, entries_from}
+use Rattle.header_forms.specs.Addresses.{in_part, part_text, within_bracket, phrase_of, is_shown, group_of, opens_bracket, has_bracket, email_of, if_some, or_else, comment_name, opens_comment, last_comment, name_of, address_of, if_address, groups_by, addresses_in}
 use Rattle.header_forms.specs.PlainAddresses.{is_plain}
 
 pub and_first : (p q : Bool) → (p && q) ≡ true → p ≡ true

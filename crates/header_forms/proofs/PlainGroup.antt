@@ -1,5 +1,5 @@
 -- A group of plain items has their addresses, under its name.
-use Rattle.std.proofs.Common.{◌≡◌, ℕ, ◌<◌, Bool, true, false, ◌&&◌, ◌||◌, not, eqb, List, [], ◌∷◌, ◌++◌, length, map, Option, Some, None, refl, sym, ap, ◌∙◌, append_assoc}
+use Rattle.std.proofs.Common.{◌≡◌, ℕ, ◌<◌, Bool, true, false, ◌&&◌, ◌||◌, not, eqb, List, [], ◌∷◌, ◌++◌, length, map, Some, None, refl, ap, ◌∙◌, append_assoc}
 use Rattle.std.specs.Prelude.{filter}
 use Rattle.std.specs.List.{AllByRecursion, list_all, flat_map}
 use Rattle.std.specs.Str.{chars, encode_utf8_all}
@@ -15,10 +15,10 @@ use Rattle.header_forms.specs.declared.address_characters.Sign.TheVariants.{Comm
 use Rattle.header_forms.specs.declared.address.Address.{Address}
 use Rattle.header_forms.specs.declared.address.Group.{Group}
 use Rattle.header_forms.specs.AddressCharacters.{characters_from}
-use Rattle.header_forms.specs.Groups.{Slices, last, slice, onto, sliced, sign_of, is_open_after, slices_from, Entry, with_item, entries, entries_from}
+use Rattle.header_forms.specs.Groups.{Slices, last, slice, onto, sliced, sign_of, is_open_after, slices_from, Entry, with_item, entries_from}
 use Rattle.header_forms.specs.Addresses.{in_part, phrase_of, address_of, group_of, is_shown, groups_by, groups_in}
 use Rattle.header_forms.specs.PlainAddresses.{is_plain, is_plain_in_group, with_commas, group_text}
-use Rattle.header_forms.proofs.PlainAddress.{IsPlain, ArePlain, and_first, and_second, plain_is, bare, plain_address, address_plain}
+use Rattle.header_forms.proofs.PlainAddress.{ArePlain, and_first, and_second, plain_is, bare, plain_address, address_plain}
 
 -- ---- characters
 

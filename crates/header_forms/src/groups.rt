@@ -5,7 +5,7 @@ ghost use Rattle.header_forms.specs.Addresses.{groups_by, groups_in, addresses_i
 ghost use Rattle.header_forms.specs.Groups.{Slices, last, slice};
 ghost use Rattle.header_forms.specs.GroupSteps.{shown, groups_from};
 
-use crate::address::{Address, Addresses, Group, Groups};
+use crate::address::{Addresses, Group, Groups};
 use crate::address_characters::{AddressCharacter, Part, Sign};
 use crate::address_items::{push_address, read_phrase};
 use crate::address_pieces::{is_open_after, read_piece};

@@ -1,5 +1,5 @@
 // A field's value as a text: as it is, on one line, and with its encoded-words decoded.
-ghost use Rattle.std.specs.Prelude.{◌≡◌, ◌≢◌, ◌<◌, ◌∷◌, [], ◌++◌, ℕ, length, slice_index, IfOk, OnOk, string_bytes};
+ghost use Rattle.std.specs.Prelude.{◌≡◌, ◌≢◌, ◌<◌, ◌∷◌, [], ◌++◌, ℕ, IfOk, OnOk, string_bytes};
 ghost use Rattle.mime_lines.specs.Lines;
 ghost use Rattle.mime_lines.specs.Lines.{unfolded};
 ghost use Rattle.mime_words.specs.Words.{decoded_words};
