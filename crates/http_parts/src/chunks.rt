@@ -1,5 +1,5 @@
 // Reading a body in chunks from a link.
-ghost use Rattle.std.specs.Prelude.{◌≡◌, ◌<◌, ◌≤◌, ◌+◌, ◌++◌, length, IfOk, IfErr, List, ℕ};
+ghost use Rattle.std.specs.Prelude.{◌≡◌, ◌<◌, ◌≤◌, ◌+◌, ◌++◌, length, IfOk, IfErr, ℕ};
 ghost use Rattle.http_parts.specs.Bodies.{BodyInvalid, BodyTooLong, BodyUnfinished, Whole};
 ghost use Rattle.http_parts.specs.Chunks.{chunk_step, Settled, chunked_body};
 ghost use Rattle.http_parts.specs.Parts.{Took, Halts, IsCountBelow, HasStep};

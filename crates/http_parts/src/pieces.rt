@@ -1,7 +1,6 @@
 // Reading the bytes of a link up to the end of a head.
-ghost use Rattle.std.specs.Prelude.{◌≡◌, ◌<◌, ◌≤◌, ◌⊎◌, List, ℕ, ◌++◌, ◌==◌, if◌then◌else◌, length, IfOk, IfErr, OnOk};
-ghost use Rattle.std.specs.Io.KnownBytes.{IsAtEnd};
-ghost use Rattle.jm_edge.specs.Causes.{HasCause, Rose};
+ghost use Rattle.std.specs.Prelude.{◌≡◌, ◌<◌, ◌≤◌, ◌⊎◌, ℕ, ◌++◌, ◌==◌, if◌then◌else◌, length, IfOk, IfErr, OnOk};
+ghost use Rattle.jm_edge.specs.Causes.{Rose};
 ghost use Rattle.http_parts.specs.declared.limits.TheConstants.{MAX_HEAD_BYTES};
 ghost use Rattle.http_parts.specs.Views.{IsHeadAt};
 ghost use Rattle.http_parts.specs.Pieces.{Receives, Gained, Stops};

@@ -1,6 +1,6 @@
 // Reading so many bytes of a link straight into the buffer that is handed on.
-ghost use Rattle.std.specs.Prelude.{◌≡◌, ◌<◌, ◌≤◌, ◌+◌, ◌-◌, ◌++◌, length, take, drop, IfOk, ◌⊎◌, IfErr, OnOk, OnErr, List, ℕ, []};
-ghost use Rattle.std.specs.Io.KnownBytes.{Consumes, IsAtEnd};
+ghost use Rattle.std.specs.Prelude.{◌≡◌, ◌<◌, ◌≤◌, ◌+◌, ◌-◌, ◌++◌, length, take, IfOk, ◌⊎◌, IfErr, OnOk, OnErr, ℕ, []};
+ghost use Rattle.std.specs.Io.KnownBytes.{Consumes};
 ghost use Rattle.jm_edge.specs.Causes.{Rose};
 ghost use Rattle.http_parts.specs.Parts.{Took, Halts, Fills, Moves, IsCountBelow};
 ghost use Rattle.http_parts.specs.declared.limits.TheConstants.{BUFFER_BYTES_LIMIT};
