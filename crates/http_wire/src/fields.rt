@@ -1,8 +1,7 @@
 // What the fields of a head say.
 ghost use Rattle.std.specs.Prelude.{◌≡◌, ◌<◌, ◌∷◌, [], length, MatchOption, IfSome, nat_lt};
-ghost use Rattle.std.specs.List.{list_all, list_any};
 ghost use Rattle.std.specs.Str.{str_eq_ignore_ascii_case};
-ghost use Rattle.http_wire.specs.Fields.{pairs, values_of, is_host_byte, has_host, parts_of, lists_word, is_last, expects_continue};
+ghost use Rattle.http_wire.specs.Fields.{pairs, values_of, lists_word};
 
 use crate::request::HttpField;
 

@@ -1,5 +1,5 @@
 // What the fields of a head say of the length of the body.
-ghost use Rattle.std.specs.Prelude.{◌≡◌, ◌<◌, ◌∷◌, [], List, ℕ, MatchOption, true, false, min, length};
+ghost use Rattle.std.specs.Prelude.{◌≡◌, ◌<◌, ◌∷◌, [], List, ℕ, MatchOption, true, false, min};
 ghost use Rattle.std.specs.Str.Parse.{digits_value};
 ghost use Rattle.http_wire.specs.Fields.{pairs, values_of};
 ghost use Rattle.http_wire.specs.Framings.{Framing, is_number, framing_by, framing_of};
