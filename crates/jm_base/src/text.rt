@@ -1,5 +1,5 @@
 // A text: bytes that are UTF-8.
-ghost use Rattle.std.specs.Prelude.{◌≡◌, IfOk, IfErr, MatchOption, IsUtf8, string_bytes};
+ghost use Rattle.std.specs.Prelude.{◌≡◌, IfOk, MatchOption, IsUtf8, string_bytes};
 
 use crate::NoMemory;
 use std::alloc::Global;
