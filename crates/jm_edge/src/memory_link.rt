@@ -1,9 +1,9 @@
 // A link in memory.
-ghost use Rattle.std.specs.Prelude.{◌≡◌, ◌<◌, ◌≤◌, [], Some, IsTrue, is_err, min, IfOk, OnOk, OnErr, length};
+ghost use Rattle.std.specs.Prelude.{◌≡◌, ◌<◌, ◌≤◌, [], Some, IsTrue, is_err, IfOk, length};
 ghost use Rattle.std.specs.Io.{ReadsAtMost, WritesAtMost};
 ghost use Rattle.std.specs.Io.KnownBytes.{ReadConsumes, WriteAppends};
 ghost use Rattle.jm_edge.specs.Causes.{HasCause};
-ghost use Rattle.jm_edge.specs.Memory.{one_on, is_to_fail, size_at};
+ghost use Rattle.jm_edge.specs.Memory.{one_on, is_to_fail};
 
 use crate::{Failed, Link, MemorySink, MemorySocket, MemorySource, Script, Sink, Source};
 use jm_base::{Bytes, NoMemory, Numbers};

@@ -1,5 +1,5 @@
 // A TCP connection as a link. Its content is not exposed to contracts.
-ghost use Rattle.std.specs.Prelude.{◌≡◌, OnOk, IfOk};
+ghost use Rattle.std.specs.Prelude.{◌≡◌, IfOk};
 
 use crate::{Failed, Link, TcpSocket};
 use jm_base::{Bytes, NoMemory};
