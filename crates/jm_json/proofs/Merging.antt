@@ -1,12 +1,12 @@
 -- Two lists of members put together by their first keys.
-use Rattle.std.proofs.Common.{◌≡◌, ℕ, ◌+◌, ◌<◌, ◌≤◌, zero, suc, Result, Ok, Err, OnOk, List, [], ◌∷◌, ◌++◌, map, length, take, drop, get_or, Option, Some, None, MatchOption, Less, Equal, Greater, Ordering, append-nil, refl, sym, ap, ◌∙◌, subst, arith}
+use Rattle.std.proofs.Common.{◌≡◌, ℕ, ◌+◌, ◌<◌, ◌≤◌, zero, suc, List, [], ◌∷◌, ◌++◌, map, length, drop, get_or, Option, Some, None, MatchOption, Less, Equal, Greater, Ordering, append-nil, refl, sym, ap, ◌∙◌, subst, arith}
 use Rattle.std.specs.Ordering.{nat_cmp, ordering_reverse}
 use Rattle.std.specs.Cmp.Lexicographic.{slice_cmp, nat_list_cmp_total}
 use Rattle.std.specs.List.Sorted.{IsStrictlySortedBy}
 use Rattle.jm_json.specs.Tree.{Tree, null}
 use Rattle.jm_json.specs.Order.{KeysRise, put, put_all}
 use Rattle.jm_json.specs.KeyIndices.{AllBelow, AllAbove, IsKeyIndex}
-use Rattle.jm_json.specs.declared.tree.KeyIndex.TheVariants.{Held, New}
+use Rattle.jm_json.specs.declared.tree.KeyIndex.TheVariants.{Held}
 use Rattle.jm_json.specs.FirstMembers.{first_order}
 use Rattle.jm_json.specs.Json.{member_of}
 use Rattle.jm_json.specs.declared.tree.Member.{Member}

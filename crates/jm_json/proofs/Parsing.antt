@@ -10,7 +10,7 @@ use Rattle.json.specs.Token.{Token}
 use Rattle.json.specs.Json as json
 use Rattle.json.specs.Json.{Parse, parse_map, after_end_array, read_key, items, members}
 use Rattle.json.proofs.Grammar.{items_end, items_more, members_end, members_more}
-use Rattle.serde_json.specs.Data.{Data, Items, no_items, item, Members, no_members, member}
+use Rattle.serde_json.specs.Data.{Items, no_items, item, Members, no_members, member}
 use Rattle.serde_json.specs.Data as value
 use Rattle.serde_json.specs.Read.{of_json, of_items, of_members}
 use Rattle.jm_json.specs.Tree.{Tree, trees_of, fields_of}

@@ -1,5 +1,5 @@
 // Changes a tree by a patch (RFC 8620, section 5.3).
-ghost use Rattle.std.specs.Prelude.{◌≡◌, ◌<◌, ◌≤◌, ◌&&◌, ◌||◌, [], ◌∷◌, ◌++◌, true, Some, None, map, length, is_some, not, option_map, option_and_then, drop, IfOk, IfSome, OnOk, MatchResult, MatchOption};
+ghost use Rattle.std.specs.Prelude.{◌≡◌, ◌<◌, ◌≤◌, ◌&&◌, ◌||◌, [], ◌∷◌, ◌++◌, true, Some, None, map, length, is_some, not, option_map, drop, IfOk, IfSome, OnOk, MatchResult, MatchOption};
 ghost use Rattle.jm_json.specs.Json.{tree_of, member_of};
 ghost use Rattle.jm_json.specs.Find.{as_object, find};
 ghost use Rattle.jm_json.specs.Order.{KeysRise};

@@ -1,7 +1,7 @@
 // Reads JSON bytes (RFC 8259) as a tree.
-ghost use Rattle.std.specs.Prelude.{◌≡◌, ◌∷◌, ◌++◌, [], Some, None, IfOk, IfErr, OnErr, OnOk, MatchResult, MatchOption, IsUtf8, decimal, map, pos, negsuc, int_lt, false};
+ghost use Rattle.std.specs.Prelude.{◌≡◌, ◌∷◌, ◌++◌, [], Some, None, IfOk, IfErr, OnOk, MatchResult, MatchOption, decimal, false};
 ghost use Rattle.std.specs.Prelude.{List, ℕ, true};
-ghost use Rattle.serde_json.specs.Data.{Data, array, object};
+ghost use Rattle.serde_json.specs.Data.{array, object};
 ghost use Rattle.jm_json.specs.Reading as reading;
 ghost use Rattle.jm_json.specs.Reading.{reading_of};
 ghost use Rattle.jm_json.specs.Causes.{IsCauseOf};
