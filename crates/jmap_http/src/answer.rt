@@ -1,12 +1,12 @@
 // The response to one request.
-ghost use Rattle.std.specs.Prelude.{◌≡◌, ◌≤◌, ◌⊎◌, IfOk, OnErr, get_or, unwrap_or};
+ghost use Rattle.std.specs.Prelude.{◌≡◌, ◌≤◌, ◌⊎◌, IfOk, OnErr, unwrap_or};
 ghost use Rattle.std.specs.Str.Lossy.{utf8_lossy};
 ghost use Rattle.jm_json.specs.Json.{tree_of};
 ghost use Rattle.jmap_http.specs.Authorization.{field_value};
 ghost use Rattle.jm_base.specs.declared.utc_dates.TheConstants.{LAST_TIMESTAMP};
 ghost use Rattle.http_wire.specs.Fields.{pairs};
 ghost use Rattle.jmap_http.specs.Steps.{steps_of};
-ghost use Rattle.jmap_http.specs.Responses.{blob_response, host_of, session_response, stored_tree, upload_media, upload_response, HasBegunApi, HasBegunBlob, HasBegunOf, HasBegunRequest, HasBegunResource, HasBegunUpload, IsApiResponse, IsBegun, IsBlobResponse, IsResponse, IsResourceResponse, IsResponseOf, IsUploadResponse};
+ghost use Rattle.jmap_http.specs.Responses.{blob_response, session_response, stored_tree, upload_response, HasBegunApi, HasBegunBlob, HasBegunOf, HasBegunRequest, HasBegunResource, HasBegunUpload, IsApiResponse, IsBegun, IsBlobResponse, IsResponse, IsResourceResponse, IsResponseOf, IsUploadResponse};
 ghost use Rattle.jmap_http.specs.Targets.{resource_of};
 ghost use Rattle.jmap_http.specs.Views.{asked, resource_as};
 

@@ -1,6 +1,6 @@
 // The media types of blobs (RFC 8620, section 6.2; RFC 9110, section 8.3.1).
 ghost use Rattle.std.specs.Prelude.{◌≡◌, IfOk, option_map};
-ghost use Rattle.std.specs.List.{list_all, list_any};
+ghost use Rattle.std.specs.List.{list_all};
 ghost use Rattle.httparse.specs.Grammar.{is_token, is_token_byte};
 ghost use Rattle.jmap_http.specs.Targets.{is_media_type, is_token_after, media_of};
 
