@@ -1,5 +1,5 @@
 // The accounts of a server are opened and closed.
-ghost use Rattle.std.specs.Prelude.{◌≡◌, ◌≤◌, ◌∷◌, [], reverse, List, IfErr, IfOk, OnOk, length, map, vec_capacity, vec_len};
+ghost use Rattle.std.specs.Prelude.{◌≡◌, ◌≤◌, ◌∷◌, [], reverse, List, IfErr, IfOk, OnOk, length, map, vec_capacity};
 ghost use Rattle.std.specs.List.{AllByRecursion};
 ghost use Rattle.account_hall.specs.Building.{IsFresh};
 ghost use Rattle.account_hall.specs.Halls.{AreOf, entries_of};
