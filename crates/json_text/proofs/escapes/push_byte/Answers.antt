@@ -1,4 +1,4 @@
-use Rattle.std.proofs.Common.{◌≡◌, ◌++◌, sym, ap, ◌∙◌, arith}
+use Rattle.std.proofs.Common.{◌≡◌, ◌++◌, ap, ◌∙◌, arith}
 use Rattle.json.specs.Print.{escape_letter}
 use Rattle.json_text.proofs.Bytes.{short_escape, no_escape}
 use Rattle.json_text.proofs.escapes.push_byte.Goals as goal
