@@ -1,7 +1,5 @@
 -- What the log of an account answers is what its history says.
 use Rattle.std.proofs.Common.{◌≡◌, Ok, Err, Result, IfOk, IfErr}
-use Rattle.jm_json.specs.Tree.{Tree}
-use Rattle.jm_base.specs.declared.identifiers.Kind.{Kind}
 use Rattle.mail_records.specs.Edits.{AllFit}
 use Rattle.mail_records.specs.Histories.{History, edits_of}
 use Rattle.state_log.specs.Logs.{IsLogOf, Notes}

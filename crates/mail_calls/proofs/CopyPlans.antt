@@ -1,5 +1,5 @@
 -- The plans of both sides of a copy, from what their functions returned.
-use Rattle.std.proofs.Common.{◌≡◌, ℕ, List, [], Option, Some, None, Result, Ok, Err, IfOk, refl, sym, ap, ◌∙◌}
+use Rattle.std.proofs.Common.{◌≡◌, ℕ, [], Option, Some, None, Result, Ok, Err, IfOk, refl, sym, ap, ◌∙◌}
 use Rattle.jm_base.specs.declared.memory.NoMemory.{NoMemory}
 use Rattle.jm_json.specs.Call.{Call as Invocation}
 use Rattle.jm_json.specs.Tree.{null}

@@ -1,5 +1,5 @@
 -- Room for one more blob, and the bytes that an identifier names.
-use Rattle.std.proofs.Common.{◌≡◌, ◌↔◌, ℕ, ◌+◌, ◌<◌, ◌≤◌, Bool, true, false, not, ◌&&◌, nat_lt, nat_le, List, length, IsTrue, refl, sym, ap, ap₂, ◌∙◌, subst, arith, ltb-true, leb-true}
+use Rattle.std.proofs.Common.{◌≡◌, ◌↔◌, ℕ, ◌+◌, ◌<◌, ◌≤◌, Bool, true, false, not, ◌&&◌, nat_lt, nat_le, List, length, IsTrue, refl, ap, ap₂, ◌∙◌, arith, ltb-true, leb-true}
 use Rattle.std.proofs.lemmas.Bool.{false≢true, ltb-false, leb-false}
 use Rattle.mail_records.specs.Histories.{History, blobs_of}
 use Rattle.blob_store.specs.declared.limits.TheConstants.{MAX_BLOB_BYTES_PER_ACCOUNT, MAX_BLOBS_PER_ACCOUNT}

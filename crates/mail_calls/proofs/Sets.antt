@@ -1,11 +1,9 @@
 -- The plan of a set, from what its outcome is over the account's content and log.
-use Rattle.std.proofs.Common.{◌≡◌, ℕ, List, [], ◌∷◌, Result, Ok, Err, IfOk, IfErr, codes, refl, sym, ap, ap₂, ◌∙◌, subst}
+use Rattle.std.proofs.Common.{◌≡◌, ℕ, List, [], ◌∷◌, Result, Ok, Err, IfOk, IfErr, refl, sym, ap, ap₂, ◌∙◌, subst}
 use Rattle.jm_base.specs.declared.memory.NoMemory.{NoMemory}
 use Rattle.jm_base.specs.declared.identifiers.Id.{Id}
 use Rattle.jm_json.specs.Call.{Call as Invocation}
 use Rattle.jm_json.specs.Json.{tree_of}
-use Rattle.jm_json.specs.Tree.{Tree}
-use Rattle.jm_json.specs.declared.invocation.Created.{Created}
 use Rattle.mail_records.specs.Contents.{Content}
 use Rattle.mail_records.specs.Histories.{History, Floors, content_of, ids_of}
 use Rattle.mail_counts.specs.declared.plan.SetPlan.{SetPlan}

@@ -1,6 +1,6 @@
 -- The summary of each message is one that can be kept: its links are at most `MAX_LINKS_PER_EMAIL`
 -- and rise, and its date is of the years 0001 to 9999.
-use Rattle.std.proofs.Common.{ltb-true, ◌≤ℤ◌, ◌≡◌, ℕ, ◌+◌, ◌<◌, ◌≤◌, Bool, true, false, cond, List, [], ◌∷◌, length, filter, nat_lt, Option, Some, None, Ordering, Less, Equal, Greater, refl, sym, ap, ◌∙◌, subst, arith, ℤ, pos, negsuc, ◌&&◌, int_le}
+use Rattle.std.proofs.Common.{ltb-true, ◌≤ℤ◌, ◌≡◌, ℕ, ◌+◌, ◌<◌, ◌≤◌, Bool, true, false, cond, List, [], ◌∷◌, length, filter, nat_lt, Option, Some, None, Ordering, Less, Equal, Greater, refl, ap, ◌∙◌, subst, arith, ℤ, pos, ◌&&◌, int_le}
 use Rattle.std.specs.List.{AllByRecursion}
 use Rattle.std.specs.List.Sorted.{IsStrictlySortedBy}
 use Rattle.std.specs.Option.{ForSome, option_and_then}
@@ -12,7 +12,7 @@ use Rattle.jm_base.specs.declared.utc_dates.TheConstants.{FIRST_TIMESTAMP, LAST_
 use Rattle.mail_records.specs.declared.limits.TheConstants.{MAX_LINKS_PER_EMAIL}
 use Rattle.mail_records.specs.Commits.{TextsRise}
 use Rattle.mail_summary.specs.Links.{put, put_if_few, gathered, links, all_ids, is_short}
-use Rattle.mail_summary.specs.Summaries.{summary, sent_by, last_field_value}
+use Rattle.mail_summary.specs.Summaries.{summary, sent_by}
 use Rattle.mime_words.specs.Words.{◌>>=◌}
 use Rattle.std.proofs.lemmas.Int.{ints}
 use Rattle.std.proofs.lemmas.Option.{same_Some}

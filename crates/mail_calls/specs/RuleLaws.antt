@@ -1,29 +1,23 @@
 -- What the rules of mail promise of plans, and of when an account is valid.
-use Rattle.std.proofs.Common.{◌≡◌, ◌↔◌, ℕ, ◌+◌, ◌≤◌, Bool, true, false, List, [], ◌∷◌, ◌++◌, Option, Some, None, length, refl, sym, ap, ap₂, ◌∙◌, subst, ◌^◌, arith, length-append, append-nil, append_assoc}
+use Rattle.std.proofs.Common.{◌≡◌, ◌↔◌, ℕ, ◌+◌, ◌≤◌, Bool, true, false, List, [], ◌∷◌, ◌++◌, Option, Some, None, length, refl, sym, ap₂, ◌∙◌, subst, ◌^◌, arith}
 use Rattle.std.specs.List.{AllByRecursion}
 use Rattle.jm_json.specs.Call.{Call as Invocation}
 use Rattle.jm_json.specs.Invocations.{call_of}
-use Rattle.mail_records.specs.Commits.{IsFormed, IsFormedEdit}
+use Rattle.mail_records.specs.Commits.{IsFormed}
 use Rattle.mail_records.specs.Contents.{Content, NextAtMost}
 use Rattle.mail_records.specs.Edits.{AllFit, IsSmall, after_edits}
-use Rattle.mail_records.specs.Histories.{History, Committed, IsFounded, IsSound, NamesThread, HasOneThread, entry_edits, entry_blobs, edits_of, blobs_of, content_of, end_of, end_after, empty_history, grown, max_floor}
+use Rattle.mail_records.specs.Histories.{History, Committed, IsFounded, IsSound, NamesThread, edits_of, blobs_of, content_of, end_of, end_after, empty_history, grown, max_floor}
 use Rattle.mail_records.specs.declared.edits.Edit.{Edit}
-use Rattle.mail_records.specs.declared.edits.Edit.TheVariants.{PutMailbox}
-use Rattle.mail_records.specs.declared.edits.Commit.{Commit}
 use Rattle.mail_records.specs.declared.edits.Stamp.{Stamp}
 use Rattle.mail_records.specs.declared.records.Email.{Email}
 use Rattle.mail_records.specs.declared.records.Summary.{Summary}
-use Rattle.mail_records.proofs.Growth.{AllFit-append, NextAtMost-after_edits, all_map}
 use Rattle.mail_records.specs.FloorMoves.{moved_up}
 use Rattle.mail_records.proofs.Moved.{IsFounded-moved_up, IsSound-moved_up, blobs_of-moved_up, content_of-moved_up, end_of-moved_up}
-use Rattle.mail_records.proofs.Prefixes.{IsFounded-empty, IsFounded-grown_by, IsSound-empty, edits_of-grown, content_of-grown, end_of-grown, blobs_of-grown}
+use Rattle.mail_records.proofs.Prefixes.{IsFounded-empty, IsSound-empty}
 use Rattle.mail_summary.specs.Summaries.{summary}
-use Rattle.mail_counts.specs.Derived.{LeavesEmails}
 use Rattle.mail_counts.specs.Tidy.{IsTidy}
 use Rattle.mail_counts.proofs.Growth.{IsTidy-empty}
-use Rattle.mail_counts.proofs.Kept.{emails-after_edits}
 use Rattle.record_codec.specs.Sizes.{edit_bytes}
-use Rattle.record_codec.proofs.Lengths.{edit_bytes-append}
 use Rattle.blob_store.specs.Blobs.{AreBlobsFew, has_room}
 use Rattle.account_book.specs.Accounts.{without_refusals}
 use Rattle.account_book.specs.Laws.{IsFounded-without_refusals, IsFounded-with_refusals, edits_of-without_refusals, blobs_of-without_refusals, edit_bytes-moved_up}
@@ -45,7 +39,7 @@ use Rattle.mail_calls.specs.Plans.{reading, call_plan, ask_plan, unless_for, fet
 use Rattle.mail_calls.specs.declared.methods.CopyMethod.{CopyMethod}
 use Rattle.mail_calls.specs.declared.methods.CopyMethod.TheVariants.{Emails, Blobs}
 use Rattle.mail_calls.specs.ValidAccounts.{IsWhole}
-use Rattle.mail_calls.specs.ValidAfterCommits.{IsWholeMail, Keeps, grown_whole}
+use Rattle.mail_calls.specs.ValidAfterCommits.{IsWholeMail, grown_whole}
 use Rattle.mail_calls.specs.ValidAfterCalls.{call_keeps}
 use Rattle.plan_promises.specs.Messages.{HasMessage}
 

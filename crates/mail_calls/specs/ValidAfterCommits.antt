@@ -18,9 +18,7 @@ use Rattle.mail_records.specs.Commits.{IsFormedEdit}
 use Rattle.mail_records.specs.Contents.{Content, NextAtMost}
 use Rattle.mail_records.specs.Edits.{AllFit, AllKeepThread, IsSmall, after_edits}
 use Rattle.mail_records.specs.Histories.{History, Committed, edits_of, blobs_of, content_of, end_of, grown}
-use Rattle.mail_records.specs.declared.edits.Edit.{Edit}
 use Rattle.mail_records.specs.declared.edits.Stamp.{Stamp}
-use Rattle.mail_records.specs.declared.records.Email.{Email}
 use Rattle.mail_records.proofs.Growth.{NextAtMost-after_edits, all_map}
 use Rattle.mail_records.proofs.Prefixes.{IsFounded-grown_by, IsSound-committed, edits_of-grown, content_of-grown, end_of-grown, blobs_of-grown}
 use Rattle.mail_summary.specs.Summaries.{summary}

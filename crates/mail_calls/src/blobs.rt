@@ -1,5 +1,5 @@
 // Plans of uploads, and the bytes that identifiers name (RFC 8620, sections 6.1 and 6.2).
-ghost use Rattle.std.specs.Prelude.{◌≡◌, ◌+◌, IfOk, length};
+ghost use Rattle.std.specs.Prelude.{◌≡◌, ◌+◌, IfOk};
 ghost use Rattle.copy_calls.specs.BlobCopies.{bytes_named};
 ghost use Rattle.mail_records.specs.Histories.{blobs_of};
 ghost use Rattle.mail_records.specs.States.{state_of};

@@ -1,7 +1,6 @@
 // Whether an account is valid.
-ghost use Rattle.std.specs.Prelude.{◌≡◌, ◌↔◌, ℕ, List, true, IfOk, IsTrue, MatchOption, ⊤, option_map};
-ghost use Rattle.std.specs.List.{AllByRecursion, list_all};
-ghost use Rattle.jm_base.specs.declared.identifiers.UtcDate.{UtcDate as TheDate};
+ghost use Rattle.std.specs.Prelude.{◌≡◌, ◌↔◌, ℕ, List, true, IfOk, IsTrue, MatchOption, ⊤};
+ghost use Rattle.std.specs.List.{list_all};
 ghost use Rattle.mail_summary.specs.Summaries.{summary};
 ghost use Rattle.mail_calls.specs.MessageTests.{IsSharing, are_same_texts, has_message, is_message, is_same_date, is_same_summary};
 ghost use Rattle.mail_calls.specs.ValidAccounts.{IsWhole};

@@ -1,4 +1,4 @@
-use Rattle.std.proofs.Common.{◌≡◌, ap, ◌∙◌}
+use Rattle.std.proofs.Common.{◌≡◌, ◌∙◌}
 use Rattle.jm_json.specs.Invocations.{call_of}
 use Rattle.jm_json.specs.Json.{tree_of}
 use Rattle.account_book.specs.declared.plans.Out.TheVariants as out

@@ -1,8 +1,8 @@
-use Rattle.std.proofs.Common.{◌≡◌, IfOk, IfErr, ap, subst}
+use Rattle.std.proofs.Common.{◌≡◌, ap, subst}
 use Rattle.jm_json.specs.Invocations.{call_of}
 use Rattle.jm_json.specs.Json.{tree_of}
 use Rattle.mail_counts.specs.Plans.{Ground}
-use Rattle.set_parts.specs.Outcomes.{Outcome, ground_of}
+use Rattle.set_parts.specs.Outcomes.{ground_of}
 use Rattle.email_set.specs.Plans.{email_set_outcome}
 use Rattle.mail_calls.specs.Plans.{IsOutcomeOf, ground_in}
 use Rattle.mail_calls.proofs.Sets.{answer_to, outcome_told, ground_is}

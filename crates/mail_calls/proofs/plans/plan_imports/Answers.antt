@@ -1,4 +1,4 @@
-use Rattle.std.proofs.Common.{◌≡◌, IfOk, IfErr}
+use Rattle.std.proofs.Common.{◌≡◌}
 use Rattle.jm_json.specs.Invocations.{call_of}
 use Rattle.jm_json.specs.Json.{tree_of}
 use Rattle.mail_import.specs.Plans.{import_in}

@@ -1,6 +1,6 @@
 use Rattle.std.proofs.Common.{◌≤◌, sym, ap, ◌∙◌, subst}
 use Rattle.mail_records.specs.Contents.{Content}
-use Rattle.mail_records.specs.Histories.{IsSound, blobs_of, content_of, edits_of}
+use Rattle.mail_records.specs.Histories.{IsSound, edits_of}
 use Rattle.mail_counts.specs.Tidy.{IsTidy}
 use Rattle.record_codec.specs.Sizes.{edit_bytes}
 use Rattle.blob_store.specs.Blobs.{AreBlobsFew}
