@@ -1,5 +1,5 @@
 // The properties of a copy (RFC 8620, section 5.4; RFC 8621, section 4.7).
-ghost use Rattle.std.specs.Prelude.{◌≡◌, ◌<◌, ◌^◌, IfOk, List, Some, codes, option_map};
+ghost use Rattle.std.specs.Prelude.{◌≡◌, ◌<◌, ◌^◌, IfOk, List, Some, codes};
 ghost use Rattle.jm_json.specs.Find.{find};
 ghost use Rattle.jm_json.specs.Json.{tree_of};
 ghost use Rattle.jm_json.specs.declared.invocation.Created.{Created as TheCreated};
