@@ -1,18 +1,16 @@
 -- What the derived edits make of a content: they fit one after the other, touched threads list their emails, and the counts of
 -- mailboxes change.
-use Rattle.std.proofs.Common.{◌≡◌, ℕ, ◌+◌, ◌<◌, ◌≤◌, Bool, true, false, ◌||◌, ◌&&◌, not, cond, eqb, ltb, List, [], ◌∷◌, ◌++◌, map, filter, length, Option, Some, None, is_some, refl, sym, ap, ap₂, ◌∙◌, subst, arith, ⊎_elim, eqb-true, eq-eqb, le-ltb, ne_eqb}
-use Rattle.std.specs.List.{AllByRecursion, flat_map, list_any}
-use Rattle.std.specs.List.Sorted.{IsStrictlySortedBy}
-use Rattle.std.specs.Ordering.{nat_cmp}
-use Rattle.std.proofs.lemmas.Bool.{cases_Bool, true≢false, eqb-false, ltb-true, ltb-false}
-use Rattle.mail_records.specs.Tables.{IsTable, lookup, put, without}
+use Rattle.std.proofs.Common.{◌≡◌, ℕ, ◌+◌, ◌<◌, ◌≤◌, Bool, true, false, ◌||◌, ◌&&◌, not, cond, eqb, ltb, List, [], ◌∷◌, ◌++◌, map, filter, Option, Some, None, is_some, refl, sym, ap, ap₂, ◌∙◌, subst, arith, ⊎_elim, eqb-true, eq-eqb, le-ltb, ne_eqb}
+use Rattle.std.specs.List.{AllByRecursion, flat_map}
+use Rattle.std.proofs.lemmas.Bool.{cases_Bool, true≢false}
+use Rattle.mail_records.specs.Tables.{IsTable, lookup, put}
 use Rattle.mail_records.specs.Contents.{Content, mailbox_at, mailbox_number, thread_at, thread_number}
 use Rattle.mail_records.specs.Edits.{after_edit, after_edits, AllFit, IsSmall}
 use Rattle.mail_records.specs.declared.records.Mailbox.{Mailbox}
 use Rattle.mail_records.specs.declared.records.Email.{Email}
 use Rattle.mail_records.specs.declared.records.Thread.{Thread}
 use Rattle.mail_records.specs.declared.edits.Edit.{Edit}
-use Rattle.mail_records.specs.declared.edits.Edit.TheVariants.{PutMailbox, PutThread, DropThread}
+use Rattle.mail_records.specs.declared.edits.Edit.TheVariants.{PutMailbox, PutThread}
 use Rattle.mail_records.proofs.Tables.{lookup-put_same, lookup-put_other, lookup-without_other, lookup-without_same}
 use Rattle.mail_records.proofs.Growth.{after_edits-append, AllFit-append}
 use Rattle.mail_records.proofs.KeyTables.{lookup_number}
@@ -22,7 +20,6 @@ use Rattle.mail_counts.specs.Derived.{LeavesEmails}
 use Rattle.mail_counts.specs.DerivedEdits.{are_equal_counts, count_edits, counts_after, counts_between, counts_over, derived_from, edits_of_thread, own_counts, put_counts, same_numbers, thread_edits, with_counts}
 use Rattle.mail_counts.specs.TidyBut.{AreInTurn}
 use Rattle.mail_counts.specs.Touched.{is_one_of, list_of_thread}
-use Rattle.mail_counts.proofs.Covers.{table_of_numbers}
 
 -- ---- none of them is of an email, and all are small
 

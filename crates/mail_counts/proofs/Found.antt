@@ -1,16 +1,15 @@
 -- The edits that are found through touched threads, emails and mailboxes are those that follow.
 use Rattle.std.proofs.Common.{◌≡◌, ℕ, Bool, true, false, ◌||◌, cond, eqb, List, [], ◌∷◌, ◌++◌, map, filter, length, Some, refl, sym, ap, ap₂, ◌∙◌, subst, ⊎_elim, eqb-true, eq-eqb}
-use Rattle.std.specs.List.{flat_map, list_any}
+use Rattle.std.specs.List.{flat_map}
 use Rattle.std.proofs.lemmas.Bool.{cases_Bool, true≢false}
 use Rattle.mail_records.specs.Commits.{NumbersRise}
-use Rattle.mail_records.specs.Contents.{AreTables, Content, email_at, email_number, mailbox_at, mailbox_number, thread_at}
+use Rattle.mail_records.specs.Contents.{AreTables, Content, email_number, mailbox_number, thread_at}
 use Rattle.mail_records.specs.Edits.{after_edits}
 use Rattle.mail_records.specs.Tables.{IsTable, lookup}
-use Rattle.mail_records.specs.declared.records.Mailbox.{Mailbox}
 use Rattle.mail_records.specs.declared.records.Email.{Email}
 use Rattle.mail_records.specs.declared.edits.Edit.{Edit}
 use Rattle.mail_counts.specs.DerivedEdits.{count_edits, counts_after, counts_over, derived_edits, derived_from, edits_of_thread, own_counts, put_counts, thread_edits}
-use Rattle.mail_counts.specs.Members.{Tallied, member_cmp, member_group, of_group, tallied_counts, thread_members}
+use Rattle.mail_counts.specs.Members.{Tallied, member_cmp, member_group, tallied_counts, thread_members}
 use Rattle.mail_counts.specs.Overlaid.{all_listed, emails_among, emails_named, if_of_threads}
 use Rattle.mail_counts.specs.Steps.{counted_edits, listed_edits}
 use Rattle.mail_counts.specs.Touched.{emails_of, is_one_of, rising, sorted_once, touched_threads}

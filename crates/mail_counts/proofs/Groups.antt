@@ -1,6 +1,6 @@
 -- Members of groups, and how many of them a mailbox has: its counts.
-use Rattle.std.proofs.Common.{◌≡◌, ℕ, pos, ◌+◌, ◌<◌, ◌≤◌, Bool, true, false, ◌||◌, ◌&&◌, not, cond, eqb, List, [], ◌∷◌, ◌++◌, map, filter, length, suc, refl, sym, ap, ap₂, ◌∙◌, subst, arith, ⊎_elim, IsPermutation, eqb-true, ne_eqb}
-use Rattle.std.specs.List.{AllByRecursion, flat_map, list_any}
+use Rattle.std.proofs.Common.{◌≡◌, ℕ, pos, ◌+◌, ◌<◌, ◌≤◌, Bool, true, false, ◌||◌, ◌&&◌, not, cond, eqb, List, [], ◌∷◌, ◌++◌, map, filter, length, refl, sym, ap, ap₂, ◌∙◌, subst, arith, ⊎_elim, IsPermutation, eqb-true, ne_eqb}
+use Rattle.std.specs.List.{AllByRecursion, list_any}
 use Rattle.std.specs.List.Sorted.{IsStrictlySortedBy}
 use Rattle.std.specs.declared.cmp.Ordering.{Ordering}
 use Rattle.std.specs.declared.cmp.Ordering.TheVariants.{Less, Equal, Greater}
@@ -16,7 +16,7 @@ use Rattle.mail_records.proofs.KeyTables.{then_first, then_second, nat_equal}
 use Rattle.mail_records.proofs.Tables.{All-kept}
 use Rattle.mail_counts.specs.Counts.{each_once, email_thread, emails_in, is_in, is_unread, is_unread_thread, threads_in}
 use Rattle.mail_counts.specs.DerivedEdits.{counts_over}
-use Rattle.mail_counts.specs.Members.{Tallied, is_of_group, mailbox_member, mailbox_members, member_cmp, member_group, member_number, of_group, tallied_counts, thread_member, thread_members}
+use Rattle.mail_counts.specs.Members.{Tallied, is_of_group, mailbox_member, mailbox_members, member_cmp, member_number, of_group, tallied_counts, thread_member, thread_members}
 use Rattle.mail_counts.specs.Tidy.{by_received}
 use Rattle.mail_counts.specs.Touched.{emails_of, in_order, is_one_of, list_of_thread, rising, sorted_once}
 use Rattle.mail_counts.specs.declared.members.Member.{Member}

@@ -1,16 +1,11 @@
 -- What edits that are laid over a content make of its records.
-use Rattle.std.proofs.Common.{Bor, MatchOption, option_map, ◌≡◌, ℕ, ◌+◌, ◌<◌, Bool, true, false, ◌||◌, ◌&&◌, cond, eqb, List, [], ◌∷◌, take, drop, length, get_or, Option, Some, None, refl, sym, ap, ap₂, ◌∙◌, subst, ⊎_elim, eqb-true}
-use Rattle.std.specs.List.{list_any}
+use Rattle.std.proofs.Common.{Bor, MatchOption, option_map, ◌≡◌, ℕ, ◌+◌, ◌<◌, Bool, true, false, ◌||◌, ◌&&◌, cond, eqb, List, [], ◌∷◌, Option, Some, None, refl, sym, ap, ◌∙◌, subst, ⊎_elim, eqb-true}
 use Rattle.std.specs.Option.{option_or}
 use Rattle.std.proofs.lemmas.Bool.{cases_Bool, true≢false}
-use Rattle.std.proofs.lemmas.List.{drop_more}
 use Rattle.mail_records.specs.Tables.{lookup, put, without}
 use Rattle.mail_records.specs.Contents.{Content, mailbox_at, email_at, thread_at, mailbox_number, email_number, thread_number}
 use Rattle.mail_records.specs.Edits.{after_edit, after_edits, id_of, kind_of}
-use Rattle.mail_records.specs.States.{is_id, is_kind}
-use Rattle.mail_records.specs.declared.records.Mailbox.{Mailbox}
-use Rattle.mail_records.specs.declared.records.Email.{Email}
-use Rattle.mail_records.specs.declared.records.Thread.{Thread}
+use Rattle.mail_records.specs.States.{is_kind}
 use Rattle.mail_records.specs.declared.edits.Edit.{Edit}
 use Rattle.mail_records.specs.declared.edits.Edit.TheVariants.{PutMailbox, DropMailbox, PutEmail, DropEmail, PutThread, DropThread}
 use Rattle.mail_records.proofs.Tables.{lookup-put_same, lookup-put_other, lookup-without_other, lookup-without_same}

@@ -1,5 +1,5 @@
 -- The emails of a thread in order are all of them, and rise.
-use Rattle.std.proofs.Common.{◌≡◌, ℕ, ◌+◌, ◌<◌, ◌≤◌, Bool, true, false, cond, eqb, List, [], ◌∷◌, ◌++◌, map, filter, length, suc, Some, None, Option, refl, sym, ap, ap₂, ◌∙◌, subst, arith, ⊎_elim, IsPermutation, eqb-true, eq-eqb}
+use Rattle.std.proofs.Common.{◌≡◌, ℕ, ◌+◌, ◌<◌, ◌≤◌, Bool, true, false, cond, eqb, List, [], ◌∷◌, ◌++◌, map, filter, length, Some, refl, sym, ap, ◌∙◌, subst, arith, ⊎_elim, IsPermutation}
 use Rattle.std.specs.List.{AllByRecursion}
 use Rattle.std.specs.List.Sorted.{IsStrictlySortedBy}
 use Rattle.std.specs.declared.cmp.Ordering.{Ordering}
@@ -14,10 +14,9 @@ use Rattle.mail_records.specs.OrderSteps.{put_in}
 use Rattle.mail_records.specs.Tables.{IsTable, lookup}
 use Rattle.mail_records.specs.declared.records.Email.{Email}
 use Rattle.mail_records.proofs.KeyTables.{nat_equal}
-use Rattle.mail_counts.specs.Tidy.{IsListOf, by_received}
+use Rattle.mail_counts.specs.Tidy.{by_received}
 use Rattle.mail_counts.specs.Touched.{in_order, list_of_thread, sorted_once}
-use Rattle.mail_counts.specs.declared.members.Member.{Member}
-use Rattle.mail_counts.proofs.Groups.{received_then, table_kept}
+use Rattle.mail_counts.proofs.Groups.{received_then}
 use Rattle.mail_counts.proofs.Sorted.{all_sorted, rise-sorted_once}
 
 abbrev then_received : Email → Email → Ordering

@@ -1,7 +1,6 @@
 -- What the orders of a content find: the mailboxes with a parent and a name, and those with a role.
-use Rattle.std.proofs.Common.{◌≡◌, ℕ, pos, ◌<◌, Bool, true, false, ◌&&◌, ◌||◌, cond, eqb, List, [], ◌∷◌, map, Option, Some, None, refl, sym, ap, ap₂, ◌∙◌, subst, arith, ⊎_elim, bytes_eq, ne_eqb, eq-eqb}
+use Rattle.std.proofs.Common.{◌≡◌, ℕ, pos, ◌<◌, Bool, true, false, ◌&&◌, ◌||◌, cond, eqb, List, [], ◌∷◌, Option, Some, None, refl, sym, ap, ap₂, ◌∙◌, subst, arith, ⊎_elim, bytes_eq, ne_eqb, eq-eqb}
 use Rattle.std.specs.List.{AllByRecursion, list_any}
-use Rattle.std.specs.declared.cmp.Ordering.{Ordering}
 use Rattle.std.specs.Ordering.{is_eq, nat_cmp}
 use Rattle.std.specs.Option.{option_cmp}
 use Rattle.std.specs.Cmp.{tied_itself, nat_cmp_total}
@@ -10,13 +9,13 @@ use Rattle.std.proofs.lemmas.Bool.{cases_Bool, true≢false, or_cases, eqb-true}
 use Rattle.std.proofs.lemmas.Slice.Eq.{bytes_eq-Decides}
 use Rattle.mail_records.specs.Tables.{IsTable, lookup}
 use Rattle.mail_records.specs.Contents.{Content, mailbox_number}
-use Rattle.mail_records.specs.Orders.{AreChildrenNamed, AreKeys, AreWithRole, Key, has_in, has_key, has_text, is_in_group, key_cmp, key_of, key_of_role, keys_of, name_key, name_keys, named_key, named_owner, role_keys, roled_key, roled_owner}
+use Rattle.mail_records.specs.Orders.{AreChildrenNamed, AreKeys, AreWithRole, Key, has_in, has_key, has_text, is_in_group, key_cmp, key_of_role, keys_of, name_key, name_keys, named_key, named_owner, role_keys, roled_key, roled_owner}
 use Rattle.mail_records.specs.Laws.{named_number, roled_number}
 use Rattle.mail_records.specs.declared.records.Mailbox.{Mailbox}
 use Rattle.mail_records.specs.declared.entries.Named.{Named}
 use Rattle.mail_records.specs.declared.entries.Roled.{Roled}
 use Rattle.mail_records.proofs.KeyOrder.{key_total}
-use Rattle.mail_records.proofs.KeyTables.{lookup_number, nat_equal, then_first, then_second}
+use Rattle.mail_records.proofs.KeyTables.{nat_equal, then_first, then_second}
 use Rattle.mail_records.proofs.Unique.{key_equal}
 use Rattle.mail_counts.specs.Tidy.{is_sibling, same_parent, same_role}
 

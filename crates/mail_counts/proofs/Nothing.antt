@@ -1,7 +1,7 @@
 -- Mailboxes whose counts don't change.
-use Rattle.std.proofs.Common.{◌≡◌, ℕ, ◌-◌, Bool, true, false, ◌||◌, ◌&&◌, cond, eqb, List, [], ◌∷◌, ◌++◌, map, filter, length, refl, sym, ap, ap₂, ◌∙◌, subst, arith, ⊎_elim, eq-eqb, None}
-use Rattle.std.specs.List.{AllByRecursion, flat_map, list_any}
-use Rattle.std.proofs.lemmas.Bool.{cases_Bool, true≢false}
+use Rattle.std.proofs.Common.{◌≡◌, ℕ, ◌-◌, Bool, true, false, ◌||◌, ◌&&◌, cond, eqb, List, [], ◌∷◌, ◌++◌, map, filter, length, refl, ap, ap₂, ◌∙◌, arith, ⊎_elim, eq-eqb}
+use Rattle.std.specs.List.{AllByRecursion, flat_map}
+use Rattle.std.proofs.lemmas.Bool.{true≢false}
 use Rattle.std.proofs.lemmas.List.{nil_from_length}
 use Rattle.mail_records.specs.Contents.{Content}
 use Rattle.mail_records.specs.Edits.{after_edits}
@@ -12,7 +12,7 @@ use Rattle.mail_records.specs.declared.edits.Edit.TheVariants.{PutMailbox, DropM
 use Rattle.mail_counts.specs.Counts.{each_once, email_thread, emails_in, is_unread, is_unread_thread}
 use Rattle.mail_counts.specs.Derived.{LeavesEmails}
 use Rattle.mail_counts.specs.DerivedEdits.{are_equal_counts, count_after, count_edits, counts_after, counts_over, derived_edits, derived_from, own_counts, put_counts, with_counts}
-use Rattle.mail_counts.specs.Members.{is_of_group, member_group, of_group}
+use Rattle.mail_counts.specs.Members.{member_group, of_group}
 use Rattle.mail_counts.specs.Touched.{emails_of, is_one_of, rising, threads_named, touched_threads}
 use Rattle.mail_counts.specs.declared.mailbox_counts.MailboxCounts.{MailboxCounts}
 use Rattle.mail_counts.specs.declared.members.Member.{Member}

@@ -1,9 +1,8 @@
 -- The counts of a mailbox, split by whether an email's thread is one of some threads, and what edits of emails of these leave
 -- of the others.
 use Rattle.std.proofs.Common.{◌≡◌, ℕ, ◌+◌, ◌-◌, ◌^◌, ◌<◌, ◌≤◌, min, Bool, true, false, ◌||◌, ◌&&◌, not, cond, eqb, leb, List, [], ◌∷◌, map, filter, length, Option, Some, None, refl, sym, ap, ap₂, ◌∙◌, subst, arith, ⊎_elim, eqb-true, eq-eqb, ne_eqb}
-use Rattle.std.specs.List.{AllByRecursion, list_any}
+use Rattle.std.specs.List.{AllByRecursion}
 use Rattle.std.proofs.lemmas.Bool.{cases_Bool, leb-false, leb-true, true≢false}
-use Rattle.std.proofs.lemmas.List.{length-map}
 use Rattle.std.proofs.Math.Nat.{min-eq_left}
 use Rattle.mail_records.specs.Tables.{IsTable, lookup}
 use Rattle.mail_records.specs.Contents.{Content, AreTables, email_number, email_at}
@@ -15,8 +14,7 @@ use Rattle.mail_records.proofs.Growth.{AreTables-after_edit}
 use Rattle.mail_records.proofs.Tables.{filter-put, filter-without}
 use Rattle.mail_counts.specs.Counts.{each_once, email_thread, emails_in, is_in, is_unread, is_unread_thread, threads_in}
 use Rattle.mail_counts.specs.DerivedEdits.{count_after, counts_over}
-use Rattle.mail_counts.specs.Touched.{emails_of, is_one_of, rising, threads_named, touched_threads, with_number}
-use Rattle.mail_counts.specs.declared.mailbox_counts.MailboxCounts.{MailboxCounts}
+use Rattle.mail_counts.specs.Touched.{is_one_of, rising, threads_named, touched_threads, with_number}
 use Rattle.mail_counts.proofs.Groups.{filter-map, filter_swap, once-filter}
 use Rattle.mail_counts.proofs.Sorted.{is_one_of-rising}
 

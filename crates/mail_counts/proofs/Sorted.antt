@@ -1,5 +1,5 @@
 -- Items by an order, each once.
-use Rattle.std.proofs.Common.{◌≡◌, ℕ, ◌+◌, ◌<◌, ◌≤◌, Bool, true, false, ◌||◌, ◌&&◌, cond, eqb, ltb, List, [], ◌∷◌, map, filter, length, get_or, zero, suc, refl, sym, ap, ap₂, ◌∙◌, subst, arith, ⊎_elim, IsPermutation, eq-eqb, ne_eqb}
+use Rattle.std.proofs.Common.{◌≡◌, ℕ, ◌+◌, ◌<◌, ◌≤◌, Bool, true, false, ◌||◌, ◌&&◌, cond, eqb, ltb, List, [], ◌∷◌, map, filter, length, get_or, zero, suc, refl, sym, ap, ap₂, ◌∙◌, arith, ⊎_elim, IsPermutation, eq-eqb, ne_eqb}
 use Rattle.std.specs.List.{AllByRecursion, list_any, dedup, dedup_from}
 use Rattle.std.specs.List.Sorted.{IsBinarySearchResult, IsSorted, IsStrictlySortedBy}
 use Rattle.std.specs.Result.{is_ok}

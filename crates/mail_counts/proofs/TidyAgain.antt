@@ -1,25 +1,22 @@
 -- A tidy content is tidy again with what follows from edits.
-use Rattle.std.proofs.Common.{◌≡◌, ℕ, ◌+◌, ◌^◌, ◌<◌, ◌≤◌, zero, suc, Bool, true, false, not, cond, eqb, List, [], ◌∷◌, ◌++◌, map, filter, length, Option, Some, None, is_some, refl, sym, ap, ap₂, ◌∙◌, subst, arith, ⊎_elim, eqb-true, eq-eqb, ne_eqb, IsPermutation}
+use Rattle.std.proofs.Common.{◌≡◌, ℕ, ◌+◌, ◌^◌, ◌<◌, ◌≤◌, zero, suc, Bool, true, false, not, cond, eqb, List, [], ◌∷◌, ◌++◌, map, filter, length, Option, Some, None, is_some, refl, sym, ap, ◌∙◌, subst, arith, ⊎_elim, eqb-true, eq-eqb, IsPermutation}
 use Rattle.std.specs.Prelude.{option_and_then}
 use Rattle.std.specs.List.{AllByRecursion, IsDistinct, flat_map, list_any}
-use Rattle.std.specs.Option.{ForSome}
 use Rattle.std.proofs.lemmas.Bool.{cases_Bool, true≢false}
 use Rattle.std.proofs.lemmas.List.{length-map}
 use Rattle.mail_records.specs.Tables.{IsTable, lookup}
-use Rattle.mail_records.specs.Contents.{Content, AreTables, AreNumbered, mailbox_at, mailbox_number, email_at, email_number, thread_at, thread_number}
-use Rattle.mail_records.specs.Edits.{after_edit, after_edits, kind_of, Fits, AllFit}
-use Rattle.mail_records.specs.States.{is_kind}
+use Rattle.mail_records.specs.Contents.{Content, AreTables, AreNumbered, mailbox_at, mailbox_number, email_number, thread_at, thread_number}
+use Rattle.mail_records.specs.Edits.{after_edit, after_edits, AllFit}
 use Rattle.mail_records.specs.declared.records.Mailbox.{Mailbox}
 use Rattle.mail_records.specs.declared.records.Email.{Email}
 use Rattle.mail_records.specs.declared.records.Thread.{Thread}
 use Rattle.mail_records.specs.declared.edits.Edit.{Edit}
 use Rattle.mail_records.specs.declared.edits.Edit.TheVariants.{PutMailbox, DropMailbox, PutEmail, DropEmail, PutThread, DropThread}
-use Rattle.jm_base.specs.declared.identifiers.Kind.TheVariants.{Thread as OfThread}
 use Rattle.mail_records.proofs.Growth.{found, all_map, after_edits-append, AllFit-append, AreTables-after_edits, AreNumbered-after_edits}
 use Rattle.mail_records.proofs.Tables.{All-put, All-kept}
 use Rattle.mail_counts.specs.Counts.{HasCounts, each_once, email_thread, emails_in, is_in, is_unread, is_unread_thread, threads_in}
-use Rattle.mail_counts.specs.Derived.{AllKeepCounts, KeepsCounts}
-use Rattle.mail_counts.specs.DerivedEdits.{counts_between, counts_over, derived_edits, derived_from, thread_edits}
+use Rattle.mail_counts.specs.Derived.{AllKeepCounts}
+use Rattle.mail_counts.specs.DerivedEdits.{counts_between, counts_over, derived_edits, thread_edits}
 use Rattle.mail_counts.specs.Tidy.{AreEmailsTidy, AreMailboxesTidy, AreThreadsTidy, HasRoot, IsListOf, IsPlaced, IsThere, IsTidy, IsTidyEmail, IsWellFormed, ancestor, parent_of, share_name, share_role}
 use Rattle.mail_counts.specs.TidyBut.{AreInTurn, AreMailboxesTidyButCounts, DerivedEditsMakeTidy, IsPlacedBelow, LeaveTidyButThreadsAndCounts, LeavesThreads}
 use Rattle.mail_counts.specs.Touched.{emails_of, in_order, is_one_of, list_of_thread, threads_named, touched_threads}

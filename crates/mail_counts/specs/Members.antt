@@ -5,7 +5,6 @@ use Rattle.std.specs.List.{flat_map}
 use Rattle.std.specs.declared.cmp.Ordering.{Ordering}
 use Rattle.std.specs.Ordering.{ordering_then, nat_cmp, int_cmp}
 use Rattle.mail_records.specs.declared.records.Email.{Email}
-use Rattle.mail_records.specs.Contents.{email_number}
 use Rattle.mail_counts.specs.declared.members.Member.{Member}
 use Rattle.mail_counts.specs.declared.mailbox_counts.MailboxCounts.{MailboxCounts}
 

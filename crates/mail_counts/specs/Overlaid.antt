@@ -2,7 +2,7 @@
 -- content.
 use Rattle.std.specs.Prelude.{ℕ, List, [], ◌∷◌, ◌++◌, Option, Some, None, if◌then◌else◌}
 use Rattle.std.specs.Option.{option_or}
-use Rattle.mail_records.specs.Contents.{email_number, mailbox_number}
+use Rattle.mail_records.specs.Contents.{email_number}
 use Rattle.mail_records.specs.Edits.{id_of}
 use Rattle.mail_records.specs.States.{is_id}
 use Rattle.mail_records.specs.Tables.{lookup}
@@ -10,7 +10,7 @@ use Rattle.mail_records.specs.declared.records.Mailbox.{Mailbox}
 use Rattle.mail_records.specs.declared.records.Email.{Email}
 use Rattle.mail_records.specs.declared.records.Thread.{Thread}
 use Rattle.mail_records.specs.declared.edits.Edit.{Edit}
-use Rattle.mail_records.specs.declared.edits.Edit.TheVariants.{PutMailbox, DropMailbox, PutEmail, DropEmail, PutThread, DropThread}
+use Rattle.mail_records.specs.declared.edits.Edit.TheVariants.{PutMailbox, PutEmail, DropEmail, PutThread}
 use Rattle.jm_base.specs.declared.identifiers.Kind.{Kind}
 use Rattle.mail_counts.specs.Touched.{is_one_of}
 

@@ -1,15 +1,15 @@
 // The edits that follow from others: of threads whose emails changed, and of mailboxes whose counts
 // did.
-ghost use Rattle.std.specs.Prelude.{◌≡◌, ◌++◌, [], ℕ, IfOk, OnOk, length, map, option_map};
+ghost use Rattle.std.specs.Prelude.{◌≡◌, ◌++◌, [], ℕ, IfOk, OnOk, map, option_map};
 ghost use Rattle.std.specs.List.{AllByRecursion, flat_map};
 ghost use Rattle.mail_records.specs.Commits.{NumbersRise};
-ghost use Rattle.mail_records.specs.Contents.{email_number, mailbox_number, thread_at};
+ghost use Rattle.mail_records.specs.Contents.{email_number, mailbox_number};
 ghost use Rattle.mail_records.specs.Edits.{AllFit, IsSmall, after_edits};
 ghost use Rattle.mail_records.specs.Tables.{IsTable};
 ghost use Rattle.mail_counts.specs.CountsFlag.{AreCountsFlagsRight};
 ghost use Rattle.mail_counts.specs.Derived.{AllKeepCounts, AreCounted, IsOfMailbox, LeavesEmails};
 ghost use Rattle.mail_counts.specs.DerivedEdits.{are_equal_counts, count_after, count_edits, counts_after, derived_edits, edits_of_thread, own_counts, put_counts, same_numbers, with_counts};
-ghost use Rattle.mail_counts.specs.Members.{member_cmp, member_group, member_number, of_group, tallied_counts, thread_members};
+ghost use Rattle.mail_counts.specs.Members.{member_cmp, member_group, member_number, of_group, thread_members};
 ghost use Rattle.mail_counts.specs.Overlaid.{all_listed, emails_among, if_of_threads, listed_at};
 ghost use Rattle.mail_counts.specs.Steps.{counted_edits, listed_edits};
 ghost use Rattle.mail_counts.specs.Tidy.{AreThreadsTidy, IsTidy};

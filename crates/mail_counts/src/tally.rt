@@ -1,5 +1,5 @@
 // The counts of mailboxes over some emails, at the cost of these emails alone.
-ghost use Rattle.std.specs.Prelude.{◌≡◌, ◌++◌, ℕ, IfOk, OnOk, bytes_eq, codes, filter, length, map};
+ghost use Rattle.std.specs.Prelude.{◌≡◌, ◌++◌, ℕ, IfOk, OnOk, bytes_eq, filter, map};
 ghost use Rattle.std.specs.List.{list_any};
 ghost use Rattle.mail_records.specs.Commits.{NumbersRise};
 ghost use Rattle.mail_records.specs.Contents.{email_number};
@@ -7,7 +7,7 @@ ghost use Rattle.mail_records.specs.Tables.{IsTable};
 ghost use Rattle.mail_counts.specs.Counts.{email_thread, has_keyword, is_unread};
 ghost use Rattle.mail_counts.specs.DerivedEdits.{are_equal_counts, counts_over, own_counts};
 ghost use Rattle.mail_counts.specs.Members.{mailbox_member, mailbox_members, member_group, tallied_counts};
-ghost use Rattle.mail_counts.specs.Touched.{emails_of, is_one_of, rising};
+ghost use Rattle.mail_counts.specs.Touched.{emails_of, is_one_of};
 
 use crate::MailboxCounts;
 use crate::following::{are_equal_counts, own_counts};

@@ -1,9 +1,9 @@
 // The JSON view of a mailbox (RFC 8621, section 2).
-ghost use Rattle.std.specs.Prelude.{◌≡◌, min, IfOk, OnOk, OnErr, Some, codes};
+ghost use Rattle.std.specs.Prelude.{◌≡◌, min, IfOk, OnOk, Some, codes};
 ghost use Rattle.jm_json.specs.Json.{tree_of};
 ghost use Rattle.jm_json.specs.Order.{put};
 ghost use Rattle.jm_json.specs.Tree.{boolean, text};
-ghost use Rattle.mail_counts.specs.Views.{count_tree, mailbox_id, mailbox_members, parent_tree, rights_members, rights_tree, role_tree};
+ghost use Rattle.mail_counts.specs.Views.{count_tree, mailbox_members, parent_tree, rights_members, rights_tree, role_tree};
 
 use crate::limits::MAX_JSON_INTEGER;
 use jm_base::{Id, Kind, NoMemory, Text, id_text};

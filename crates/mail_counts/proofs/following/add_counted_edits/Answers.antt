@@ -1,4 +1,4 @@
-use Rattle.std.proofs.Common.{◌≡◌, ◌++◌, OnOk, ap, subst, ◌∙◌}
+use Rattle.std.proofs.Common.{◌≡◌, ◌++◌, OnOk, subst, ◌∙◌}
 use Rattle.mail_records.specs.Contents.{mailbox_number}
 use Rattle.mail_counts.specs.Overlaid.{all_listed}
 use Rattle.mail_counts.specs.Steps.{counted_edits}

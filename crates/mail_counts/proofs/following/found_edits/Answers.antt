@@ -6,7 +6,7 @@ use Rattle.mail_counts.specs.DerivedEdits.{count_edits}
 use Rattle.mail_counts.specs.Members.{member_cmp, thread_members}
 use Rattle.mail_counts.specs.Overlaid.{emails_among}
 use Rattle.mail_counts.specs.Steps.{listed_edits}
-use Rattle.mail_counts.specs.Touched.{emails_of, sorted_once}
+use Rattle.mail_counts.specs.Touched.{sorted_once}
 use Rattle.mail_counts.proofs.Found.{HasAll, all_found, among_after, among_before, found_before, found_now}
 use Rattle.mail_counts.proofs.following.found_edits.Goals as goal
 

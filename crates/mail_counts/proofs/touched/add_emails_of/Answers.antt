@@ -1,4 +1,4 @@
-use Rattle.std.proofs.Common.{◌≡◌, ◌⊎◌, inl, true, ◌+◌, drop, map, subst}
+use Rattle.std.proofs.Common.{◌≡◌, ◌⊎◌, true, ◌+◌, drop, map, subst}
 use Rattle.std.proofs.lemmas.List.{drop_all, drop_more}
 use Rattle.mail_records.specs.Orders.{threaded_owner}
 use Rattle.mail_counts.specs.Touched.{is_one_of}
