@@ -1,6 +1,6 @@
 -- The keys of entries next to a table: what they come to as a record is put or dropped, and the parts of them.
-use Rattle.std.proofs.Common.{◌≡◌, ◌≢◌, ℕ, ◌+◌, ◌<◌, ◌≤◌, Bool, true, false, ◌||◌, ◌&&◌, not, cond, eqb, List, [], ◌∷◌, take, drop, map, filter, length, get_or, Option, Some, None, refl, sym, ap, ap₂, ◌∙◌, subst, arith, ⊎_elim, inl, inr, eqb-true, eq-eqb, ne_eqb, ℤ, ◌⊎◌}
-use Rattle.std.specs.List.{AllByRecursion, list_any}
+use Rattle.std.proofs.Common.{◌≡◌, ◌≢◌, ℕ, ◌+◌, ◌<◌, ◌≤◌, Bool, true, false, ◌||◌, ◌&&◌, not, cond, eqb, List, [], ◌∷◌, drop, map, filter, length, get_or, Option, Some, None, refl, sym, ap, ap₂, ◌∙◌, subst, arith, ⊎_elim, inl, inr, eqb-true, ℤ, ◌⊎◌}
+use Rattle.std.specs.List.{AllByRecursion}
 use Rattle.std.specs.List.Sorted.{IsStrictlySortedBy}
 use Rattle.std.specs.declared.cmp.Ordering.{Ordering}
 use Rattle.std.specs.declared.cmp.Ordering.TheVariants.{Less, Equal, Greater}
@@ -12,7 +12,7 @@ use Rattle.std.proofs.lemmas.Bool.{cases_Bool, true≢false, eqb-false}
 use Rattle.std.proofs.lemmas.List.{drop_more}
 use Rattle.std.proofs.lemmas.List.Kept.{IsStrictlySortedBy-filter}
 use Rattle.mail_records.specs.Tables.{lookup, put, without}
-use Rattle.mail_records.specs.Orders.{AreKeys, Key, KeysRise, any_key, has_by, has_in, has_key, has_text, is_in_group, is_key_of, key_cmp, key_of, keys_of}
+use Rattle.mail_records.specs.Orders.{AreKeys, Key, KeysRise, any_key, has_in, has_key, has_text, is_in_group, is_key_of, key_cmp, key_of, keys_of}
 use Rattle.mail_records.specs.OrderSteps.{prefix_cmp, rest_cmp, put_in, put_all_in, take_out, take_all_out}
 use Rattle.mail_records.proofs.Tables.{lookup-put_same, lookup-put_other, lookup-without_other, lookup-without_same}
 use Rattle.mail_records.proofs.Rising.{has-filter, has-put_all, has-take_all, rise-put_all, rise-take_all}

@@ -1,13 +1,13 @@
 -- What stays as a history's floor moves up to the end of some of its entries.
-use Rattle.std.proofs.Common.{◌≡◌, ℕ, ◌+◌, ◌-◌, ◌≤◌, ◌^◌, not, eqb, suc, List, [], ◌∷◌, ◌++◌, take, drop, map, length, Option, Some, None, refl, sym, ap, ◌∙◌, subst, arith, length-append}
+use Rattle.std.proofs.Common.{◌≡◌, ℕ, ◌+◌, ◌-◌, ◌≤◌, ◌^◌, not, eqb, suc, List, [], ◌∷◌, ◌++◌, take, map, length, Option, Some, None, refl, sym, ap, ◌∙◌, subst, arith, length-append}
 use Rattle.std.specs.List.{AllByRecursion}
-use Rattle.std.proofs.lemmas.List.{map-append, length-map, take_all, take-append-le}
+use Rattle.std.proofs.lemmas.List.{map-append, length-map}
 use Rattle.jm_base.specs.declared.identifiers.Id.{Id}
 use Rattle.jm_base.specs.declared.identifiers.Kind.{Kind}
 use Rattle.jm_base.specs.declared.identifiers.Kind.TheVariants.{Mailbox as OfMailbox, Email as OfEmail, Thread as OfThread}
 use Rattle.mail_records.specs.Contents.{Content, AreTables, AreNumbered, NextAtMost, email_number}
 use Rattle.mail_records.specs.Edits.{id_of, after_edit, after_edits, AllFit}
-use Rattle.mail_records.specs.Histories.{History, Entry, Floors, FloorsAtMost, floor_of, edits_in, blobs_in, edits_of, ids_of, blobs_of, blobs_after, end_of, end_after, content_at, content_of, account_after, grown_by, NamesThread, HasOneThread, IsSound, IsFounded, max_floor}
+use Rattle.mail_records.specs.Histories.{History, floor_of, edits_of, ids_of, blobs_of, end_of, end_after, content_at, content_of, account_after, NamesThread, IsSound, IsFounded, max_floor}
 use Rattle.mail_records.specs.States.{is_kind_of, last_place, last_position, placed_above, state_at, state_of}
 use Rattle.mail_records.specs.FloorMoves.{floors_at, moved_up}
 use Rattle.mail_records.specs.declared.records.Email.{Email}
@@ -15,7 +15,7 @@ use Rattle.mail_records.specs.declared.edits.Edit.{Edit}
 use Rattle.mail_records.specs.declared.edits.Edit.TheVariants.{PutMailbox, DropMailbox, PutEmail, DropEmail, PutThread, DropThread}
 use Rattle.mail_records.proofs.Tables.{All-put, All-kept}
 use Rattle.mail_records.proofs.Growth.{after_edits-append, AreTables-after_edits, AreNumbered-after_edits, NextAtMost-founded}
-use Rattle.mail_records.proofs.Prefixes.{edits_of-account_after, blobs_of-account_after, end_after-most, content_at-end_after, all_front, IsSound-account_after, IsFounded-account_after}
+use Rattle.mail_records.proofs.Prefixes.{edits_of-account_after, blobs_of-account_after, content_at-end_after, all_front, IsSound-account_after, IsFounded-account_after}
 use Rattle.mail_records.proofs.Reached.{state_at-end_after, state_at-most}
 use Rattle.mail_records.proofs.Settled.{last_place-append, later}
 

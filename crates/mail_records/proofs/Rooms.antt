@@ -2,8 +2,7 @@
 use Rattle.std.proofs.Common.{◌≡◌, ℕ, ◌+◌, ◌-◌, ◌≤◌, List, [], ◌∷◌, Option, Some, None, length, min, refl, sym, ap, ◌∙◌, subst, arith}
 use Rattle.std.specs.List.Sorted.{IsStrictlySortedBy}
 use Rattle.mail_records.specs.Tables.{lookup, put}
-use Rattle.mail_records.specs.Orders.{AreKeys, Key, any_key, has_key, is_key_of, key_of_role, keys_of, link_keys_from, placed_key_of}
-use Rattle.mail_records.specs.declared.records.Email.{Email}
+use Rattle.mail_records.specs.Orders.{AreKeys, Key, any_key, key_of_role, keys_of}
 use Rattle.mail_records.proofs.Tables.{lookup-put_same}
 
 -- no records have no keys

@@ -1,5 +1,5 @@
 -- Keys that rise are known by which keys are among them.
-use Rattle.std.proofs.Common.{◌≡◌, ℕ, Bool, true, false, ◌||◌, List, [], ◌∷◌, Option, Some, None, refl, sym, ap, ap₂, ◌∙◌, subst, ⊎_elim}
+use Rattle.std.proofs.Common.{◌≡◌, ℕ, Bool, true, false, ◌||◌, List, [], ◌∷◌, Option, Some, None, refl, sym, ap, ap₂, ◌∙◌, ⊎_elim}
 use Rattle.std.specs.List.{AllByRecursion}
 use Rattle.std.specs.List.Sorted.{IsStrictlySortedBy}
 use Rattle.std.specs.declared.cmp.Ordering.{Ordering}
@@ -9,7 +9,7 @@ use Rattle.std.specs.Option.{option_cmp}
 use Rattle.std.specs.Cmp.{IsTotalOrder, tied_itself, signed_Decides}
 use Rattle.std.specs.Cmp.Lexicographic.{slice_cmp}
 use Rattle.std.proofs.lemmas.Bool.{cases_Bool, true≢false}
-use Rattle.mail_records.specs.Orders.{AreKeys, Key, KeysRise, has_by, key_cmp}
+use Rattle.mail_records.specs.Orders.{AreKeys, Key, has_by, key_cmp}
 use Rattle.mail_records.proofs.Rising.{all_map}
 use Rattle.mail_records.proofs.KeyOrder.{key_total}
 use Rattle.mail_records.proofs.KeyTables.{then_first, then_second, nat_equal}

@@ -7,7 +7,7 @@ use Rattle.mail_records.specs.declared.records.Email.{Email}
 use Rattle.mail_records.specs.declared.entries.Named.{Named}
 use Rattle.mail_records.specs.declared.entries.Roled.{Roled}
 use Rattle.mail_records.specs.declared.entries.Linked.{Linked}
-use Rattle.mail_records.specs.Orders.{Key, named_key, roled_key, linked_key, key_of_role, role_keys, placed_key_of, mailbox_keys, link_keys_from, link_keys}
+use Rattle.mail_records.specs.Orders.{named_key, roled_key, linked_key, key_of_role, role_keys, placed_key_of, mailbox_keys, link_keys_from, link_keys}
 
 pub named_number : (o : Option Mailbox) (n : Named) → (named_key o n).number ≡ n.mailbox
 named_number (Some m) n = refl

@@ -1,5 +1,5 @@
 // Copies of lists and strings, each in memory of its own.
-ghost use Rattle.std.specs.Prelude.{◌≡◌, IfOk, MatchOption, None, Some};
+ghost use Rattle.std.specs.Prelude.{◌≡◌, IfOk, None, Some};
 
 use jm_base::{NoMemory, Numbers, Text, Texts};
 use std::alloc::Global;

@@ -1,6 +1,6 @@
 // Orders: vectors of entries next to a table, sorted by the key that each entry has through its
 // record.
-ghost use Rattle.std.specs.Prelude.{◌≡◌, ◌↔◌, ◌+◌, ◌-◌, ◌<◌, ◌≤◌, ℕ, List, Option, Some, None, true, not, length, filter, take, drop, ◌&&◌, vec_len, vec_capacity, slice_index_or, IsTrue, IfOk};
+ghost use Rattle.std.specs.Prelude.{◌≡◌, ◌↔◌, ◌+◌, ◌-◌, ◌<◌, ◌≤◌, ℕ, List, Option, Some, None, true, not, length, ◌&&◌, vec_len, vec_capacity, slice_index_or, IfOk};
 ghost use Rattle.std.specs.List.{AllByRecursion};
 ghost use Rattle.std.specs.Ordering.{is_lt, is_eq, is_gt, nat_cmp};
 ghost use Rattle.std.specs.Option.{option_cmp};

@@ -1,6 +1,6 @@
 // A finite map from numbers to records: the records in number order in a vector, with room that may
 // be ready for more.
-ghost use Rattle.std.specs.Prelude.{◌≡◌, ◌+◌, ◌<◌, ◌≤◌, ℕ, [], Some, None, OnOk, IfOk, IfSome, MatchOption, length, take, insert, remove, slice_set, vec_len, vec_capacity};
+ghost use Rattle.std.specs.Prelude.{◌≡◌, ◌+◌, ◌<◌, ◌≤◌, ℕ, [], Some, None, OnOk, IfOk, IfSome, MatchOption, take, insert, remove, slice_set, vec_len, vec_capacity};
 ghost use Rattle.std.specs.List.{AllByRecursion};
 ghost use Rattle.mail_records.specs.Tables.{IsFrom, IsPlace, IsTable, lookup, put, without};
 
@@ -183,7 +183,7 @@ pub struct Table<R: Record> {
 }
 
 impl<R: Record> Model for Table<R> {
-    ghost use Rattle.std.specs.Prelude.{List, ℕ, ◌-◌, vec_len, vec_capacity};
+    ghost use Rattle.std.specs.Prelude.{ℕ, ◌-◌, vec_len, vec_capacity};
     ghost use Rattle.mail_records.specs.Tables.{IsTable, Rows};
 
     ghost Value = { Rows R };

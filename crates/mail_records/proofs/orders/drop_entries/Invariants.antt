@@ -1,4 +1,4 @@
-use Rattle.std.proofs.Common.{◌≡◌, ◌≤◌, drop, length, vec_len, vec_capacity}
+use Rattle.std.proofs.Common.{◌≡◌, ◌≤◌, drop, vec_len, vec_capacity}
 use Rattle.mail_records.specs.Orders.{KeysRise, key_cmp, keys_of}
 use Rattle.mail_records.specs.OrderSteps.{take_all_out}
 use Rattle.mail_records.proofs.orders.drop_entries.Given as goal

@@ -1,7 +1,5 @@
-use Rattle.std.proofs.Common.{◌≡◌, Some, None, Bool, true, false, not, refl, sym, ap, ◌∙◌, subst}
-use Rattle.mail_records.specs.Tables.{lookup, put, without}
-use Rattle.mail_records.specs.Orders.{AreKeys, KeysRise, any_key, key_of, keys_of}
-use Rattle.mail_records.specs.OrderSteps.{rows_besides}
+use Rattle.std.proofs.Common.{◌≡◌, Some, None, refl, ap, ◌∙◌}
+use Rattle.mail_records.specs.Tables.{lookup, without}
 use Rattle.mail_records.proofs.KeyTables.{left, same_tables, lookups_absent, lookup_number}
 use Rattle.mail_records.proofs.orders.forget.Goals as goal
 

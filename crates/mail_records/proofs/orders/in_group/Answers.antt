@@ -1,10 +1,9 @@
-use Rattle.std.proofs.Common.{rules, ◌≡◌, ◌≤◌, ◌&&◌, true, false, not, List, map, filter, take, drop, length, refl, sym, ap, ◌∙◌, subst, arith}
+use Rattle.std.proofs.Common.{rules, ◌≡◌, ◌≤◌, ◌&&◌, true, false, not, map, take, drop, length, refl, sym, ap, ◌∙◌, subst, arith}
 use Rattle.std.specs.List.Sorted.{IsPartitionPoint}
-use Rattle.std.specs.Ordering.{is_lt, is_eq, is_gt, nat_cmp}
+use Rattle.std.specs.Ordering.{is_lt, is_gt, nat_cmp}
 use Rattle.std.specs.Option.{option_cmp}
 use Rattle.std.proofs.lemmas.List.Sorted.{IsPartitionPoint-from_clause}
-use Rattle.mail_records.specs.Orders.{AreKeys, Key, KeysRise, key_of, keys_of}
-use Rattle.mail_records.specs.OrderSteps.{prefix_cmp}
+use Rattle.mail_records.specs.Orders.{Key, KeysRise, key_of}
 use Rattle.mail_records.proofs.Rising.{parted, part_is, rise_part}
 use Rattle.mail_records.proofs.KeyOrder.{key_total}
 use Rattle.mail_records.proofs.KeyTables.{part_exact, group_same, group_downs}

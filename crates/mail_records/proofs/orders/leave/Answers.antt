@@ -1,7 +1,5 @@
-use Rattle.std.proofs.Common.{◌≡◌, Some, None, Bool, true, false, not, refl, sym, ap, ◌∙◌, subst}
+use Rattle.std.proofs.Common.{◌≡◌, Some, None, refl, sym, ap, ◌∙◌}
 use Rattle.mail_records.specs.Tables.{lookup, put, without}
-use Rattle.mail_records.specs.Orders.{AreKeys, KeysRise, any_key, key_of, keys_of}
-use Rattle.mail_records.specs.OrderSteps.{rows_besides}
 use Rattle.mail_records.proofs.KeyTables.{same_tables, lookups_absent, lookups_put, lookup_number}
 use Rattle.mail_records.proofs.orders.leave.Goals as goal
 

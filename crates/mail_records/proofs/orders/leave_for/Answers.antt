@@ -1,7 +1,5 @@
-use Rattle.std.proofs.Common.{◌≡◌, Some, None, Bool, true, false, not, refl, sym, ap, ◌∙◌, subst}
-use Rattle.mail_records.specs.Tables.{lookup, put, without}
-use Rattle.mail_records.specs.Orders.{AreKeys, KeysRise, any_key, key_of, keys_of}
-use Rattle.mail_records.specs.OrderSteps.{rows_besides}
+use Rattle.std.proofs.Common.{◌≡◌, true, refl, ◌∙◌}
+use Rattle.mail_records.specs.Tables.{put, without}
 use Rattle.mail_records.proofs.KeyTables.{kept, left, lookups_put}
 use Rattle.mail_records.proofs.orders.leave_for.Goals as goal
 

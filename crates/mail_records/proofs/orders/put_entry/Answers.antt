@@ -1,7 +1,7 @@
 use Rattle.std.proofs.Common.{◌≡◌, ◌<◌, false, true, length, map, refl, sym, ap, ◌∙◌, subst, arith}
 use Rattle.std.specs.Ordering.{is_eq}
 use Rattle.mail_records.specs.Orders.{key_cmp, key_of}
-use Rattle.mail_records.specs.OrderSteps.{IsPlaceBy, put_in}
+use Rattle.mail_records.specs.OrderSteps.{IsPlaceBy}
 use Rattle.mail_records.proofs.Rising.{put_end, put_between, put_there}
 use Rattle.mail_records.proofs.KeyOrder.{key_total}
 use Rattle.mail_records.proofs.orders.put_entry.Goals as goal

@@ -1,6 +1,6 @@
-use Rattle.std.proofs.Common.{◌≡◌, Some, None, Bool, true, false, not, refl, sym, ap, ◌∙◌, subst}
-use Rattle.mail_records.specs.Tables.{lookup, put, without}
-use Rattle.mail_records.specs.Orders.{AreKeys, KeysRise, any_key, key_of, keys_of}
+use Rattle.std.proofs.Common.{◌≡◌, Some, None, false, not, refl, sym, ap, ◌∙◌, subst}
+use Rattle.mail_records.specs.Tables.{lookup, without}
+use Rattle.mail_records.specs.Orders.{AreKeys, KeysRise, any_key, keys_of}
 use Rattle.mail_records.specs.OrderSteps.{rows_besides}
 use Rattle.mail_records.proofs.KeyTables.{settled, unmoved, same_tables, lookups_absent, lookup_number}
 use Rattle.mail_records.proofs.orders.settle.Goals as goal

@@ -1,4 +1,4 @@
-use Rattle.std.proofs.Common.{◌≡◌, ◌≤◌, ◌+◌, Some, ap, arith, length, vec_len, vec_capacity}
+use Rattle.std.proofs.Common.{◌≡◌, ◌≤◌, ◌+◌, Some, ap, arith, vec_len, vec_capacity}
 use Rattle.mail_records.specs.Contents.{mailbox_number}
 use Rattle.mail_records.specs.Tables.{lookup}
 use Rattle.mail_records.proofs.Rooms.{found_put, least_of_three, role_count, room_after}
