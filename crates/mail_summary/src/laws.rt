@@ -1,6 +1,6 @@
 // Laws of the texts that a summary and a body are made of, and what the definitions say of
 // examples. Each is the contract of a function that does nothing.
-ghost use Rattle.std.specs.Prelude.{◌≡◌, ◌==◌, [], ◌∷◌, ◌++◌, List, ℕ, Some, None, false, codes};
+ghost use Rattle.std.specs.Prelude.{◌≡◌, ◌==◌, [], ◌∷◌, ◌++◌, List, ℕ, Some, false, codes};
 ghost use Rattle.std.specs.List.{list_any};
 ghost use Rattle.mail_text.specs.Comments.{after_text};
 ghost use Rattle.mail_text.specs.declared.comment.State.TheVariants.{Outside};

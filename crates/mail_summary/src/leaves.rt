@@ -1,12 +1,12 @@
 // The leaves of a message by their numbers.
-ghost use Rattle.std.specs.Prelude.{◌≡◌, ◌≤◌, length, find, option_map, IfOk};
+ghost use Rattle.std.specs.Prelude.{◌≡◌, ◌≤◌, length, option_map, IfOk};
 ghost use Rattle.std.specs.List.{list_any};
 ghost use Rattle.mime_type.specs.PartTrees.{none};
 ghost use Rattle.mime_type.specs.PartViews.{node_of, part_before, joined};
 ghost use Rattle.mime_tree.specs.PartLimit.{walked};
 ghost use Rattle.mime_tree.specs.Places.{IsPlaced};
 ghost use Rattle.mail_summary.specs.Leaves;
-ghost use Rattle.mail_summary.specs.Leaves.{body_bytes, first_text, leaf_numbered, part_bytes_of, has_attachment_in, shows_attachment};
+ghost use Rattle.mail_summary.specs.Leaves.{body_bytes, leaf_numbered, part_bytes_of, has_attachment_in, shows_attachment};
 ghost use Rattle.mail_summary.specs.Views.{node_in};
 
 use body_lists::lists;

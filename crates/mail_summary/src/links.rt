@@ -1,10 +1,9 @@
 // The identifiers by which a message is linked to others.
 ghost use Rattle.std.specs.Prelude.{◌≡◌, ◌≤◌, ◌++◌, ◌∷◌, [], take, drop, length, filter, MatchOption, IfOk, OnOk, All};
-ghost use Rattle.mail_records.specs.Commits.{TextsRise};
 ghost use Rattle.mime_lines.specs.Fields.{fields_of};
 ghost use Rattle.mime_lines.specs.FieldOffsets.{IsWithin, last_value_of};
 ghost use Rattle.mail_summary.specs.Links;
-ghost use Rattle.mail_summary.specs.Links.{gathered, if_value, is_short, links, put_if_few};
+ghost use Rattle.mail_summary.specs.Links.{gathered, if_value, is_short, links};
 
 use header_forms::{read_angle_texts, unfold_value};
 use jm_base::{NoMemory, Text, Texts};

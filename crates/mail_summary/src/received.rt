@@ -5,7 +5,7 @@ ghost use Rattle.std.specs.Option.{ForSome};
 ghost use Rattle.mime_lines.specs.FieldOffsets.{IsWithin, is_named, value_in};
 ghost use Rattle.mime_lines.specs.Fields.{fields_of};
 ghost use Rattle.mail_summary.specs.Received;
-ghost use Rattle.mail_summary.specs.Received.{timestamp_after, received, first_value_of};
+ghost use Rattle.mail_summary.specs.Received.{timestamp_after, received};
 ghost use Rattle.mail_summary.specs.Views.{bytes_in};
 
 use header_forms::{find_timestamp, unfold_value};
