@@ -1,5 +1,5 @@
 -- What an Email/parse is answered (RFC 8621, 4.9).
-use Rattle.std.specs.Prelude.{ℕ, List, [], ◌∷◌, length, map, nat_lt, if◌then◌else◌, Bool, true, is_none, filter_map, Option, Some, None, option_map, option_and_then, unwrap_or, codes}
+use Rattle.std.specs.Prelude.{ℕ, List, [], ◌∷◌, length, map, nat_lt, if◌then◌else◌, true, is_none, filter_map, Option, Some, None, option_map, option_and_then, unwrap_or, codes}
 use Rattle.jm_json.specs.Tree.{Tree, null, text, object, fields_of}
 use Rattle.jm_json.specs.Find.{find, as_object}
 use Rattle.blob_ids.specs.BlobIds.{blob_id_in}

@@ -1,5 +1,5 @@
 -- The JSON view of a body part (RFC 8621, 4.1.4).
-use Rattle.std.specs.Prelude.{ℕ, ◌==◌, Bool, false, List, [], ◌∷◌, ◌++◌, length, map, filter_map, find, decimal, pos, Option, Some, None, is_some, option_map, codes, slice_range, if◌then◌else◌}
+use Rattle.std.specs.Prelude.{ℕ, ◌==◌, List, [], ◌∷◌, ◌++◌, length, map, filter_map, find, decimal, pos, Option, Some, None, is_some, option_map, codes, slice_range, if◌then◌else◌}
 use Rattle.jm_json.specs.Tree.{Tree, null, number, text, object, fields_of}
 use Rattle.jm_json.specs.Order.{put}
 use Rattle.mime_words.specs.Words.{decoded_words}

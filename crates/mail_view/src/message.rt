@@ -1,5 +1,5 @@
 // A message once it is read, and the views of its parts (RFC 8621, section 4.1.4).
-ghost use Rattle.std.specs.Prelude.{◌≡◌, IfOk, length};
+ghost use Rattle.std.specs.Prelude.{◌≡◌, IfOk};
 ghost use Rattle.jm_json.specs.Json.{tree_of as json_of};
 ghost use Rattle.jm_json.specs.Tree.{boolean, text as text_tree};
 ghost use Rattle.mime_tree.specs.PartLimit.{parts_of};

@@ -1,7 +1,7 @@
 // The metadata properties of an email (RFC 8621, section 4.1.1).
 ghost use Rattle.std.specs.Prelude.{◌≡◌, [], ◌∷◌, IfOk, true, map};
 ghost use Rattle.jm_json.specs.Json.{tree_of as json_of};
-ghost use Rattle.jm_json.specs.Tree.{boolean, text as text_tree};
+ghost use Rattle.jm_json.specs.Tree.{boolean};
 ghost use Rattle.mail_view.specs.Objects.{put_all};
 ghost use Rattle.mail_view.specs.View.{date_tree, id_tree, identifier, keywords_tree, known_of, known_tree, mailboxes_tree, received_tree, thread_tree};
 ghost use Rattle.mail_view.specs.Views.{email_of};

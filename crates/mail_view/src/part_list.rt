@@ -1,7 +1,6 @@
 // The parts of a message in walk order, and views of some of them (RFC 8621, section 4.1.4).
 ghost use Rattle.std.specs.Prelude.{◌≡◌, ◌++◌, All, IfOk, OnOk, length, option_map};
 ghost use Rattle.mime_tree.specs.PartLimit.{walked};
-ghost use Rattle.mime_tree.specs.Places.{AllPlaced};
 ghost use Rattle.mime_type.specs.PartTrees.{none};
 ghost use Rattle.mime_type.specs.PartViews.{joined, node_of, part_before};
 ghost use Rattle.mail_summary.specs.Leaves.{is_number};

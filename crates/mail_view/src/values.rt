@@ -10,7 +10,7 @@ ghost use Rattle.mail_summary.specs.Texts;
 ghost use Rattle.mail_view.specs.Objects.{put_all};
 ghost use Rattle.mail_view.specs.Messages.{IsRead};
 ghost use Rattle.mail_view.specs.Views.{ArePlaced, nodes_of};
-ghost use Rattle.mail_view.specs.Values.{entries, entry, entry_by, is_asked, value_tree, values_tree};
+ghost use Rattle.mail_view.specs.Values.{entries, entry, is_asked, value_tree, values_tree};
 
 use crate::message::Message;
 use body_lists::BodyLists;

@@ -1,7 +1,7 @@
 use Rattle.std.proofs.Common.{◌≡◌, ◌∙◌, ap, sym, subst, length, List}
 use Rattle.mime_type.specs.PartTrees.{Node, none}
 use Rattle.mime_type.specs.PartViews.{part_before}
-use Rattle.mime_tree.specs.PartLimit.{walked, parts_of}
+use Rattle.mime_tree.specs.PartLimit.{walked}
 use Rattle.body_lists.specs.Lists.{lists_in}
 use Rattle.std.specs.Prelude.{All}
 use Rattle.mail_view.specs.Sizes.{IsSizeOf}
