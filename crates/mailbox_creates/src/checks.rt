@@ -1,5 +1,5 @@
 // Which properties of a create are invalid, after the creates before it (RFC 8621, section 2.5).
-ghost use Rattle.std.specs.Prelude.{IfOk, codes, false, filter, is_some, map, option_map, unwrap_or, ◌<◌, ◌≡◌};
+ghost use Rattle.std.specs.Prelude.{IfOk, false, filter, is_some, map, option_map, ◌<◌, ◌≡◌};
 ghost use Rattle.std.specs.List.{list_any};
 ghost use Rattle.jm_base.specs.declared.identifiers.TheConstants.{NUMBER_LIMIT};
 ghost use Rattle.jm_json.specs.Json.{member_of, tree_of};

@@ -1,6 +1,6 @@
 // The names of siblings and the roles that are in use: of the mailboxes that a set created, in sets
 // of texts, and of all others, which the orders of the content find.
-ghost use Rattle.std.specs.Prelude.{List, OnOk, Option, bytes_eq, false, not, ℕ, ◌&&◌, ◌||◌, ◌≡◌};
+ghost use Rattle.std.specs.Prelude.{false, not, ℕ, ◌&&◌, ◌||◌, ◌≡◌};
 ghost use Rattle.mail_records.specs.declared.entries.Named.{Named as TheNamed};
 ghost use Rattle.mail_records.specs.declared.entries.Roled.{Roled as TheRoled};
 ghost use Rattle.mailbox_creates.specs.Views.{is_new};
