@@ -1,5 +1,5 @@
 // Turns at the account lock next to turns at a mutex, over the same work, by threads in contention.
-ghost use Rattle.std.specs.Prelude.{◌≡◌, true, false, [], length, ◌<◌, ◌^◌, ◌+◌, IfOk, All};
+ghost use Rattle.std.specs.Prelude.{◌≡◌, true, false, [], ◌<◌, ◌^◌, ◌+◌, IfOk, All};
 
 use crate::timing::{RUNS, median, nanos_since, no_memory};
 use account_lock::{AccountLock, AccountView, MAX_NAMES, Pass};

@@ -1,4 +1,4 @@
-use Rattle.std.proofs.Common.{◌≡◌, true, false, ◌+◌, All}
+use Rattle.std.proofs.Common.{◌≡◌, false, ◌+◌, All}
 use Rattle.measure.proofs.lock.passes.Given as goal
 
 abbrev pub invariant-loop-index : goal.invariant-loop-index
