@@ -1,5 +1,5 @@
 // Calls that get a mailbox: on a book alone, and by the sessions of a hall.
-ghost use Rattle.std.specs.Prelude.{◌≡◌, ◌<◌, ◌≤◌, All, IfOk, length};
+ghost use Rattle.std.specs.Prelude.{◌≡◌, ◌<◌, ◌≤◌, All, length};
 ghost use Rattle.account_hall.specs.Halls.{AreOf};
 
 use crate::asks::{get_mailbox, is_found};
