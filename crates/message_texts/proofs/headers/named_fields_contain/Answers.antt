@@ -1,7 +1,4 @@
-use Rattle.std.proofs.Common.{◌≡◌, Bool, List, sym, subst, ap, ◌∙◌, arith}
-use Rattle.std.specs.List.{list_any}
-use Rattle.mime_lines.specs.FieldTexts.{FieldText}
-use Rattle.message_texts.specs.Texts.{field_has}
+use Rattle.std.proofs.Common.{◌≡◌, ◌∙◌, arith}
 use Rattle.message_texts.proofs.Found.{next_name}
 use Rattle.message_texts.proofs.headers.named_fields_contain.Goals as goal
 
