@@ -1,8 +1,7 @@
 // The forms of arguments, and the first argument that does not have its form (RFC 8620, sections
 // 1.3, 3.6.2 and 5).
-ghost use Rattle.std.specs.Prelude.{◌≡◌, ◌&&◌, ◌||◌, map, is_some, option_map, option_and_then};
-ghost use Rattle.std.specs.List.{list_all};
-ghost use Rattle.jm_json.specs.Find.{as_object, as_list, find, texts_from};
+ghost use Rattle.std.specs.Prelude.{◌≡◌, ◌&&◌, ◌||◌, map, is_some, option_map};
+ghost use Rattle.jm_json.specs.Find.{as_object, texts_from};
 ghost use Rattle.jm_json.specs.Json.{member_of, tree_of};
 ghost use Rattle.method_args.specs.Arguments.{are_objects, find_invalid, form_of, has_form, has_shape, is_null, may_be_absent, may_be_null};
 

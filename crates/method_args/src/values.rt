@@ -1,6 +1,6 @@
 // The values of arguments (RFC 8620, sections 1.3, 3.2 and 5).
 ghost use Rattle.std.specs.Prelude.{◌≡◌, map, option_map, option_and_then, IfOk};
-ghost use Rattle.jm_json.specs.Find.{as_object, as_text, find, texts_from};
+ghost use Rattle.jm_json.specs.Find.{as_object, as_text, texts_from};
 ghost use Rattle.jm_json.specs.Json.{tree_of};
 ghost use Rattle.method_args.specs.Arguments.{account_in, as_strings, count_by, count_in, flag_by, flag_in, given, integer_in, number_of, if_unsigned, object_in, strings_in, text_in};
 
