@@ -7,7 +7,6 @@ ghost use Rattle.jm_json.specs.Json.{tree_of};
 ghost use Rattle.jm_json.specs.Reading.{reading_of};
 ghost use Rattle.jm_json.specs.Requests.{AreMembersOf, HasMembers};
 ghost use Rattle.jm_json.specs.JsonValues.{data_of};
-ghost use Rattle.method_batch.specs.Request.{problem_in};
 ghost use Rattle.method_batch.specs.Outcome.{IsOutcome, IsOutcomeBy, IsResponse, IsAnswer, IsAnswerBy, HasBegun, HasBegunBy, HasBegunRequest, HasBegunReading, HasBegunAnswer};
 ghost use Rattle.method_batch.specs.Answered.{outcome_of};
 ghost use Rattle.method_batch.specs.declared.outcome.Outcome.{Outcome as TheOutcome};

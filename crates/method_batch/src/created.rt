@@ -1,7 +1,7 @@
 // The `createdIds` of a request, moved out of its tree (RFC 8620, section 3.3), and those of a
 // Response, moved into its tree (section 3.4).
-ghost use Rattle.std.specs.Prelude.{◌≡◌, [], IfOk, option_and_then, map};
-ghost use Rattle.jm_json.specs.Json.{tree_of, member_of};
+ghost use Rattle.std.specs.Prelude.{◌≡◌, [], IfOk, option_and_then};
+ghost use Rattle.jm_json.specs.Json.{tree_of};
 ghost use Rattle.jm_json.specs.Find.{as_object};
 ghost use Rattle.method_batch.specs.Request.{created_from};
 ghost use Rattle.method_batch.specs.Outcome.{put_ids};

@@ -1,5 +1,5 @@
 // The reply to one call: by the responses up to here, by its text alone, or by the port.
-ghost use Rattle.std.specs.Prelude.{◌≡◌, ◌+◌, ◌≤◌, map, List, [], ◌∷◌, IfOk, OnErr};
+ghost use Rattle.std.specs.Prelude.{◌≡◌, ◌+◌, ◌≤◌, List, [], ◌∷◌, IfOk, OnErr};
 ghost use Rattle.jm_json.specs.Invocations.{call_of};
 ghost use Rattle.method_batch.specs.Prepared.{preparation_of, ready, taken_by};
 ghost use Rattle.method_batch.specs.Answer.{Asked, Runs, RepliesOne, RepliesPrepared, StopsOne, StopsPrepared, is_echo};

@@ -1,5 +1,5 @@
 // The Response to a request as a tree (RFC 8620, section 3.4).
-ghost use Rattle.std.specs.Prelude.{◌≡◌, ◌++◌, IfOk, OnOk, OnErr, List, Bool, map};
+ghost use Rattle.std.specs.Prelude.{◌≡◌, ◌++◌, IfOk, OnOk, OnErr, List, map};
 ghost use Rattle.serde_json.specs.Written.{compact_text};
 ghost use Rattle.jm_json.specs.Json.{tree_of};
 ghost use Rattle.jm_json.specs.JsonValues.{data_of};
