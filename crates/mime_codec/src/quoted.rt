@@ -1,7 +1,7 @@
 // Quoted-printable (RFC 2045, section 6.7), line by line. A block of a line is copied whole, and
 // cut before its first equals sign.
 ghost use Rattle.std.specs.Prelude.{◌≡◌, ◌≢◌, true, false, ◌<◌, ◌≤◌, ◌∷◌, ◌++◌, length, take, drop, IfOk, IfSome, IfNone, OnOk};
-ghost use Rattle.mime_lines.specs.Lines.{lines, text, is_blank};
+ghost use Rattle.mime_lines.specs.Lines.{text, is_blank};
 ghost use Rattle.mime_codec.specs.Quoted.{is_hex, hex_value, unescaped, without_end_blanks, text_with_end, quoted_line, quoted_printable};
 ghost use Rattle.mime_codec.specs.Escapes.{starts_escape};
 
