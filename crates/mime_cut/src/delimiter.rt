@@ -3,7 +3,7 @@ ghost use Rattle.std.specs.Prelude.{◌≡◌, ◌≤◌, ◌<◌, ◌+◌, ◌�
 ghost use Rattle.mime_lines.specs.Lines.{lines, text};
 ghost use Rattle.mime_cut.specs.DelimiterLines.{line_kind};
 ghost use Rattle.mime_cut.specs.Cut.{pieces, cut, piece, after_line};
-ghost use Rattle.mime_cut.specs.UpToDelimiter.{UpToDelimiter, up_to_delimiter, lines_after};
+ghost use Rattle.mime_cut.specs.UpToDelimiter.{up_to_delimiter, lines_after};
 
 use crate::line_kind::{LineKind, read_line_kind};
 use memchr::memmem::find;
