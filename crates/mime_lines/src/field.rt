@@ -1,8 +1,8 @@
 // A header field: its byte offsets, and what is there.
-ghost use Rattle.std.specs.Prelude.{List, ℕ, map, ◌≡◌, ◌↔◌, All, IsTrue, MatchOption, Some, None};
+ghost use Rattle.std.specs.Prelude.{List, ℕ, map, ◌≡◌, ◌↔◌, All, MatchOption, Some, None};
 ghost use Rattle.mime_lines.specs.Fields.{fields_of};
 ghost use Rattle.mime_lines.specs.FieldTexts.{read_at, field_texts};
-ghost use Rattle.mime_lines.specs.FieldOffsets.{IsWithin, name_in, value_in, lowered, last_value_of};
+ghost use Rattle.mime_lines.specs.FieldOffsets.{IsWithin, name_in, value_in, last_value_of};
 
 use jm_base::Sequence;
 

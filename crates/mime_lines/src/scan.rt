@@ -1,6 +1,6 @@
 // Lines and fields at the start of a slice. Each call takes and returns slices, so that only one
 // function adds up byte offsets.
-ghost use Rattle.std.specs.Prelude.{◌≡◌, ◌≤◌, ◌<◌, ◌+◌, ◌∷◌, ◌++◌, length, take, drop, get_or, cond, None, Some, IfSome};
+ghost use Rattle.std.specs.Prelude.{◌≡◌, ◌≤◌, ◌<◌, ◌+◌, ◌∷◌, ◌++◌, length, take, drop, cond, None, Some, IfSome};
 ghost use Rattle.memchr.specs.Find.{IsFirstByte, Nowhere, Passes, is_byte};
 ghost use Rattle.mime_lines.specs.Lines.{lines, text};
 ghost use Rattle.mime_lines.specs.Fields.{is_field, name_len, goes_on, is_name_byte};
