@@ -6,7 +6,7 @@ ghost use Rattle.mime_type.specs.PartViews.{node_of, part_before};
 ghost use Rattle.mime_tree.specs.Tree.{part_tree, within, is_digest as digest_of};
 ghost use Rattle.mime_tree.specs.PartLimit.{parts_of};
 ghost use Rattle.mime_tree.specs.Places.{AllPlaced};
-ghost use Rattle.mime_tree.specs.Budget.{Taken, taken};
+ghost use Rattle.mime_tree.specs.Budget.{taken};
 
 use crate::part::{is_digest, read_part};
 use jm_base::NoMemory;
