@@ -1,6 +1,6 @@
 // What a type and a disposition say of a part (RFC 2045, section 5; RFC 2046, section 5.1; RFC
 // 2183).
-ghost use Rattle.std.specs.Prelude.{◌≡◌, Bool, option_map, IfOk};
+ghost use Rattle.std.specs.Prelude.{◌≡◌, option_map, IfOk};
 ghost use Rattle.std.specs.Option.{ForSome};
 ghost use Rattle.mime_lines.specs.FieldOffsets.{lowered};
 ghost use Rattle.mime_type.specs.Content;

@@ -1,10 +1,9 @@
 // Content-Type and Content-Disposition as a name with parameters (RFC 2045, section 5.1; RFC 2183,
 // section 2).
-ghost use Rattle.std.specs.Prelude.{◌≡◌, ◌++◌, ◌∷◌, option_map, IfOk, IfSome, List, ℕ, Some};
+ghost use Rattle.std.specs.Prelude.{◌≡◌, ◌++◌, ◌∷◌, option_map, IfOk, IfSome, ℕ, Some};
 ghost use Rattle.mime_lines.specs.FieldOffsets.{lowered};
 ghost use Rattle.mime_type.specs.Grammar;
 ghost use Rattle.mime_type.specs.Grammar.{type_at};
-ghost use Rattle.mime_type.specs.TypeText.{IsToken, written, meant};
 ghost use Rattle.mime_type.specs.Content;
 ghost use Rattle.mime_type.specs.Texts.{IsText};
 ghost use Rattle.mime_type.specs.Views.{kind_of};

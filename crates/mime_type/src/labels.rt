@@ -1,9 +1,8 @@
 // Content-Id, Content-Language, Content-Location and Content-Transfer-Encoding.
-ghost use Rattle.std.specs.Prelude.{◌≡◌, ◌++◌, ◌∷◌, [], List, ℕ, option_map, IfOk, OnOk};
+ghost use Rattle.std.specs.Prelude.{◌≡◌, ◌++◌, ◌∷◌, [], ℕ, option_map, IfOk, OnOk};
 ghost use Rattle.mime_type.specs.Content;
-ghost use Rattle.mime_type.specs.Labels.{without_open, without_close, id_in, items, languages_in, coding_in, coding_named};
+ghost use Rattle.mime_type.specs.Labels.{without_open, without_close, id_in, items, languages_in, coding_named};
 ghost use Rattle.mail_text.specs.Texts.{trimmed};
-ghost use Rattle.mime_lines.specs.FieldOffsets.{lowered};
 ghost use Rattle.std.specs.Str.{IsUtf8};
 
 use crate::characters::lower_copy;
