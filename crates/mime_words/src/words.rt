@@ -1,7 +1,7 @@
 // Encoded-words in a text (RFC 2047).
 ghost use Rattle.std.specs.Prelude.{◌≡◌, ◌<◌, ◌≤◌, ◌∷◌, ◌++◌, ◌≢◌, ℕ, true, length, slice_index, map, option_map, IfOk, OnOk, IfSome, Some, None, string_bytes};
 ghost use Rattle.std.specs.Char.{is_ascii_whitespace};
-ghost use Rattle.std.specs.List.{list_all, list_any};
+ghost use Rattle.std.specs.List.{list_any};
 ghost use Rattle.std.specs.Str.Lossy.{utf8_lossy};
 ghost use Rattle.mime_codec.specs.Quoted.{unescaped};
 ghost use Rattle.mime_words.specs.Words;
