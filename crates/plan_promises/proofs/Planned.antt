@@ -1,13 +1,10 @@
 -- What follows from the promises of a plan.
 use Rattle.std.proofs.Common.{◌≡◌, ℕ, ◌-◌, ◌<◌, ◌≤◌, Bool, true, false, not, eqb, List, [], ◌∷◌, ◌++◌, length, Some, get_or, refl, sym, ap, ◌∙◌, subst, arith, length-append, is_some, Option, None}
-use Rattle.std.specs.Prelude.{slice_index_or}
 use Rattle.std.specs.List.{AllByRecursion}
-use Rattle.std.specs.Option.{ForSome}
 use Rattle.std.proofs.lemmas.Bool.{true≢false}
 use Rattle.std.proofs.lemmas.List.{get_or_append_left}
 use Rattle.jm_base.specs.UtcDates.{IsUtcDate}
-use Rattle.jm_base.specs.declared.identifiers.UtcDate.{UtcDate}
-use Rattle.mail_records.specs.Commits.{IsFormedEdit, TextsRise}
+use Rattle.mail_records.specs.Commits.{IsFormedEdit}
 use Rattle.mail_records.specs.Contents.{Content, email_at, email_number}
 use Rattle.mail_records.specs.Edits.{AllFit, AllKeepThread, IsSmall, after_edit, after_edits}
 use Rattle.mail_records.specs.declared.records.Email.{Email}

@@ -7,7 +7,7 @@
 -- * an email that is there keeps its message: a put of it changes its mailboxes and keywords alone;
 -- * an email that is new has its message among the account's blobs and those of the plan;
 -- * each email that is put is filed: its mailboxes are few, and they and its keywords rise.
-use Rattle.std.specs.Prelude.{◌≡◌, ℕ, ◌≤◌, true, false, List, [], ◌∷◌, length, Some, ⊤}
+use Rattle.std.specs.Prelude.{◌≡◌, ℕ, ◌≤◌, false, List, [], ◌∷◌, length, Some, ⊤}
 use Rattle.std.specs.List.{AllByRecursion}
 use Rattle.jm_base.specs.UtcDates.{IsUtcDate}
 use Rattle.mail_records.specs.Commits.{NumbersRise, TextsRise}
@@ -17,7 +17,7 @@ use Rattle.mail_records.specs.declared.limits.TheConstants.{MAX_MAILBOXES_PER_EM
 use Rattle.mail_records.specs.declared.records.Email.{Email}
 use Rattle.mail_records.specs.declared.records.Summary.{Summary}
 use Rattle.mail_records.specs.declared.edits.Edit.{Edit}
-use Rattle.mail_records.specs.declared.edits.Edit.TheVariants.{PutMailbox, DropMailbox, PutEmail, DropEmail, PutThread, DropThread}
+use Rattle.mail_records.specs.declared.edits.Edit.TheVariants.{PutEmail}
 use Rattle.mail_counts.specs.CountsFlag.{AreCountsFlagsRight}
 use Rattle.mail_counts.specs.Tidy.{IsTidy}
 use Rattle.plan_promises.specs.Messages.{HasMessage}
