@@ -18,7 +18,7 @@ use Rattle.filter_terms.specs.Laws.{SameEmailInThread}
 use Rattle.filter_terms.specs.Targets.{of_thread}
 use Rattle.filter_terms.specs.Texts.{MessageTexts}
 use Rattle.sort_terms.specs.Orders
-use Rattle.sort_terms.specs.Orders.{is_before, numbers_cmp}
+use Rattle.sort_terms.specs.Orders.{is_before}
 use Rattle.sort_terms.proofs.Alone as sorting
 use Rattle.sort_terms.proofs.Total.{numbers_total}
 use Rattle.query_engine.specs.Queries.{is_wide, order_of, shows, shows_of}

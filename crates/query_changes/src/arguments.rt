@@ -1,6 +1,6 @@
 // The arguments of a call of a /queryChanges method (RFC 8620, section 5.6; RFC 8621, sections 2.4
 // and 4.5).
-ghost use Rattle.std.specs.Prelude.{◌≡◌, codes, option_map};
+ghost use Rattle.std.specs.Prelude.{◌≡◌, option_map};
 ghost use Rattle.method_args.specs.Arguments.{find_invalid};
 ghost use Rattle.change_calls.specs.Responses.{string_in};
 ghost use Rattle.query_engine.specs.Responses.{is_set};

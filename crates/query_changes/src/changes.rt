@@ -1,9 +1,9 @@
 // How the result list of a query changed since a state (RFC 8620, section 5.6).
-ghost use Rattle.std.specs.Prelude.{◌≡◌, ◌≤◌, IfErr, IfOk, length};
+ghost use Rattle.std.specs.Prelude.{◌≡◌, ◌≤◌, IfErr, IfOk};
 ghost use Rattle.mail_records.specs.Histories.{History};
 ghost use Rattle.state_log.specs.Logs.{log_end};
 ghost use Rattle.change_calls.specs.Changes.{is_within};
-ghost use Rattle.query_changes.specs.Deltas.{AreOf, DeltaFails, answer_of, answer_within, answered, change_count, delta_of};
+ghost use Rattle.query_changes.specs.Deltas.{AreOf, DeltaFails, answer_of, answer_within, answered, delta_of};
 
 use crate::delta::{Delta, DeltaFault};
 use crate::touched::{find_touched, place_touched};

@@ -1,9 +1,9 @@
 // The response to a call of a /queryChanges method (RFC 8620, section 5.6; RFC 8621, sections 2.4
 // and 4.5).
-ghost use Rattle.std.specs.Prelude.{◌≡◌, None, IfErr, IfOk, OnOk};
+ghost use Rattle.std.specs.Prelude.{◌≡◌, None, IfErr, IfOk};
 ghost use Rattle.jm_json.specs.Json.{tree_of};
 ghost use Rattle.mail_records.specs.Histories.{History};
-ghost use Rattle.query_changes.specs.Deltas.{AreOf, answer_of};
+ghost use Rattle.query_changes.specs.Deltas.{AreOf};
 ghost use Rattle.query_changes.specs.Responses.{ExplainsCall, added_tree, added_trees, delta_members, delta_tree, outcome_of_query, outcome_with, query_changes_outcome, replied};
 ghost use Rattle.query_engine.specs.Responses.{query as the_query};
 
