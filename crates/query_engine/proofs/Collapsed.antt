@@ -1,13 +1,13 @@
 -- The result list of a query is the list of what matches, without the emails of a thread that has an
 -- earlier one where threads are collapsed.
-use Rattle.std.proofs.Common.{◌≡◌, ℕ, Bool, true, false, not, ◌&&◌, ◌||◌, if◌then◌else◌, cond, eqb, eqb-true, eq-eqb, List, [], ◌∷◌, ◌++◌, map, filter, Option, Some, None, option_map, refl, sym, ap, ap₂, ◌∙◌, subst, append_assoc, ⊎_elim, inl, inr}
+use Rattle.std.proofs.Common.{◌≡◌, ℕ, Bool, true, false, not, ◌&&◌, ◌||◌, if◌then◌else◌, eqb, eqb-true, eq-eqb, List, [], ◌∷◌, ◌++◌, map, filter, Option, Some, None, option_map, refl, sym, ap, ap₂, ◌∙◌, subst, append_assoc, ⊎_elim}
 use Rattle.std.specs.List.{AllByRecursion, list_any}
 use Rattle.std.specs.List.Sorted.{IsStrictlySortedBy}
 use Rattle.std.specs.Option.{option_cmp, unwrap_or}
 use Rattle.std.specs.Ordering.{is_lt, nat_cmp, ordering_reverse, ordering_then}
 use Rattle.std.specs.Cmp.{IsTotalOrder}
 use Rattle.std.specs.declared.cmp.Ordering.{Ordering}
-use Rattle.std.specs.declared.cmp.Ordering.TheVariants.{Less, Equal, Greater}
+use Rattle.std.specs.declared.cmp.Ordering.TheVariants.{Less}
 use Rattle.std.proofs.lemmas.Bool.{and_parts, cases_Bool, true≢false}
 use Rattle.std.proofs.lemmas.Cmp.{tied_itself}
 use Rattle.jm_base.specs.Splices.{has}
@@ -16,7 +16,7 @@ use Rattle.jm_base.specs.declared.identifiers.Kind.TheVariants.{Mailbox as OfMai
 use Rattle.jm_base.proofs.Spliced.{has-filter, rising-filter}
 use Rattle.jm_json.specs.Tree.{Tree}
 use Rattle.mail_records.specs.Contents.{Content, email_at, email_number}
-use Rattle.mail_records.specs.Tables.{IsTable, lookup}
+use Rattle.mail_records.specs.Tables.{IsTable}
 use Rattle.mail_records.specs.declared.records.Email.{Email}
 use Rattle.mail_records.proofs.KeyTables.{lookup_number}
 use Rattle.method_args.specs.Arguments.{passes}
@@ -26,11 +26,11 @@ use Rattle.filter_terms.proofs.Lists.{In, any_found, any_here, found_in, in_foun
 use Rattle.sort_terms.specs.Comparators.{emails_cmp}
 use Rattle.sort_terms.specs.Forms.{comparators_of}
 use Rattle.query_engine.specs.Laws.{CollapsingTakesOut}
-use Rattle.query_engine.specs.Queries.{in_same_thread, email_before, email_matches, is_hidden, order_of, result_list, shows, shows_email}
+use Rattle.query_engine.specs.Queries.{in_same_thread, email_before, email_matches, is_hidden, order_of, result_list, shows_email}
 use Rattle.query_engine.specs.Threads.{first_of_threads, thread_of}
 use Rattle.query_engine.specs.Views.{QueryTree}
 use Rattle.query_engine.specs.Walks.{collapses, is_match, matches_list}
-use Rattle.query_engine.proofs.Results.{apart, is_matches_list, is_result_list, matches_have, matches_rise, result_has, result_rises, total}
+use Rattle.query_engine.proofs.Results.{is_result_list, matches_have, matches_rise, total}
 
 -- ---- over any order and any threads
 

@@ -1,20 +1,18 @@
 -- Whether a query shows a record depends on the record alone.
 use Rattle.std.proofs.Common.{◌≡◌, ℕ, Bool, true, false, not, ◌&&◌, ◌||◌, List, Option, Some, None, option_map, refl, sym, ap, ◌∙◌, subst, ⊎_elim}
 use Rattle.std.proofs.lemmas.Bool.{cases_Bool, or_parts, true≢false}
-use Rattle.jm_base.specs.declared.identifiers.Kind.{Kind}
-use Rattle.jm_base.specs.declared.identifiers.Kind.TheVariants.{Mailbox as OfMailboxes, Email as OfEmails}
+use Rattle.jm_base.specs.declared.identifiers.Kind.TheVariants.{Email as OfEmails}
 use Rattle.mail_records.specs.Contents.{Content, email_at}
 use Rattle.mail_records.specs.declared.records.Email.{Email}
 use Rattle.method_args.specs.Arguments.{passes}
-use Rattle.filter_terms.specs.Filters.{matches}
 use Rattle.filter_terms.specs.Laws.{SameEmailInThread}
-use Rattle.filter_terms.specs.Targets.{EmailInThread, of_thread, email_in_thread_at, email_in_thread}
+use Rattle.filter_terms.specs.Targets.{email_in_thread_at, email_in_thread}
 use Rattle.filter_terms.specs.Texts.{MessageTexts}
 use Rattle.filter_terms.specs.ThreadScope
 use Rattle.filter_terms.proofs.Alone as alone
 use Rattle.sort_terms.specs.Orders
 use Rattle.query_engine.specs.Laws.{EmailsDecide, MailboxesDecide}
-use Rattle.query_engine.specs.Queries.{email_matches, is_hidden, is_wide, shows, shows_email, shows_of}
+use Rattle.query_engine.specs.Queries.{email_matches, is_hidden, is_wide, shows_email, shows_of}
 use Rattle.query_engine.specs.Views.{QueryTree}
 
 same_seen : (c d : Content) (n : ℕ) → SameEmailInThread true c d n → email_in_thread_at c.emails n ≡ email_in_thread_at d.emails n

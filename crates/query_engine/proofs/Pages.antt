@@ -1,6 +1,5 @@
 -- What becomes of a page.
-use Rattle.std.proofs.Common.{Result, Ok, Err, OnOk, ◌≡◌, ℕ, ◌≤◌, Bool, true, false, not, ◌&&◌, ◌||◌, if◌then◌else◌, cond, eqb, eqb-true, eq-eqb, ltb, List, [], ◌∷◌, ◌++◌, take, length, Option, Some, None, refl, sym, ap, ap₂, ◌∙◌, subst, append_assoc, arith, ⊎_elim, nat_cmp}
-use Rattle.std.specs.Prelude.{nat_le}
+use Rattle.std.proofs.Common.{Result, Ok, Err, OnOk, ◌≡◌, ℕ, ◌≤◌, Bool, true, false, ◌&&◌, ◌||◌, if◌then◌else◌, cond, eqb, eqb-true, eq-eqb, List, [], ◌∷◌, ◌++◌, take, length, Some, None, refl, sym, ap, ap₂, ◌∙◌, subst, append_assoc, arith, ⊎_elim, nat_cmp}
 use Rattle.std.specs.BTreeMap.{is_at}
 use Rattle.std.specs.List.{list_any}
 use Rattle.std.specs.Ordering.{is_eq}

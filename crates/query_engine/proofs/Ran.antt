@@ -1,5 +1,5 @@
 -- What a page that a query went over comes to.
-use Rattle.std.proofs.Common.{◌≡◌, ℕ, Bool, true, false, if◌then◌else◌, List, [], ◌∷◌, ◌++◌, Option, Some, None, refl, sym, ap, ap₂, ◌∙◌}
+use Rattle.std.proofs.Common.{◌≡◌, ℕ, if◌then◌else◌, List, [], ◌∷◌, ◌++◌, Option, refl, ap, ap₂, ◌∙◌}
 use Rattle.mail_records.specs.Contents.{Content, email_number}
 use Rattle.mail_records.specs.Tables.{IsTable}
 use Rattle.filter_terms.specs.Texts.{MessageTexts}

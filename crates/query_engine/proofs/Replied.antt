@@ -1,14 +1,13 @@
 -- The members of a response in the order of their names, and how much of a list decides its part.
-use Rattle.std.proofs.Common.{◌≡◌, ℕ, zero, suc, ◌+◌, ◌<◌, ◌≤◌, ℤ, pos, negsuc, Bool, true, false, if◌then◌else◌, List, [], ◌∷◌, ◌++◌, take, drop, length, codes, Option, Some, None, refl, sym, ap, ap₂, subst, ◌∙◌, arith, IfSome}
+use Rattle.std.proofs.Common.{◌≡◌, ℕ, zero, suc, ◌+◌, ◌<◌, ◌≤◌, ℤ, pos, Bool, true, false, if◌then◌else◌, List, [], ◌∷◌, ◌++◌, take, drop, length, codes, Option, Some, None, refl, sym, ap, subst, ◌∙◌, arith, IfSome}
 use Rattle.jm_base.specs.Ids.{state_text}
 use Rattle.jm_base.specs.declared.identifiers.Kind.{Kind}
-use Rattle.jm_json.specs.Tree.{Tree, boolean, text, list, trees_of}
+use Rattle.jm_json.specs.Tree.{boolean, text, list, trees_of}
 use Rattle.mail_counts.specs.Views.{count_tree}
 use Rattle.query_engine.specs.Replies.{Decides, plain_members, with_limit, with_total}
 use Rattle.method_args.specs.Ids.{id_trees}
 use Rattle.query_engine.specs.Responses.{limit_members, response_members, total_members}
-use Rattle.query_engine.specs.Walks.{at_most}
-use Rattle.query_engine.specs.Windows.{Window, part, from_position, greatest_count, limit_of, part_from, start_by, limit_in_response, window_at, window_of, window_within}
+use Rattle.query_engine.specs.Windows.{part, from_position, greatest_count, limit_of, part_from, start_by, limit_in_response, window_at, window_of, window_within}
 use Rattle.query_engine.specs.declared.frame.Frame.{Frame}
 use Rattle.query_engine.specs.declared.frame.Shown.{Shown}
 

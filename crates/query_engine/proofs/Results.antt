@@ -1,6 +1,5 @@
 -- Each query has one result list.
 use Rattle.std.proofs.Common.{◌≡◌, ℕ, Bool, true, false, ◌&&◌, ◌||◌, eqb, eqb-true, eq-eqb, List, [], ◌∷◌, map, filter, Option, Some, None, option_map, is_some, refl, sym, ap, ◌∙◌, subst, ⊎_elim}
-use Rattle.std.specs.List.{list_any}
 use Rattle.std.specs.List.Sorted.{IsStrictlySortedBy}
 use Rattle.std.specs.Ordering.{is_eq}
 use Rattle.std.specs.Cmp.{IsTotalOrder}
@@ -24,7 +23,7 @@ use Rattle.filter_terms.specs.Texts.{MessageTexts}
 use Rattle.filter_terms.proofs.Lists.{any_same, same_tests}
 use Rattle.sort_terms.proofs.Total.{numbers_total, numbers_apart}
 use Rattle.query_engine.specs.Laws.{IsTheResult, ThereIsOneResult}
-use Rattle.query_engine.specs.Queries.{IsResult, numbers_of, order_of, result_list, shows, shows_email, shows_of, sorted_by}
+use Rattle.query_engine.specs.Queries.{numbers_of, order_of, result_list, shows, shows_email, shows_of, sorted_by}
 use Rattle.query_engine.specs.Views.{QueryTree}
 use Rattle.query_engine.specs.Walks.{is_match, matches_list}
 

@@ -1,22 +1,21 @@
 -- Rows in the order of time, from the first or from the last time on.
-use Rattle.std.proofs.Common.{◌≡◌, ◌≤◌, length, ℕ, ℤ, Bool, true, false, cond, ◌&&◌, ◌||◌, eqb, eqb-true, eq-eqb, List, [], ◌∷◌, ◌++◌, map, filter, take, drop, refl, sym, ap, ap₂, ◌∙◌, subst, append_assoc, take-append-drop, ⊎_elim, nat_cmp, arith}
+use Rattle.std.proofs.Common.{◌≡◌, ◌≤◌, length, ℕ, ℤ, Bool, true, false, cond, ◌&&◌, ◌||◌, List, [], ◌∷◌, ◌++◌, map, take, drop, refl, sym, ap, ap₂, ◌∙◌, subst, append_assoc, take-append-drop, ⊎_elim, nat_cmp, arith}
 use Rattle.std.specs.Prelude.{int_lt}
 use Rattle.std.specs.List.{AllByRecursion, list_any}
 use Rattle.std.specs.List.Sorted.{IsPartitionPoint, IsStrictlySortedBy}
 use Rattle.std.proofs.lemmas.List.{drop-map, drop_all, length-map, map-append, take-map}
-use Rattle.std.specs.Ordering.{flip_args, int_cmp, is_eq, is_lt, match_ordering, ordering_then}
+use Rattle.std.specs.Ordering.{int_cmp, is_eq, is_lt, match_ordering, ordering_then}
 use Rattle.std.specs.Cmp.{IsTotalOrder, signed_Decides}
 use Rattle.std.specs.declared.cmp.Ordering.{Ordering}
 use Rattle.std.specs.declared.cmp.Ordering.TheVariants.{Less, Equal, Greater}
 use Rattle.std.proofs.lemmas.Bool.{cases_Bool, true≢false}
-use Rattle.std.proofs.lemmas.Cmp.{back_total, int_cmp_total, nat_cmp_total, on_total, then_total, tied_itself}
+use Rattle.std.proofs.lemmas.Cmp.{back_total, int_cmp_total, nat_cmp_total, on_total, then_total}
 use Rattle.mail_records.specs.Orders.{has_by}
 use Rattle.mail_records.specs.OrderSteps.{put_in, put_all_in}
 use Rattle.mail_records.proofs.KeyTables.{nat_equal, then_first, then_second}
-use Rattle.mail_records.proofs.Rising.{all_back, all_front as all_first, has-put_all, rise-put_all}
+use Rattle.mail_records.proofs.Rising.{all_back, all_front as all_first, rise-put_all}
 use Rattle.mail_records.proofs.Unique.{rise_unique}
 use Rattle.query_engine.specs.Walks.{IsRunStart, Row, RowsAscend, descending, descending_cmp, ascending_cmp}
-use Rattle.query_engine.proofs.Results.{eq_Equal}
 
 pub rising_total : IsTotalOrder ascending_cmp
 rising_total = then_total (on_total (λ (r : Row). r.received) int_cmp_total) (on_total (λ (r : Row). r.number) nat_cmp_total)

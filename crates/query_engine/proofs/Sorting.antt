@@ -1,5 +1,5 @@
 -- The numbers that match, sorted, are the list of matches.
-use Rattle.std.proofs.Common.{◌≡◌, ℕ, ◌+◌, ◌<◌, Bool, true, false, ◌&&◌, eqb, ltb, lt-ltb, List, [], ◌∷◌, get_or, map, filter, Option, Some, None, option_map, refl, sym, ap, ◌∙◌, subst, arith, Ordering, Less, Equal, Greater, is_lt, ne_eqb, nat_cmp, IsPermutation, ⊎_elim}
+use Rattle.std.proofs.Common.{◌≡◌, ℕ, ◌+◌, ◌<◌, Bool, true, false, ◌&&◌, eqb, ltb, lt-ltb, List, [], ◌∷◌, get_or, map, filter, option_map, refl, sym, ap, ◌∙◌, subst, arith, Ordering, Less, Equal, Greater, is_lt, ne_eqb, nat_cmp, IsPermutation, ⊎_elim}
 use Rattle.std.specs.Cmp.{IsTotalOrder}
 use Rattle.std.specs.Ordering.{ordering_reverse}
 use Rattle.std.specs.List.{AllByRecursion, IsDistinct}
@@ -11,20 +11,17 @@ use Rattle.std.proofs.lemmas.Map.Keys.{IsStrictlyIncreasing-from_sorted, sorted_
 use Rattle.jm_base.specs.Splices.{has}
 use Rattle.jm_base.specs.declared.identifiers.Kind.{Kind}
 use Rattle.jm_base.specs.declared.identifiers.Kind.TheVariants.{Mailbox as OfMailboxes, Email as OfEmails, Thread as OfThreads}
-use Rattle.jm_base.proofs.Spliced.{has-filter}
-use Rattle.mail_records.specs.Contents.{Content, email_at, email_number, mailbox_at, mailbox_number}
-use Rattle.mail_records.specs.Tables.{IsTable, lookup}
-use Rattle.mail_records.specs.declared.records.Email.{Email}
-use Rattle.mail_records.specs.declared.records.Mailbox.{Mailbox}
+use Rattle.mail_records.specs.Contents.{Content, email_number, mailbox_number}
+use Rattle.mail_records.specs.Tables.{IsTable}
 use Rattle.method_args.specs.Arguments.{passes}
 use Rattle.filter_terms.specs.Filters.{holds}
 use Rattle.filter_terms.specs.Targets.{AMailbox, AnEmail, email_in_thread}
 use Rattle.filter_terms.specs.Texts.{MessageTexts}
-use Rattle.filter_terms.proofs.Lists.{In, in_found}
-use Rattle.query_engine.specs.Queries.{numbers_of, order_of, sorted_by}
+use Rattle.filter_terms.proofs.Lists.{in_found}
+use Rattle.query_engine.specs.Queries.{numbers_of, order_of}
 use Rattle.query_engine.specs.Views.{QueryTree}
 use Rattle.query_engine.specs.Walks.{is_match, kept_emails, kept_mailboxes, matches_list}
-use Rattle.query_engine.proofs.Results.{apart, one_list, sorted_is, total}
+use Rattle.query_engine.proofs.Results.{apart, sorted_is, total}
 use Rattle.query_engine.proofs.Walked.{all_of_in}
 
 less_from : (o p : Ordering) → p ≡ ordering_reverse o → is_lt p ≡ false → (o ≡ Equal → ⊥) → o ≡ Less

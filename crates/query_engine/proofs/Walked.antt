@@ -12,9 +12,8 @@ use Rattle.std.specs.Cmp.Lexicographic.{options_total}
 use Rattle.jm_base.specs.Splices.{has}
 use Rattle.jm_base.specs.declared.identifiers.Kind.TheVariants.{Email as OfEmails}
 use Rattle.jm_base.proofs.Spliced.{has-filter, rising-filter}
-use Rattle.mail_counts.specs.Counts.{is_in}
 use Rattle.mail_records.specs.Contents.{Content, email_at, email_number}
-use Rattle.mail_records.specs.Orders.{AreByReceived, AreKeys, AreInMailbox, Key, KeysRise, dated_key, dated_owner, has_in, has_key, key_cmp, key_of, keys_of, mailbox_keys, placed_key, placed_key_of, placed_owner, received_keys}
+use Rattle.mail_records.specs.Orders.{AreByReceived, AreKeys, AreInMailbox, Key, KeysRise, dated_key, dated_owner, has_in, has_key, key_cmp, key_of, mailbox_keys, placed_key, placed_key_of, placed_owner, received_keys}
 use Rattle.mail_records.specs.Tables.{lookup}
 use Rattle.mail_records.specs.declared.entries.Dated.{Dated}
 use Rattle.mail_records.specs.declared.entries.Placed.{Placed}
@@ -26,7 +25,7 @@ use Rattle.method_args.specs.Arguments.{passes}
 use Rattle.filter_terms.specs.Filters.{holds}
 use Rattle.filter_terms.specs.Targets.{AnEmail, EmailInThread, email_in_thread_at, email_in_thread}
 use Rattle.filter_terms.specs.Texts.{MessageTexts}
-use Rattle.filter_terms.proofs.Lists.{In, any_found, any_here, in_map, map_in, same_tests}
+use Rattle.filter_terms.proofs.Lists.{In, any_found, any_here, in_map, map_in}
 use Rattle.sort_terms.specs.Comparators.{emails_cmp}
 use Rattle.sort_terms.specs.Forms.{comparators_of}
 use Rattle.sort_terms.specs.declared.comparators.Comparator.{Comparator}
@@ -35,7 +34,7 @@ use Rattle.query_engine.specs.Queries.{order_of}
 use Rattle.query_engine.specs.Views.{QueryTree}
 use Rattle.query_engine.specs.Walks.{IsInMailbox, IsSortedByReceived, Row, RowsAscend, directed_rows, dated_row, descending, descending_cmp, directed_cmp, is_match, matches_list, matching, numbers_in, ascending_cmp, row_number}
 use Rattle.query_engine.proofs.Results.{is_matches_list}
-use Rattle.query_engine.proofs.RowLists.{all_map, all_sorted, any_sorted, falling_one, falling_total}
+use Rattle.query_engine.proofs.RowLists.{all_sorted, any_sorted, falling_one, falling_total}
 use Rattle.mail_records.proofs.Rising.{rise-put_all}
 
 -- ---- rows that are of emails of a content

@@ -2,10 +2,10 @@
 use Rattle.std.proofs.Common.{◌≡◌, ℕ, ◌+◌, ◌<◌, ◌≤◌, arith, length, drop, get_or, IfSome, Bool, true, false, ◌&&◌, if◌then◌else◌, cond, eqb, List, [], ◌∷◌, map, Option, Some, None, option_map, refl, sym, ap, ◌∙◌, subst, ◌⊎◌, inl, inr, ⊎_elim, bytes_eq, codes}
 use Rattle.std.specs.Prelude.{option_and_then}
 use Rattle.std.proofs.lemmas.List.{drop_more}
-use Rattle.std.specs.List.{list_all, list_any}
+use Rattle.std.specs.List.{list_all}
 use Rattle.std.proofs.lemmas.Bool.{and_parts, cases_Bool, true≢false}
 use Rattle.std.proofs.lemmas.Slice.Eq.{bytes_eq-Decides}
-use Rattle.jm_base.specs.declared.identifiers.Kind.TheVariants.{Mailbox as OfMailboxes, Email as OfEmails}
+use Rattle.jm_base.specs.declared.identifiers.Kind.TheVariants.{Email as OfEmails}
 use Rattle.jm_json.specs.Find.{as_list, as_object, as_text, find, list_of, pairs_of}
 use Rattle.jm_json.specs.Tree.{Tree, null, boolean, number, text, list, object, Trees, no_trees, tree, Fields, no_fields, field}
 use Rattle.mail_counts.specs.Counts.{is_in}
@@ -20,9 +20,7 @@ use Rattle.filter_terms.proofs.Lists.{any_same}
 use Rattle.sort_terms.specs.Forms.{comparator_in, comparator_with, comparators_from, comparators_of, if_any, is_ascending, keyword_in}
 use Rattle.sort_terms.specs.Properties.{property_named}
 use Rattle.sort_terms.specs.declared.properties.Property.TheVariants.{ReceivedAt}
-use Rattle.sort_terms.specs.declared.comparators.Comparator.{Comparator}
 use Rattle.query_engine.specs.Walks.{IsAmong, IsInMailbox, IsSortedByReceived, JoinsMailbox, NamesMailbox, is_conjunction, received_by}
-use Rattle.query_engine.specs.Windows.{is_id_of}
 
 some_same : {X : Type 0} (x y : X) → ◌≡◌ {A = Option X} (Some x) (Some y) → x ≡ y
 some_same x y e = cc

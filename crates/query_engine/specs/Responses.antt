@@ -1,6 +1,6 @@
 -- How a query is read from the arguments of a call, and the response to it (RFC 8620, 5.5; RFC
 -- 8621, 2.3 and 4.4).
-use Rattle.std.specs.Prelude.{◌≡◌, ℕ, ℤ, pos, Bool, true, false, List, [], ◌∷◌, ◌++◌, length, Option, Some, None, codes, if◌then◌else◌, option_and_then, option_map, ⊤}
+use Rattle.std.specs.Prelude.{◌≡◌, ℕ, ℤ, pos, Bool, true, false, List, [], ◌∷◌, ◌++◌, length, Option, Some, None, codes, if◌then◌else◌, ⊤}
 use Rattle.std.specs.Option.{unwrap_or}
 use Rattle.jm_base.specs.Ids.{state_text}
 use Rattle.jm_base.specs.declared.identifiers.Kind.{Kind}
@@ -9,7 +9,7 @@ use Rattle.jm_json.specs.Find.{as_object, find}
 use Rattle.jm_json.specs.Tree.{Tree, null, boolean, text, list, object, fields_of, trees_of}
 use Rattle.mail_counts.specs.Views.{count_tree}
 use Rattle.mail_records.specs.Contents.{Content}
-use Rattle.method_args.specs.Arguments.{Form, find_invalid, flag_in, given, integer_in, text_in}
+use Rattle.method_args.specs.Arguments.{Form, find_invalid, flag_in, integer_in, text_in}
 use Rattle.method_args.specs.Ids.{id_trees}
 use Rattle.method_args.specs.declared.form.Presence.TheVariants.{Required, Optional, Nullable}
 use Rattle.method_args.specs.declared.form.Shape.TheVariants.{String, Flag, Integer, Count}

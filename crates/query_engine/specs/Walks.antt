@@ -1,5 +1,5 @@
 -- For private clauses: lists that are already in a query's order, and what is shown of them.
-use Rattle.std.specs.Prelude.{nat_le, int_lt, ◌≡◌, ℕ, ◌≤◌, ℤ, Bool, true, false, ◌&&◌, List, [], ◌∷◌, ◌++◌, filter, map, length, take, drop, if◌then◌else◌, Option, Some, None, option_map, option_and_then, bytes_eq, codes, ◌==◌, ◌⊎◌, ⊤}
+use Rattle.std.specs.Prelude.{nat_le, int_lt, ◌≡◌, ℕ, ◌≤◌, ℤ, Bool, true, false, ◌&&◌, List, [], ◌∷◌, ◌++◌, filter, map, length, take, drop, if◌then◌else◌, Option, Some, None, option_and_then, bytes_eq, codes, ◌==◌, ◌⊎◌, ⊤}
 use Rattle.std.specs.List.{AllByRecursion}
 use Rattle.std.specs.List.Sorted.{IsStrictlySortedBy}
 use Rattle.std.specs.Ordering.{int_cmp, nat_cmp, ordering_then}
@@ -19,7 +19,6 @@ use Rattle.filter_terms.specs.Filters.{holds, matches}
 use Rattle.filter_terms.specs.Targets.{AMailbox, AnEmail, EmailInThread, email_in_thread}
 use Rattle.filter_terms.specs.Texts.{MessageTexts}
 use Rattle.sort_terms.specs.Forms.{comparators_of, is_ascending}
-use Rattle.sort_terms.specs.declared.comparators.Comparator.{Comparator}
 use Rattle.sort_terms.specs.declared.properties.Property.TheVariants.{ReceivedAt}
 use Rattle.query_engine.specs.Queries.{numbers_of, order_of, sorted_by}
 use Rattle.query_engine.specs.Threads.{first_of_threads}

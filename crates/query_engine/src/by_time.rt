@@ -2,7 +2,7 @@
 ghost use Rattle.std.specs.Prelude.{◌≡◌, map, IfOk, OnOk};
 ghost use Rattle.std.specs.List.Sorted.{IsPermutation, IsSorted};
 ghost use Rattle.jm_base.specs.declared.identifiers.Kind.TheVariants.{Email as OfEmails};
-ghost use Rattle.mail_records.specs.Contents.{email_number, mailbox_number};
+ghost use Rattle.mail_records.specs.Contents.{email_number};
 ghost use Rattle.mail_records.specs.Orders.{dated_owner};
 ghost use Rattle.mail_records.specs.Tables.{IsTable};
 ghost use Rattle.query_engine.specs.Walks.{Follows, IsSortedByReceived, dated_cmp, kept_dated, matches_list};

@@ -1,5 +1,5 @@
 // Emails in an order by the time received, from the first on or from the last time on.
-ghost use Rattle.std.specs.Prelude.{◌≡◌, List, OnOk, length, map, true};
+ghost use Rattle.std.specs.Prelude.{◌≡◌, OnOk, length, map, true};
 ghost use Rattle.jm_base.specs.declared.identifiers.Kind.TheVariants.{Email as OfEmails};
 ghost use Rattle.mail_records.specs.Contents.{email_at};
 ghost use Rattle.filter_terms.specs.Filters.{holds};

@@ -1,11 +1,11 @@
 // The part of a result list that a frame names (RFC 8620, section 5.5).
-ghost use Rattle.std.specs.Prelude.{◌≡◌, ◌<◌, ◌^◌, ◌==◌, ℕ, drop, false, take, IfErr, IfNone, IfOk, IfSome, option_map};
+ghost use Rattle.std.specs.Prelude.{◌≡◌, ◌<◌, ◌^◌, ◌==◌, ℕ, drop, false, take, IfErr, IfNone, IfOk, IfSome};
 ghost use Rattle.mail_records.specs.States.{is_kind};
 ghost use Rattle.query_engine.specs.Windows.{ExplainsWindow, from_position, greatest_count, index_where, is_id_of, limit_of, moved, part, part_from, start_of, limit_in_response, unsigned, window_of};
 
 use crate::frame::{Frame, Shown, WindowFault};
 use crate::limits::MAX_IDS_PER_QUERY;
-use jm_base::{Kind, NoMemory, Numbers, Text, read_id};
+use jm_base::{Kind, NoMemory, Numbers, read_id};
 use std::alloc::Global;
 
 fn is_kind(one: Kind, other: Kind) -> bool

@@ -1,4 +1,4 @@
-use Rattle.std.proofs.Common.{◌≡◌, ℕ, List, IfOk, map, subst, sym, ap, ◌∙◌}
+use Rattle.std.proofs.Common.{◌≡◌, ℕ, List, IfOk, map, subst, ap, ◌∙◌}
 use Rattle.mail_records.specs.Contents.{mailbox_number}
 use Rattle.mail_records.specs.Orders.{dated_owner}
 use Rattle.mail_records.specs.Tables.{IsTable}

@@ -1,7 +1,7 @@
 use mir.Val.{to_z, of_z}
 use Rattle.std.proofs.Common.{◌≡◌, ℤ, map, rules, subst, w64, ◌∙◌}
 use Rattle.query_engine.specs.Walks.{IsRunStart, descending, matching}
-use Rattle.query_engine.proofs.Walking.{before_on, before_rise, full_on, others_rise, shorter, start_fits}
+use Rattle.query_engine.proofs.Walking.{before_on, before_rise, others_rise}
 use Rattle.query_engine.proofs.rows.walk_descending.Goals as goal
 
 pub run_start-requires : goal.run_start-requires

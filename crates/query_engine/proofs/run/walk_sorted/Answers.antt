@@ -1,4 +1,4 @@
-use Rattle.std.proofs.Common.{ℕ, List, OnOk, is_lt, subst, sym, ◌∙◌}
+use Rattle.std.proofs.Common.{ℕ, List, OnOk, is_lt, subst, ◌∙◌}
 use Rattle.std.specs.List.Sorted.{IsSortedBy}
 use Rattle.mail_records.specs.Contents.{email_number, mailbox_number}
 use Rattle.mail_records.specs.Tables.{IsTable}
