@@ -1,7 +1,6 @@
 // Reads numbers, truth values and other fields of a known width from the start of bytes.
 ghost use Rattle.std.specs.Prelude.{◌≡◌, false, ◌≤◌};
-ghost use Rattle.std.specs.Int.{w64, to_be_bytes};
-ghost use Rattle.jm_base.specs.UtcDates.{IsUtcDate};
+ghost use Rattle.std.specs.Int.{to_be_bytes};
 ghost use Rattle.record_codec.specs.NextBytes.{left_in_word};
 ghost use Rattle.record_codec.specs.Reading.{Gives};
 ghost use Rattle.record_codec.specs.Readers.{number_at, number_between, truth_at, date_at, optional_at, tag_at};

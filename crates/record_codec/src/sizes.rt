@@ -1,7 +1,7 @@
 // How many bytes edits take where they are kept. A sum stops at 2^64 - 1.
 ghost use Rattle.std.specs.Prelude.{◌≡◌, ◌+◌, length};
 ghost use Rattle.record_codec.specs.Sizes.{capped, edit_bytes};
-ghost use Rattle.record_codec.specs.Encoding.{blob, listed, number, optional, date, summary, subscribed_and_counts, mailbox, message, email, thread, edit};
+ghost use Rattle.record_codec.specs.Encoding.{blob, listed, number, optional, date, summary, mailbox, email, thread, edit};
 
 use jm_base::{Text, UtcDate};
 use mail_records::{Edit, Email, Mailbox, Summary, Thread};

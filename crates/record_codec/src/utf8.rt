@@ -1,6 +1,6 @@
 // The bytes of characters in UTF-8 (RFC 3629, section 4): what may follow, and what could replace
 // them.
-ghost use Rattle.std.specs.Prelude.{◌≡◌, ◌+◌, ◌-◌, ◌<◌, ◌^◌, Some, length, if◌then◌else◌};
+ghost use Rattle.std.specs.Prelude.{◌≡◌, ◌+◌, ◌-◌, ◌<◌, ◌^◌, Some, if◌then◌else◌};
 ghost use Rattle.record_codec.specs.NextBytes.{after_lead, after_byte, start, top_lead, can_rise, rise_cost, turns, less_of, least_length};
 
 /// The rest of a character: `more` bytes, the next of them from `low` to `high`. If none is left, a
