@@ -1,8 +1,8 @@
 // The identifiers of a server's accounts.
-ghost use Rattle.std.specs.Prelude.{◌≡◌, ◌&&◌, not, nat_lt, length, map, bytes_eq, unwrap_or, IfOk, OnOk};
+ghost use Rattle.std.specs.Prelude.{◌≡◌, ◌&&◌, not, nat_lt, length, bytes_eq, IfOk, OnOk};
 ghost use Rattle.std.specs.List.{list_all, position};
 ghost use Rattle.jm_json.specs.Json.{tree_of};
-ghost use Rattle.server_users.specs.Configuration.{account_ids, id_in, is_account_id, is_among, is_id_byte, number_of, with_mention, with_mentions};
+ghost use Rattle.server_users.specs.Configuration.{account_ids, is_account_id, is_among, is_id_byte, number_of, with_mention, with_mentions};
 ghost use Rattle.server_users.specs.declared.limits.TheConstants.{MAX_ACCOUNTS};
 
 use crate::limits::{MAX_ACCOUNT_ID_BYTES, MAX_ACCOUNTS};

@@ -1,5 +1,5 @@
 // The least of the places that are not of the form.
-ghost use Rattle.std.specs.Prelude.{◌≡◌, ◌++◌, Some, IfOk, codes, decimal};
+ghost use Rattle.std.specs.Prelude.{◌≡◌, ◌++◌, Some, IfOk};
 ghost use Rattle.server_users.specs.BadPlaces.{account_pointer, bad_if, user_pointer};
 ghost use Rattle.server_users.specs.Lookups.{least_from, lesser};
 

@@ -1,5 +1,5 @@
 // The users of a server, and their accounts.
-ghost use Rattle.std.specs.Prelude.{◌≡◌, map};
+ghost use Rattle.std.specs.Prelude.{◌≡◌};
 ghost use Rattle.server_users.specs.Configuration.{AreNumbered};
 ghost use Rattle.server_users.specs.Lookups.{user_with};
 
