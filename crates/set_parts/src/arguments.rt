@@ -1,5 +1,5 @@
 // The arguments that sets have in common (RFC 8620, section 5.3).
-ghost use Rattle.std.specs.Prelude.{◌≡◌, ◌+◌, IfOk, codes, length, map, option_map};
+ghost use Rattle.std.specs.Prelude.{◌≡◌, ◌+◌, IfOk, codes, map, option_map};
 ghost use Rattle.std.specs.List.{filter_map};
 ghost use Rattle.jm_json.specs.Json.{member_of};
 ghost use Rattle.set_parts.specs.Arguments.{account_in, count_objects, create_in, creates_named, destroys_in, if_in_state, update_in, updates_in};

@@ -1,5 +1,5 @@
 // Whether a call is rejected as a whole (RFC 8620, sections 3.6.2 and 5.3).
-ghost use Rattle.std.specs.Prelude.{◌≡◌, ◌∷◌, ◌++◌, [], IfErr, IfOk, MatchResult, None, map, option_map, unwrap_or};
+ghost use Rattle.std.specs.Prelude.{◌≡◌, ◌∷◌, ◌++◌, [], IfOk, MatchResult, None, map, option_map};
 ghost use Rattle.method_args.specs.Arguments.{find_invalid, form_of};
 ghost use Rattle.set_parts.specs.Arguments.{if_in_state, set_forms_with, update_form};
 ghost use Rattle.set_parts.specs.Outcomes.{ExplainsRejection, is_other_state, rejected, rejected_by, rejected_for};
