@@ -5,16 +5,14 @@ use Rattle.std.specs.Ordering.{is_lt, nat_cmp, ordering_then}
 use Rattle.std.specs.List.{list_any}
 use Rattle.std.proofs.lemmas.Bool.{or_parts, true≢false}
 use Rattle.jm_base.specs.declared.identifiers.Kind.TheVariants.{Mailbox as OfMailboxes, Email as OfEmails}
-use Rattle.jm_json.specs.Tree.{Tree}
-use Rattle.mail_records.specs.Contents.{Content, email_at, mailbox_at}
+use Rattle.mail_records.specs.Contents.{email_at}
 use Rattle.mail_records.specs.declared.records.Email.{Email}
-use Rattle.filter_terms.specs.Laws.{SameEmailInThread}
-use Rattle.filter_terms.specs.Targets.{EmailInThread, of_thread, email_in_thread_at, email_in_thread}
+use Rattle.filter_terms.specs.Targets.{of_thread, email_in_thread_at, email_in_thread}
 use Rattle.filter_terms.proofs.Alone.{with_thread}
 use Rattle.sort_terms.specs.Comparators.{directed, email_property_cmp, emails_cmp, mailboxes_cmp}
 use Rattle.sort_terms.specs.Forms.{comparators_of}
 use Rattle.sort_terms.specs.Laws.{EmailsDecide, MailboxesDecide}
-use Rattle.sort_terms.specs.Orders.{is_wide, numbers_cmp}
+use Rattle.sort_terms.specs.Orders.{is_wide}
 use Rattle.sort_terms.specs.Properties.{is_wide_property}
 use Rattle.sort_terms.specs.declared.comparators.Comparator.{Comparator}
 use Rattle.sort_terms.specs.declared.properties.Property.{Property}

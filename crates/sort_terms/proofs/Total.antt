@@ -1,9 +1,8 @@
 -- The order of records is total, and no two numbers are equal by it.
-use Rattle.std.proofs.Common.{◌≡◌, ◌≢◌, ℕ, List, [], ◌∷◌, Bool, true, false, Option, Some, None, refl, sym, ap, ◌∙◌, arith}
-use Rattle.std.specs.Option.{option_cmp}
-use Rattle.std.specs.Ordering.{bool_cmp, flip_args, int_cmp, is_eq, is_lt, nat_cmp, on, ordering_reverse, ordering_then, then_cmp}
+use Rattle.std.proofs.Common.{◌≡◌, ◌≢◌, ℕ, List, [], ◌∷◌, Bool, true, false, refl, sym, ap, ◌∙◌, arith}
+use Rattle.std.specs.Ordering.{is_eq, is_lt, nat_cmp, on, ordering_reverse, ordering_then}
 use Rattle.std.specs.Cmp.{IsTotalOrder, bool_cmp_total}
-use Rattle.std.specs.Cmp.Lexicographic.{options_total, slice_cmp}
+use Rattle.std.specs.Cmp.Lexicographic.{options_total}
 use Rattle.std.specs.List.{list_all, list_any}
 use Rattle.std.specs.Str.{str_to_ascii_uppercase}
 use Rattle.std.specs.declared.cmp.Ordering.{Ordering}
@@ -16,10 +15,9 @@ use Rattle.jm_json.specs.Tree.{Tree}
 use Rattle.mail_counts.specs.Counts.{has_keyword}
 use Rattle.mail_records.proofs.KeyTables.{nat_equal}
 use Rattle.mail_records.specs.Contents.{Content, mailbox_at}
-use Rattle.mail_records.specs.declared.records.Email.{Email}
 use Rattle.mail_records.specs.declared.records.Mailbox.{Mailbox}
 use Rattle.filter_terms.specs.Targets.{EmailInThread, email_in_thread_at}
-use Rattle.sort_terms.specs.Comparators.{directed, email_property_cmp, emails_cmp, equal_cmp, mailbox_property_cmp, mailboxes_cmp, sent_seconds, text_cmp}
+use Rattle.sort_terms.specs.Comparators.{directed, email_property_cmp, emails_cmp, mailbox_property_cmp, mailboxes_cmp, sent_seconds, text_cmp}
 use Rattle.sort_terms.specs.Forms.{comparators_of}
 use Rattle.sort_terms.specs.Laws.{BeforeGoesOn, NeverBeforeItself, OneIsBefore}
 use Rattle.sort_terms.specs.Orders.{numbers_cmp, records_cmp}

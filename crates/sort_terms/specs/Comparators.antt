@@ -1,5 +1,5 @@
 -- How a comparator compares two emails or two mailboxes (RFC 8620, 5.5; RFC 8621, 2.3 and 4.4.2).
-use Rattle.std.specs.Prelude.{ℕ, ℤ, List, [], ◌∷◌, Bool, true, false, map, Option, if◌then◌else◌, option_map}
+use Rattle.std.specs.Prelude.{ℕ, ℤ, List, [], ◌∷◌, Bool, true, false, Option, if◌then◌else◌, option_map}
 use Rattle.std.specs.List.{list_all, list_any}
 use Rattle.std.specs.Option.{option_cmp}
 use Rattle.std.specs.Ordering.{bool_cmp, flip_args, int_cmp, nat_cmp, on, then_cmp}
@@ -7,7 +7,6 @@ use Rattle.std.specs.Cmp.Lexicographic.{slice_cmp}
 use Rattle.std.specs.Str.{str_to_ascii_uppercase}
 use Rattle.std.specs.declared.cmp.Ordering.{Ordering}
 use Rattle.mail_counts.specs.Counts.{has_keyword}
-use Rattle.mail_records.specs.declared.records.Email.{Email}
 use Rattle.mail_records.specs.declared.records.Mailbox.{Mailbox}
 use Rattle.filter_terms.specs.Targets.{EmailInThread}
 use Rattle.sort_terms.specs.declared.comparators.Comparator.{Comparator}

@@ -1,7 +1,7 @@
 -- Which trees are lists of comparators, what they are, and the first fault of a tree that is none
 -- (RFC 8620, 5.5). A member of a wrong kind is `invalidArguments`; then a property or a collation
 -- that is not known is `unsupportedSort`. Members of other names are ignored.
-use Rattle.std.specs.Prelude.{◌≡◌, ℕ, List, [], ◌∷◌, Bool, true, false, cond, Option, Some, None, codes, bytes_eq, is_some, option_and_then, option_map, ⊤}
+use Rattle.std.specs.Prelude.{◌≡◌, ℕ, List, [], ◌∷◌, Bool, true, false, cond, Option, Some, None, codes, bytes_eq, option_and_then, option_map, ⊤}
 use Rattle.std.specs.Option.{option_or, unwrap_or}
 use Rattle.std.specs.Str.{str_to_ascii_lowercase}
 use Rattle.jm_base.specs.declared.identifiers.Kind.{Kind}

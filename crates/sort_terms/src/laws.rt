@@ -1,12 +1,7 @@
 // What the definitions of orders come to: laws, each as the contract of a function that does
 // nothing.
 ghost use Rattle.std.specs.Prelude.{◌≡◌, ℕ, [], ◌∷◌};
-ghost use Rattle.std.specs.Ordering.{is_lt, nat_cmp};
-ghost use Rattle.jm_base.specs.declared.identifiers.Kind.{Kind};
-ghost use Rattle.jm_json.specs.Tree.{list, no_trees, null};
-ghost use Rattle.mail_records.specs.Contents.{Content};
 ghost use Rattle.sort_terms.specs.Laws.{BeforeGoesOn, EmailsDecide, MailboxesDecide, NeverBeforeItself, OneIsBefore};
-ghost use Rattle.sort_terms.specs.Orders.{is_before};
 
 /// An order is strict and total: no record is before itself; what is before a record that is before
 /// another is before the other; and of two records one is before the other. So a query has one

@@ -1,12 +1,10 @@
 // An order, and which of two records is before the other.
 ghost use Rattle.std.specs.Prelude.{◌≡◌, IfErr, IfOk, OnOk};
-ghost use Rattle.std.specs.Option.{option_cmp};
-ghost use Rattle.std.specs.Ordering.{is_lt, nat_cmp, ordering_then};
+ghost use Rattle.std.specs.Ordering.{nat_cmp, ordering_then};
 ghost use Rattle.std.specs.List.{list_any};
 ghost use Rattle.jm_base.specs.declared.identifiers.Kind.TheVariants.{Email as OfEmails, Mailbox as OfMailboxes};
 ghost use Rattle.jm_json.specs.Json.{tree_of};
-ghost use Rattle.mail_records.specs.Contents.{mailbox_at};
-ghost use Rattle.filter_terms.specs.Targets.{email_in_thread_at, email_in_thread};
+ghost use Rattle.filter_terms.specs.Targets.{email_in_thread};
 ghost use Rattle.sort_terms.specs.Comparators.{emails_cmp, mailboxes_cmp};
 ghost use Rattle.sort_terms.specs.Forms.{IsOrder, Refuses, comparators_of};
 ghost use Rattle.sort_terms.specs.Orders;
