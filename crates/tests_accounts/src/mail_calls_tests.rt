@@ -1,7 +1,6 @@
 // Calls on a book by the rules of mail. The expected answers are those of RFC 8620, sections 3.6.2, 5.1 to 5.3, 5.5 and 6.1,
 // and RFC 8621, sections 4.8 and 4.9.
 use account_book::{Ask, Book, Call, Out, Rules, StartFault};
-use blob_store::{BlobList, MAX_BLOB_BYTES_PER_ACCOUNT};
 use jm_base::{Bytes, NoMemory, Rows, Text};
 use jm_json::{Invocation, Json, Made, read, write};
 use keep_port::{Kept, MemoryKeeper};
