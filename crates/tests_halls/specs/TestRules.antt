@@ -1,7 +1,7 @@
 -- The rules by which the tests of halls perform calls: a method adds a mailbox without a name, and
 -- is answered with its number; a copy carries nothing, and adds such a mailbox where it is placed.
 -- No rules of the product use them.
-use Rattle.std.specs.Prelude.{ℕ, ◌≤◌, false, List, [], ◌∷◌, None}
+use Rattle.std.specs.Prelude.{ℕ, ◌≤◌, false, [], ◌∷◌, None}
 use Rattle.blob_store.specs.Blobs.{AreBlobsFew}
 use Rattle.jm_json.specs.Invocations.{call_of}
 use Rattle.jm_json.specs.declared.invocation.Invocation.{Invocation}
