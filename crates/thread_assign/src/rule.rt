@@ -4,7 +4,7 @@ ghost use Rattle.mail_records.specs.Contents.{email_number};
 ghost use Rattle.mail_records.specs.Tables.{IsTable};
 ghost use Rattle.thread_assign.specs.Threads.{has_subject, is_related, joined_thread, share_link};
 
-use jm_base::{Text, Texts};
+use jm_base::Text;
 use mail_records::{Email, Summary};
 
 // Returns whether the lists of links have one in common.
