@@ -1,20 +1,18 @@
 -- A content passes the tests if and only if it is tidy.
-use Rattle.std.proofs.Common.{◌≡◌, ◌↔◌, Result, Ok, Err, IfOk, ℕ, ℤ, pos, ◌≤ℤ◌, int_le, T, Bool, true, false, ◌&&◌, not, ◌≤◌, ◌<◌, nat_le, nat_lt, eqb, List, [], ◌∷◌, map, filter, length, Option, Some, None, is_none, is_some, refl, sym, ap, ap₂, ◌∙◌, subst, arith, ⊎_elim, Decides, IsPermutation, IsTrue}
+use Rattle.std.proofs.Common.{◌≡◌, ◌↔◌, Result, Ok, Err, IfOk, ℕ, ℤ, pos, ◌≤ℤ◌, int_le, T, Bool, true, false, ◌&&◌, not, ◌≤◌, ◌<◌, nat_le, nat_lt, eqb, List, [], ◌∷◌, map, filter, length, Option, Some, None, is_none, is_some, refl, sym, ap, ap₂, ◌∙◌, subst, arith, ⊎_elim, Decides, IsTrue}
 use Rattle.std.specs.Int.Signed.{le_z_yes}
-use Rattle.std.specs.List.{AllByRecursion, IsDistinct, list_all, list_any}
-use Rattle.std.specs.List.Sorted.{IsStrictlySortedBy}
+use Rattle.std.specs.List.{AllByRecursion, list_all}
 use Rattle.std.specs.Option.{ForSome}
-use Rattle.std.specs.Ordering.{is_eq, nat_cmp}
+use Rattle.std.specs.Ordering.{nat_cmp}
 use Rattle.std.specs.Cmp.{nat_cmp_total}
 use Rattle.std.specs.Cmp.Lexicographic.{slice_cmp, nat_list_cmp_total}
 use Rattle.std.proofs.lemmas.Bool.{true≢false}
 use Rattle.std.proofs.lemmas.Bool.Decides.{Decides-eqb}
 use Rattle.std.proofs.lemmas.List.{length-map}
-use Rattle.std.proofs.lemmas.List.Sorted.{list_any-IsPermutation}
 use Rattle.jm_base.specs.UtcDates.{IsUtcDate}
 use Rattle.jm_base.specs.declared.identifiers.UtcDate.{UtcDate}
 use Rattle.jm_base.specs.declared.utc_dates.TheConstants.{FIRST_TIMESTAMP, LAST_TIMESTAMP}
-use Rattle.mail_records.specs.Contents.{AreTables, Content, email_number, mailbox_at, mailbox_number, thread_at, thread_number}
+use Rattle.mail_records.specs.Contents.{AreTables, Content, email_number, mailbox_number, thread_at, thread_number}
 use Rattle.mail_records.specs.Commits.{NumbersRise, TextsRise}
 use Rattle.mail_records.specs.Tables.{IsNumbered, IsTable}
 use Rattle.mail_records.specs.declared.limits.TheConstants.{MAX_MAILBOXES_PER_EMAIL}
@@ -23,10 +21,10 @@ use Rattle.mail_records.specs.declared.records.Email.{Email}
 use Rattle.mail_records.specs.declared.records.Thread.{Thread}
 use Rattle.mail_records.proofs.Rising.{all_map}
 use Rattle.mail_counts.specs.declared.limits.TheConstants.{MAX_EMAILS_PER_ACCOUNT, MAX_KEYWORDS_PER_EMAIL}
-use Rattle.mail_counts.specs.Counts.{HasCounts, emails_in, is_unread, is_unread_thread, threads_in}
-use Rattle.mail_counts.specs.DerivedEdits.{are_equal_counts, counts_over, own_counts, same_numbers}
+use Rattle.mail_counts.specs.Counts.{HasCounts}
+use Rattle.mail_counts.specs.DerivedEdits.{counts_over, same_numbers}
 use Rattle.mail_counts.specs.Forms.{is_keyword, is_name, is_role, is_sort_order}
-use Rattle.mail_counts.specs.Tidy.{AreEmailsTidy, AreMailboxesTidy, AreThreadsTidy, HasRoot, IsListOf, IsPlaced, IsThere, IsTidy, IsTidyEmail, IsWellFormed, ancestor, share_name, share_role}
+use Rattle.mail_counts.specs.Tidy.{AreMailboxesTidy, HasRoot, IsListOf, IsPlaced, IsThere, IsTidy, IsTidyEmail, IsWellFormed, ancestor, share_name, share_role}
 use Rattle.mail_counts.specs.Touched.{in_order, list_of_thread}
 use Rattle.mail_counts.proofs.Listed.{in_order_moves, in_order_rises}
 use Rattle.mail_counts.proofs.Groups.{list-unique, table_kept}

@@ -1,6 +1,6 @@
 -- The tests by which a content is found to be tidy, one record after the other. Each is true if and
 -- only if what it tests holds (`Rattle.mail_counts.specs.Tidy`).
-use Rattle.std.specs.Prelude.{ℕ, pos, Bool, true, false, ◌&&◌, not, ◌==◌, nat_le, nat_lt, int_le, List, [], ◌∷◌, length, Option, Some, None, is_none, is_some}
+use Rattle.std.specs.Prelude.{ℕ, pos, Bool, true, ◌&&◌, not, ◌==◌, nat_le, nat_lt, int_le, List, [], ◌∷◌, length, Option, Some, None, is_none, is_some}
 use Rattle.std.specs.List.{list_any, list_all}
 use Rattle.std.specs.Ordering.{is_lt, nat_cmp}
 use Rattle.std.specs.declared.cmp.Ordering.{Ordering}

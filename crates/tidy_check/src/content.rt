@@ -1,5 +1,5 @@
 // Whether a content is tidy.
-ghost use Rattle.std.specs.Prelude.{◌≡◌, ◌↔◌, ◌++◌, IfOk, IsTrue, map, take};
+ghost use Rattle.std.specs.Prelude.{◌≡◌, ◌↔◌, ◌++◌, IfOk, IsTrue, map};
 ghost use Rattle.mail_counts.specs.Tidy.{IsTidy};
 ghost use Rattle.tidy_check.specs.Checks.{passes};
 

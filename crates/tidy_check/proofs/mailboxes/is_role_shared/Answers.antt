@@ -1,4 +1,4 @@
-use Rattle.std.proofs.Common.{◌≡◌, ◌==◌, false, not, sym, ap, ◌∙◌, subst, List, Option, Some, None}
+use Rattle.std.proofs.Common.{◌≡◌, ◌==◌, not, ◌∙◌, Some, None}
 use Rattle.mail_counts.proofs.Lookups.{roles_found}
 use Rattle.tidy_check.proofs.Siblings.{role_shared_by, role_unshared}
 use Rattle.tidy_check.proofs.mailboxes.is_role_shared.Goals as goal

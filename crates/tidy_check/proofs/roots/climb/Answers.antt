@@ -1,4 +1,4 @@
-use Rattle.std.proofs.Common.{◌≡◌, ◌≤◌, ◌+◌, ◌∷◌, ◌++◌, [], length, length-append, Option, Some, None, refl, sym, ap, ◌∙◌, subst, arith}
+use Rattle.std.proofs.Common.{◌≡◌, ◌≤◌, ◌+◌, ◌∷◌, ◌++◌, [], length, length-append, Some, None, refl, sym, ap, ◌∙◌, subst, arith}
 use Rattle.tidy_check.specs.Chains.{IsPath}
 use Rattle.tidy_check.proofs.Climbing.{no_root, path_pushed}
 use Rattle.tidy_check.proofs.roots.climb.Goals as goal

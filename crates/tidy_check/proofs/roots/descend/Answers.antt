@@ -1,4 +1,3 @@
-use Rattle.std.proofs.Common.{sym}
 use Rattle.tidy_check.proofs.Climbing.{climbed_back, depths_with}
 use Rattle.tidy_check.proofs.roots.descend.Goals as goal
 
