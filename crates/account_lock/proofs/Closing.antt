@@ -10,7 +10,7 @@ use Rattle.mail_records.specs.Histories.{Entry}
 use Rattle.account_lock.specs.Entries.{StartsWith}
 use Rattle.account_lock.specs.Views.{Origin, View}
 use Rattle.account_lock.specs.Rule.{IsKept}
-use Rattle.account_lock.specs.Views.{PassFacts, facts_of, origin_of}
+use Rattle.account_lock.specs.Views.{PassFacts, Turn, facts_of, origin_of}
 use Rattle.account_lock.specs.Passes.{IsLast, HasEndedAll, HasNoOthers, KeepsEnded}
 use Rattle.account_lock.proofs.Naming.{ends, all_ended}
 
@@ -23,12 +23,12 @@ pub record Last {Y : Type 0} (shows : Y → List Entry) (origin : Y → Origin) 
   pub same : origin y ≡ origin_of k
   pub untouched : k.given ≡ 0 → y ≡ built
 
-pub closes : {Y : Type 0} (shows : Y → List Entry) (origin : Y → Origin) (built : Y) (z : TableId) (k : PassFacts) (me : ℕ) (v : View) (words : List ℕ) (slots : List (Option Y)) (x : Option Y)
-    → facts_of z v ≡ k → k.root ≡ true → IsLast k → Final (Seen (IsKept shows origin built) me v) words slots → get_elem? slots 0 ≡ some x → (y : Y) × (x ≡ Some y) × Last shows origin built k y
-closes shows origin built z k me v words slots x is root last f at =
-    let all = all_ended shows origin built f.0 me v f.1.0 f.1.1 (ap (λ (q : PassFacts). q.root) is ∙ root) (subst IsLast (sym is) last) in
+pub closes : {Y : Type 0} (shows : Y → List Entry) (origin : Y → Origin) (built : Y) (z : TableId) (first last : Option Turn) (k : PassFacts) (me : ℕ) (v : View) (words : List ℕ) (slots : List (Option Y)) (x : Option Y)
+    → facts_of z first last v ≡ k → k.root ≡ true → IsLast k → Final (Seen (IsKept shows origin built) me v) words slots → get_elem? slots 0 ≡ some x → (y : Y) × (x ≡ Some y) × Last shows origin built k y
+closes shows origin built z first last k me v words slots x is root all_given f at =
+    let all = all_ended shows origin built f.0 me v f.1.0 f.1.1 (ap (λ (q : PassFacts). q.root) is ∙ root) (subst IsLast (sym is) all_given) in
     let e = ends shows origin built f.0 me v f.1.0 f.1.1 (ap (λ (q : PassFacts). q.root) is ∙ root) all in
-    let others : HasNoOthers (facts_of z v) (shows e.0) = λ n none_has. ⊎_elim
+    let others : HasNoOthers (facts_of z first last v) (shows e.0) = λ n none_has. ⊎_elim
     (λ (n_is : n ≡ 0). e.4 n (inl n_is))
     (λ (p : 0 < n). elim (dec_le n v.given) [
       | yes q ↦ let m = all n p q in absurd (none_has m.0 m.1 m.2 m.3)

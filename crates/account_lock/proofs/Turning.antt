@@ -194,7 +194,7 @@ module _ {Y : Type 0} (shows : Y → List Entry) (origin : Y → Origin) (built 
       (λ h. ap (λ (x : View). x.turn) (same_at s.views me d v (subst (λ (k : ℕ). get_elem? s.views k ≡ some d) h at_j) at) ∙ no_turn)
       (λ other. not_true d.turn (lone j d other at_j)) in
       let h = r.home free in
-      let w : View = record v { turn = true; seen = shows h.0 } in
+      let w : View = record v { turn = true; turns = v.turns + 1; seen = shows h.0 } in
       let count = waiting_set s.views me v w at in
       let more = r.tickets in
       let shown = h.2 in (

@@ -5,7 +5,7 @@ use lib.ListN.{get_elem?}
 use Rattle.atomic_table.specs.Seated.{TableId}
 use Rattle.mail_records.specs.Histories.{Entry, History}
 use Rattle.account_lock.specs.Entries.{under, longer_of}
-use Rattle.account_lock.specs.Views.{Ended, PassFacts}
+use Rattle.account_lock.specs.Views.{Ended, PassFacts, no_turn}
 
 -- the root of a lock that was just built
 abbrev pub root_of : TableId → ℕ → History → PassFacts
@@ -18,6 +18,7 @@ root_of z before opening =
       before = before;
       opening = opening;
       holds = false;
+      last = no_turn;
       seen = [];
       own = [];
       ended = [];
@@ -34,6 +35,7 @@ split_off k =
       before = k.before;
       opening = k.opening;
       holds = false;
+      last = no_turn;
       seen = k.seen;
       own = [];
       ended = [];

@@ -1,7 +1,7 @@
 -- What each atomic step shows the thread that makes it: the seat before, the number that the step
 -- found in its word, the seat after. A seat is a view and the slots that are out with it, each with
 -- its value.
-use Rattle.std.specs.Prelude.{◌≡◌, ◌≢◌, ℕ, ◌%◌, ◌^◌, ◌≤◌, true, false, List, [], ◌∷◌, length, Option, Some, None}
+use Rattle.std.specs.Prelude.{◌≡◌, ◌≢◌, ℕ, ◌+◌, ◌%◌, ◌^◌, ◌≤◌, true, false, List, [], ◌∷◌, length, Option, Some, None}
 use Rattle.atomic_table.specs.Table.{Me}
 use Rattle.atomic_table.specs.Seated.{TableId}
 use Rattle.mail_records.specs.Histories.{Entry}
@@ -45,11 +45,14 @@ module _ {Y : Type 0} where
       → length m.0.ended ≤ m.0.given)
 
 module _ {Y : Type 0} (shows : Y → List Entry) (origin : Y → Origin) where
-  -- The turn has come, and the seat has the value. Its entries begin with those that were seen, and
-  -- of the names that the view knows it has exactly the entries that the view knows.
+  -- The turn has come, one more than before, and the seat has the value. Its entries begin with
+  -- those that were seen, and of the names that the view knows it has exactly the entries that the
+  -- view knows.
   abbrev pub Got : SeatOf Y → SeatOf Y → Type 0
-  Got m m' = (y : Y) × (m' ≡ (record m.0 { turn = true; seen = shows y }, (0, Some y) ∷ m.1))
-      × StartsWith (shows y) m.0.seen × Knows m.0 (shows y) × (origin y ≡ m.0.origin)
+  Got m m' = (y : Y) × (m' ≡ (
+    record m.0 { turn = true; turns = m.0.turns + 1; seen = shows y },
+    (0, Some y) ∷ m.1,
+  )) × StartsWith (shows y) m.0.seen × Knows m.0 (shows y) × (origin y ≡ m.0.origin)
 
   -- the serving word was watched: if it shows the ticket the turn has come, else nothing changed
   abbrev pub watched : SeatOf Y → ℕ → SeatOf Y → Type 0

@@ -1,7 +1,7 @@
 -- What the holder of a pass knows of the lock: its view. Views are ghost data. The table of words
 -- and slots keeps the view of each pass in its proofs, and only a step of that pass's holder
 -- changes it. So what a view says has to stay true whatever the other threads do.
-use Rattle.std.specs.Prelude.{◌≡◌, ◌⊎◌, ℕ, ◌+◌, ◌<◌, Bool, true, false, List, [], ◌∷◌, ◌++◌, if◌then◌else◌}
+use Rattle.std.specs.Prelude.{◌≡◌, ◌⊎◌, ℕ, ◌+◌, ◌<◌, Bool, true, false, List, [], ◌∷◌, ◌++◌, Option, Some, None, if◌then◌else◌}
 use mathlib.Core.Option.{some}
 use lib.ListN.{get_elem?}
 use Rattle.atomic_table.specs.Seated.{TableId}
@@ -35,6 +35,8 @@ pub record View : Type 0 where
   pub ticket : ℕ
   -- its turn has come: no other thread touches the value
   pub turn : Bool
+  -- how many of its turns have come
+  pub turns : ℕ
   -- the caller has the value, and the slot is empty
   pub away : Bool
   -- the entries that it has seen
@@ -57,6 +59,7 @@ rooted origin =
       waits = false;
       ticket = 0;
       turn = false;
+      turns = 0;
       away = false;
       seen = [];
       heard = [];
@@ -79,6 +82,7 @@ newcomer v =
       waits = false;
       ticket = 0;
       turn = false;
+      turns = 0;
       away = false;
       seen = v.seen;
       heard = [];
@@ -114,6 +118,7 @@ spent =
       waits = false;
       ticket = 0;
       turn = false;
+      turns = 0;
       away = false;
       seen = [];
       heard = [];
@@ -130,6 +135,32 @@ pub record LockFacts (B : Type 0) : Type 0 where
   pub id : TableId
   pub built : B
 
+-- a turn: the lock, the name of the pass, and how many turns the pass had had, with this one
+pub record Turn : Type 0 where
+  pub lock : TableId
+  pub name : ℕ
+  pub number : ℕ
+
+-- what is known of the last turn of a pass
+pub record LastTurn : Type 0 where
+  -- how many turns the pass has had; 0 if it had none yet
+  pub number : ℕ
+  -- the turn of another pass that went on when it began, and when it ended, where that is noted
+  pub began_in : Option Turn
+  pub ended_in : Option Turn
+
+-- no turn yet
+abbrev pub no_turn : LastTurn
+no_turn = record { number = 0; began_in = None; ended_in = None }
+
+-- the last turn of a pass once one more began, within this turn of another pass if there is one
+abbrev pub begun_within : Option Turn → LastTurn → LastTurn
+begun_within other t = record { number = t.number + 1; began_in = other; ended_in = None }
+
+-- the last turn of a pass once it ended, within this turn of another pass if there is one
+abbrev pub ended_within : Option Turn → LastTurn → LastTurn
+ended_within other t = record t { ended_in = other }
+
 -- what contracts see of a pass: its lock, and what its view says
 pub record PassFacts : Type 0 where
   -- the lock that it is of
@@ -145,6 +176,8 @@ pub record PassFacts : Type 0 where
   pub opening : History
   -- its holder has the value
   pub holds : Bool
+  -- its last turn, which goes on while its holder has the value
+  pub last : LastTurn
   -- the entries that its holder has seen
   pub seen : List Entry
   -- the entries that it gave
@@ -152,9 +185,15 @@ pub record PassFacts : Type 0 where
   -- the names of the passes that it was joined with, each with the entries that it gave
   pub ended : List Ended
 
--- the facts of a pass of this lock with this view
-abbrev pub facts_of : TableId → View → PassFacts
-facts_of z v =
+-- the turn that a pass of this lock with this view has, if it has one
+abbrev pub turn_with : TableId → View → Option Turn
+turn_with z v =
+    if v.turn then Some (record { lock = z; name = v.name; number = v.turns }) else None
+
+-- the facts of a pass of this lock with this view, and with these turns of other passes, in which
+-- its last turn began and ended
+abbrev pub facts_of : TableId → Option Turn → Option Turn → View → PassFacts
+facts_of z first last v =
     record {
       lock = z;
       root = v.root;
@@ -163,6 +202,7 @@ facts_of z v =
       before = v.origin.before;
       opening = v.origin.opening;
       holds = v.turn;
+      last = record { number = v.turns; began_in = first; ended_in = last };
       seen = v.seen;
       own = v.own;
       ended = v.ended;
@@ -173,9 +213,20 @@ abbrev pub origin_of : PassFacts → Origin
 origin_of k = record { before = k.before; opening = k.opening }
 
 -- a pass has one view
-abbrev pub facts : TableId → List View → PassFacts
-facts z [] = facts_of z spent
-facts z (v ∷ vs) = facts_of z v
+abbrev pub view_of : List View → View
+view_of [] = spent
+view_of (v ∷ vs) = v
+
+abbrev pub facts : TableId → Option Turn → Option Turn → List View → PassFacts
+facts z first last views = facts_of z first last (view_of views)
+
+-- the last turn of a pass
+abbrev pub turn_of : PassFacts → Turn
+turn_of k = record { lock = k.lock; name = k.name; number = k.last.number }
+
+-- the turn that a pass has, if it has one
+abbrev pub going_turn : PassFacts → Option Turn
+going_turn k = if k.holds then Some (turn_of k) else None
 
 -- the view of a pass between two calls: it waits only while it has the turn, and then the value is
 -- with the caller

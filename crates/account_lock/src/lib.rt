@@ -12,6 +12,7 @@
 mod account_view;
 mod limits;
 mod lock;
+mod noted;
 mod rule;
 mod steps;
 #[cfg(test)]

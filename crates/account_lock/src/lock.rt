@@ -1,10 +1,12 @@
 // The lock and its passes.
-ghost use Rattle.std.specs.Prelude.{◌≡◌, ◌<◌, ◌^◌, ◌+◌, ◌∷◌, [], true, false, IfOk, IfErr, Some, Ok, length, ◌≤◌};
+ghost use Rattle.std.specs.Prelude.{◌≡◌, ◌<◌, ◌^◌, ◌+◌, ◌∷◌, [], true, false, IfOk, IfErr, Some, None, Ok, length, ◌≤◌};
 ghost use Rattle.account_lock.specs.Entries.{under, StartsWith, ExtendsUnder};
 ghost use Rattle.account_lock.specs.Passes.{KeepsEnded, IsLast, HasEndedAll, HasNoOthers, root_of, split_off, taken_in};
+ghost use Rattle.account_lock.specs.Views.{begun_within, ended_within, going_turn};
 
 use crate::account_view::AccountView;
 use crate::limits::MAX_NAMES;
+use crate::noted::Noted;
 use crate::rule::{Naming, Turns};
 use crate::steps::{await_turn, draw_ticket, lay_back, lift, look_back};
 use crate::view::PassView;
@@ -43,7 +45,9 @@ impl<B: AccountView> Model for AccountLock<B> {
 
 /// The right to take turns at one lock, under a name. Contracts see its lock, its name, what its
 /// holder has seen, the entries that were given under it, and the names that ended with it, each
-/// with its entries.
+/// with its entries. They also see its last turn: how many it has had, and the turns of other
+/// passes in which it began and ended, where that was said ([`AccountLock::take_within`],
+/// [`AccountLock::give_within`]).
 ///
 /// The first pass of a lock is its root. It takes no turns: it gives the names, and at the end it
 /// closes the lock.
@@ -52,6 +56,8 @@ pub struct Pass {
     name: u64,
     given: u64,
     badge: Badge<PassView>,
+    began: Noted,
+    ended: Noted,
 }
 
 impl Model for Pass {
@@ -59,7 +65,7 @@ impl Model for Pass {
 
     ghost Value = { PassFacts };
 
-    ghost view = { λ p. facts p.badge.table_id p.badge.views };
+    ghost view = { λ p. facts p.badge.table_id p.began p.ended p.badge.views };
 
     ghost invariant = { λ p. IsSettled p.name p.given p.badge.views };
 }
@@ -98,6 +104,8 @@ impl<B: AccountView> AccountLock<B> {
                     name: 0,
                     given: 0,
                     badge: seat.into_badge(),
+                    began: Noted::none(),
+                    ended: Noted::none(),
                 },
             )),
             Err(refused) => {
@@ -113,7 +121,11 @@ impl<B: AccountView> AccountLock<B> {
     pub fn take<R: Wait>(&self, rt: &R, pass: &mut Pass) -> Box<B>
         requires lock { pass.old.lock ≡ self.now.id }
         requires free { (pass.old.root ≡ false) × (pass.old.holds ≡ false) }
-        ensures pass { pass.new ≡ record pass.old { holds = true; seen = B.entries result.value } }
+        ensures pass { pass.new ≡ record pass.old {
+          holds = true;
+          last = begun_within None pass.old.last;
+          seen = B.entries result.value;
+        } }
         ensures seen { StartsWith (B.entries result.value) pass.old.seen }
         ensures own { under pass.old.name (B.entries result.value) ≡ pass.old.own }
         ensures ended { KeepsEnded pass.old (B.entries result.value) }
@@ -126,6 +138,30 @@ impl<B: AccountView> AccountLock<B> {
         await_turn(rt, words, &mut seat, ticket);
         let value = lift(words, &mut seat);
         pass.badge = seat.into_badge();
+        pass.began = Noted::none();
+        pass.ended = Noted::none();
+        value
+    }
+
+    /// Does what [`AccountLock::take`] does, while another pass, which may be of another lock, has
+    /// its turn. Contracts then see in which turn of the other pass this turn began.
+    pub fn take_within<R: Wait>(&self, rt: &R, pass: &mut Pass, other: &Pass) -> Box<B>
+        requires lock { pass.old.lock ≡ self.now.id }
+        requires free { (pass.old.root ≡ false) × (pass.old.holds ≡ false) }
+        requires other { other.now.holds ≡ true }
+        ensures pass { pass.new ≡ record pass.old {
+          holds = true;
+          last = begun_within (going_turn other.now) pass.old.last;
+          seen = B.entries result.value;
+        } }
+        ensures seen { StartsWith (B.entries result.value) pass.old.seen }
+        ensures own { under pass.old.name (B.entries result.value) ≡ pass.old.own }
+        ensures ended { KeepsEnded pass.old (B.entries result.value) }
+        ensures before { B.before result.value ≡ pass.old.before }
+        ensures opening { B.opening result.value ≡ pass.old.opening }
+    {
+        let value = self.take(rt, pass);
+        pass.began = other.note_turn();
         value
     }
 
@@ -139,6 +175,7 @@ impl<B: AccountView> AccountLock<B> {
         requires opening { B.opening value.value ≡ pass.old.opening }
         ensures { pass.new ≡ record pass.old {
           holds = false;
+          last = ended_within None pass.old.last;
           seen = B.entries value.value;
           own = under pass.old.name (B.entries value.value);
         } }
@@ -147,6 +184,27 @@ impl<B: AccountView> AccountLock<B> {
         let mut seat = mem::replace(&mut pass.badge, Badge::blank()).into_seat::<Option<Box<B>>>();
         lay_back(words, &mut seat, value);
         pass.badge = seat.into_badge();
+        pass.ended = Noted::none();
+    }
+
+    /// Does what [`AccountLock::give`] does, while another pass, which may be of another lock, has
+    /// its turn. Contracts then see in which turn of the other pass this turn ended.
+    pub fn give_within(&self, pass: &mut Pass, value: Box<B>, other: &Pass)
+        requires lock { pass.old.lock ≡ self.now.id }
+        requires holds { pass.old.holds ≡ true }
+        requires other { other.now.holds ≡ true }
+        requires entries { ExtendsUnder pass.old.name pass.old.seen (B.entries value.value) }
+        requires before { B.before value.value ≡ pass.old.before }
+        requires opening { B.opening value.value ≡ pass.old.opening }
+        ensures { pass.new ≡ record pass.old {
+          holds = false;
+          last = ended_within (going_turn other.now) pass.old.last;
+          seen = B.entries value.value;
+          own = under pass.old.name (B.entries value.value);
+        } }
+    {
+        self.give(pass, value);
+        pass.ended = other.note_turn();
     }
 
     /// Returns a pass with the next name, which has seen what the root has seen. It takes no memory
@@ -166,6 +224,8 @@ impl<B: AccountView> AccountLock<B> {
             name: pass.given,
             given: 0,
             badge: new.into_badge(),
+            began: Noted::none(),
+            ended: Noted::none(),
         })
     }
 
@@ -219,5 +279,12 @@ impl Pass {
         ensures { result ≡ self.now.name }
     {
         self.name
+    }
+
+    // Notes the turn that it has, if it has one.
+    fn note_turn(&self) -> Noted
+        ensures { result ≡ going_turn self.now }
+    {
+        Noted::of(&self.badge)
     }
 }

@@ -1,5 +1,6 @@
 // Threads that take turns at a small value, a waiter that parks, and passes that are joined.
-ghost use Rattle.std.specs.Prelude.{◌≡◌, ◌+◌, ◌<◌, ◌^◌, [], true, false, length, IfOk, IfSome, ◌++◌, ◌∷◌};
+ghost use Rattle.std.specs.Prelude.{◌≡◌, ◌+◌, ◌<◌, ◌^◌, [], true, false, length, IfOk, IfSome, OnOk, Some, ◌++◌, ◌∷◌};
+ghost use Rattle.account_lock.specs.Views.{turn_of};
 
 mod diary;
 
@@ -29,7 +30,7 @@ fn turns<R: Wait>(
 ) -> Result<Pass, NoMemory>
     requires lock { pass.lock ≡ lock.now.id }
     requires free { (pass.root ≡ false) × (pass.holds ≡ false) }
-    ensures { IfOk result (λ p. p ≡ record pass { seen = p.seen; own = p.own }) }
+    ensures { IfOk result (λ p. p ≡ record pass { last = p.last; seen = p.seen; own = p.own }) }
 {
     for serial in 0..count {
         enter_in_turn(rt, lock, &mut pass, serial)?;
@@ -48,19 +49,23 @@ fn two_at_once<R: Threads + Wait + Sync>(
     requires lock { (first.lock ≡ lock.now.id) × (second.lock ≡ lock.now.id) }
     requires free { (first.root ≡ false) × (first.holds ≡ false) × (second.root ≡ false)
         × (second.holds ≡ false) }
-    ensures first { IfOk result (λ r. r.0 ≡ record first { seen = r.0.seen; own = r.0.own }) }
-    ensures second { IfOk result (λ r. r.1 ≡ record second { seen = r.1.seen; own = r.1.own }) }
+    ensures first { IfOk result (λ r. r.0
+        ≡ record first { last = r.0.last; seen = r.0.seen; own = r.0.own }) }
+    ensures second { IfOk result (λ r. r.1
+        ≡ record second { last = r.1.last; seen = r.1.seen; own = r.1.own }) }
 {
     let (a, b) = join(
         rt,
         || -> Result<Pass, NoMemory>
             requires { (first.lock ≡ lock.now.id) × (first.root ≡ false) × (first.holds ≡ false) }
-            ensures { IfOk result (λ p. p ≡ record first { seen = p.seen; own = p.own }) }
+            ensures { IfOk result (λ p. p
+                ≡ record first { last = p.last; seen = p.seen; own = p.own }) }
         { turns(rt, lock, first, TURNS) },
         || -> Result<Pass, NoMemory>
             requires { (second.lock ≡ lock.now.id) × (second.root ≡ false)
                 × (second.holds ≡ false) }
-            ensures { IfOk result (λ p. p ≡ record second { seen = p.seen; own = p.own }) }
+            ensures { IfOk result (λ p. p
+                ≡ record second { last = p.last; seen = p.seen; own = p.own }) }
         { turns(rt, lock, second, TURNS) },
     );
     Ok((a?, b?))
@@ -98,14 +103,16 @@ fn by_four<R: Threads + Wait + Sync>(
         || -> Result<(Pass, Pass), NoMemory>
             requires { (a.lock ≡ lock.id) × (a.root ≡ false) × (a.holds ≡ false)
                 × (b.lock ≡ lock.id) × (b.root ≡ false) × (b.holds ≡ false) }
-            ensures { IfOk result (λ r. (r.0 ≡ record a { seen = r.0.seen; own = r.0.own })
-                × (r.1 ≡ record b { seen = r.1.seen; own = r.1.own })) }
+            ensures { IfOk result (λ r.
+                (r.0 ≡ record a { last = r.0.last; seen = r.0.seen; own = r.0.own })
+                × (r.1 ≡ record b { last = r.1.last; seen = r.1.seen; own = r.1.own })) }
         { two_at_once(rt, &lock, a, b) },
         || -> Result<(Pass, Pass), NoMemory>
             requires { (c.lock ≡ lock.id) × (c.root ≡ false) × (c.holds ≡ false)
                 × (d.lock ≡ lock.id) × (d.root ≡ false) × (d.holds ≡ false) }
-            ensures { IfOk result (λ r. (r.0 ≡ record c { seen = r.0.seen; own = r.0.own })
-                × (r.1 ≡ record d { seen = r.1.seen; own = r.1.own })) }
+            ensures { IfOk result (λ r.
+                (r.0 ≡ record c { last = r.0.last; seen = r.0.seen; own = r.0.own })
+                × (r.1 ≡ record d { last = r.1.last; seen = r.1.seen; own = r.1.own })) }
         { two_at_once(rt, &lock, c, d) },
     );
     let (a, b) = low?;
@@ -188,7 +195,7 @@ fn hold<R: Wait + Clock>(
 ) -> Option<Pass>
     requires lock { pass.lock ≡ lock.now.id }
     requires free { (pass.root ≡ false) × (pass.holds ≡ false) }
-    ensures { IfSome result (λ p. p ≡ record pass { seen = p.seen; own = p.own }) }
+    ensures { IfSome result (λ p. p ≡ record pass { last = p.last; seen = p.seen; own = p.own }) }
 {
     let diary = lock.take(rt, &mut pass);
     held.store(true, Ordering::SeqCst);
@@ -216,7 +223,7 @@ fn come<R: Wait + Clock>(
 ) -> Option<Pass>
     requires lock { pass.lock ≡ lock.now.id }
     requires free { (pass.root ≡ false) × (pass.holds ≡ false) }
-    ensures { IfSome result (λ p. p ≡ record pass { seen = p.seen; own = p.own }) }
+    ensures { IfSome result (λ p. p ≡ record pass { last = p.last; seen = p.seen; own = p.own }) }
 {
     let found = look_for(rt, held);
     let entered = enter_in_turn(rt, lock, &mut pass, 7);
@@ -247,11 +254,13 @@ fn hold_and_come<R: Threads + Wait + Clock + Sync>(
         rt,
         || -> Option<Pass>
             requires { (first.lock ≡ lock.id) × (first.root ≡ false) × (first.holds ≡ false) }
-            ensures { IfSome result (λ p. p ≡ record first { seen = p.seen; own = p.own }) }
+            ensures { IfSome result (λ p. p
+                ≡ record first { last = p.last; seen = p.seen; own = p.own }) }
         { hold(rt, &lock, first, with_ticket, &held, &done) },
         || -> Option<Pass>
             requires { (second.lock ≡ lock.id) × (second.root ≡ false) × (second.holds ≡ false) }
-            ensures { IfSome result (λ p. p ≡ record second { seen = p.seen; own = p.own }) }
+            ensures { IfSome result (λ p. p
+                ≡ record second { last = p.last; seen = p.seen; own = p.own }) }
         { come(rt, &lock, second, &held, &done) },
     );
     end(&lock, &mut root, one?);
@@ -298,6 +307,7 @@ fn join_in_turn<R: Wait>(rt: &R, lock: &AccountLock<Diary>, pass: &mut Pass, oth
     requires free { (pass.old.root ≡ false) × (pass.old.holds ≡ false) }
     requires other { (other.root ≡ false) × (other.holds ≡ false) × (other.ended ≡ []) }
     ensures pass { pass.new ≡ record pass.old {
+      last = pass.new.last;
       seen = pass.new.seen;
       own = pass.new.own;
       ended = pass.new.ended;
@@ -343,6 +353,78 @@ fn a_pass_ends_through_another(rt: HostRuntime) -> Result<(), Fail> {
         Stamp { pass: 1, serial: 7 },
     ];
     assert_eq!(rt; diary.stamps(), wanted.as_slice());
+    Ok(())
+}
+
+// A pass of each of two locks has a turn, the second within that of the first.
+fn one_within_another<R: Wait>(
+    rt: &R,
+    locks: (&AccountLock<Diary>, &AccountLock<Diary>),
+    first: &mut Pass,
+    second: &mut Pass,
+)
+    requires locks { (first.old.lock ≡ locks.0.now.id) × (second.old.lock ≡ locks.1.now.id) }
+    requires free { (first.old.root ≡ false) × (first.old.holds ≡ false)
+        × (second.old.root ≡ false) × (second.old.holds ≡ false) }
+    ensures first { first.new ≡ record first.old {
+      last = first.new.last;
+      seen = first.new.seen;
+      own = first.new.own;
+    } }
+    ensures second { second.new ≡ record second.old {
+      last = second.new.last;
+      seen = second.new.seen;
+      own = second.new.own;
+    } }
+    ensures once { first.new.last.number ≡ first.old.last.number + 1 }
+    ensures within { second.new.last ≡ record {
+      number = second.old.last.number + 1;
+      began_in = Some (turn_of first.new);
+      ended_in = Some (turn_of first.new);
+    } }
+{
+    let diary = locks.0.take(rt, first);
+    let other = locks.1.take_within(rt, second, first);
+    locks.1.give_within(second, other, first);
+    locks.0.give(first, diary);
+}
+
+// A stamp is entered in each of two diaries after a turn at both. Answers both.
+fn after_both<R: Wait>(
+    rt: &R,
+    one: (AccountLock<Diary>, Pass),
+    two: (AccountLock<Diary>, Pass),
+) -> Result<(Box<Diary>, Box<Diary>), NoMemory>
+    requires locks { (one.1.lock ≡ one.0.id) × (two.1.lock ≡ two.0.id) }
+    requires one { (one.1.root ≡ true) × (one.1.given ≡ 0) × (one.1.ended ≡ []) }
+    requires two { (two.1.root ≡ true) × (two.1.given ≡ 0) × (two.1.ended ≡ []) }
+{
+    let (lock, mut root) = one;
+    let (other_lock, mut other_root) = two;
+    let mut first = lock.split(&mut root)?;
+    let mut second = other_lock.split(&mut other_root)?;
+    one_within_another(rt, (&lock, &other_lock), &mut first, &mut second);
+    enter_in_turn(rt, &lock, &mut first, 3)?;
+    enter_in_turn(rt, &other_lock, &mut second, 4)?;
+    end(&lock, &mut root, first);
+    end(&other_lock, &mut other_root, second);
+    Ok((lock.close(root), other_lock.close(other_root)))
+}
+
+#[test]
+fn a_turn_lies_within_one_of_another_lock(rt: HostRuntime) -> Result<(), Fail> {
+    let alloc = rt.alloc();
+    let diary = Box::new(alloc, Diary::new(alloc))?;
+    let other = Box::new(alloc, Diary::new(alloc))?;
+    let (Ok(one), Ok(two)) = (
+        AccountLock::build(alloc, diary),
+        AccountLock::build(alloc, other),
+    ) else {
+        return Err(Fail::from(std::alloc::AllocError));
+    };
+    let (diary, other) = after_both(&rt, one, two)?;
+    assert_eq!(rt; diary.stamps(), [Stamp { pass: 1, serial: 3 }].as_slice());
+    assert_eq!(rt; other.stamps(), [Stamp { pass: 1, serial: 4 }].as_slice());
     Ok(())
 }
 

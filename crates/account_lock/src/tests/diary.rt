@@ -74,7 +74,11 @@ pub fn enter_in_turn<R: Wait>(
 ) -> Result<(), NoMemory>
     requires lock { pass.old.lock ≡ lock.now.id }
     requires free { (pass.old.root ≡ false) × (pass.old.holds ≡ false) }
-    ensures same { pass.new ≡ record pass.old { seen = pass.new.seen; own = pass.new.own } }
+    ensures same { pass.new ≡ record pass.old {
+      last = pass.new.last;
+      seen = pass.new.seen;
+      own = pass.new.own;
+    } }
     ensures seen { StartsWith pass.new.seen pass.old.seen }
     ensures ok { OnOk result (pass.new.own ≡ pass.old.own ++ Refused record { pass = pass.old.name; serial = serial } ∷ []) }
     ensures err { OnErr result (pass.new.own ≡ pass.old.own) }

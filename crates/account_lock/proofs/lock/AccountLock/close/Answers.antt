@@ -10,7 +10,7 @@ unwrap-requires g c =
     let shows : Box g.row.B.Denot Global → List _ = λ b. g.B.AccountView.entries b.value in
     let origin : Box g.row.B.Denot Global → Origin = λ b. record { before = g.B.AccountView.before b.value; opening = g.B.AccountView.opening b.value } in
     let built : Box g.row.B.Denot Global = c.self.inside.table.shared.key.value in
-    let e = closes shows origin built c.pass.inside.badge.table_id _ _ _ _ _ c.take-value.result (sym (ap (facts c.pass.inside.badge.table_id) c.into_seat.ensures.2) ∙ c.pass.view_is) c.requires.root.0 c.requires.root.1 c.close_with-closed.ensures.values.2 c.take-value.ensures.value in
+    let e = closes shows origin built c.pass.inside.badge.table_id c.pass.inside.began c.pass.inside.ended _ _ _ _ _ c.take-value.result (sym (ap (facts c.pass.inside.badge.table_id c.pass.inside.began c.pass.inside.ended) c.into_seat.ensures.2) ∙ c.pass.view_is) c.requires.root.0 c.requires.root.1 c.close_with-closed.ensures.values.2 c.take-value.ensures.value in
     subst IsSome (sym e.1) (search rules)
 
 pub returns-clause-seen : goal.returns-clause-seen
@@ -18,7 +18,7 @@ returns-clause-seen g c =
     let shows : Box g.row.B.Denot Global → List _ = λ b. g.B.AccountView.entries b.value in
     let origin : Box g.row.B.Denot Global → Origin = λ b. record { before = g.B.AccountView.before b.value; opening = g.B.AccountView.opening b.value } in
     let built : Box g.row.B.Denot Global = c.self.inside.table.shared.key.value in
-    let e = closes shows origin built c.pass.inside.badge.table_id _ _ _ _ _ c.take-value.result (sym (ap (facts c.pass.inside.badge.table_id) c.into_seat.ensures.2) ∙ c.pass.view_is) c.requires.root.0 c.requires.root.1 c.close_with-closed.ensures.values.2 c.take-value.ensures.value in
+    let e = closes shows origin built c.pass.inside.badge.table_id c.pass.inside.began c.pass.inside.ended _ _ _ _ _ c.take-value.result (sym (ap (facts c.pass.inside.badge.table_id c.pass.inside.began c.pass.inside.ended) c.into_seat.ensures.2) ∙ c.pass.view_is) c.requires.root.0 c.requires.root.1 c.close_with-closed.ensures.values.2 c.take-value.ensures.value in
     let same : e.0 ≡ c.unwrap.result = cc (e.1, c.unwrap.ensures) in
     (subst (Last shows origin built c.args.pass) same e.2).seen
 
@@ -27,7 +27,7 @@ returns-clause-ended g c =
     let shows : Box g.row.B.Denot Global → List _ = λ b. g.B.AccountView.entries b.value in
     let origin : Box g.row.B.Denot Global → Origin = λ b. record { before = g.B.AccountView.before b.value; opening = g.B.AccountView.opening b.value } in
     let built : Box g.row.B.Denot Global = c.self.inside.table.shared.key.value in
-    let e = closes shows origin built c.pass.inside.badge.table_id _ _ _ _ _ c.take-value.result (sym (ap (facts c.pass.inside.badge.table_id) c.into_seat.ensures.2) ∙ c.pass.view_is) c.requires.root.0 c.requires.root.1 c.close_with-closed.ensures.values.2 c.take-value.ensures.value in
+    let e = closes shows origin built c.pass.inside.badge.table_id c.pass.inside.began c.pass.inside.ended _ _ _ _ _ c.take-value.result (sym (ap (facts c.pass.inside.badge.table_id c.pass.inside.began c.pass.inside.ended) c.into_seat.ensures.2) ∙ c.pass.view_is) c.requires.root.0 c.requires.root.1 c.close_with-closed.ensures.values.2 c.take-value.ensures.value in
     let same : e.0 ≡ c.unwrap.result = cc (e.1, c.unwrap.ensures) in
     (subst (Last shows origin built c.args.pass) same e.2).ended
 
@@ -36,7 +36,7 @@ returns-clause-all g c =
     let shows : Box g.row.B.Denot Global → List _ = λ b. g.B.AccountView.entries b.value in
     let origin : Box g.row.B.Denot Global → Origin = λ b. record { before = g.B.AccountView.before b.value; opening = g.B.AccountView.opening b.value } in
     let built : Box g.row.B.Denot Global = c.self.inside.table.shared.key.value in
-    let e = closes shows origin built c.pass.inside.badge.table_id _ _ _ _ _ c.take-value.result (sym (ap (facts c.pass.inside.badge.table_id) c.into_seat.ensures.2) ∙ c.pass.view_is) c.requires.root.0 c.requires.root.1 c.close_with-closed.ensures.values.2 c.take-value.ensures.value in
+    let e = closes shows origin built c.pass.inside.badge.table_id c.pass.inside.began c.pass.inside.ended _ _ _ _ _ c.take-value.result (sym (ap (facts c.pass.inside.badge.table_id c.pass.inside.began c.pass.inside.ended) c.into_seat.ensures.2) ∙ c.pass.view_is) c.requires.root.0 c.requires.root.1 c.close_with-closed.ensures.values.2 c.take-value.ensures.value in
     let same : e.0 ≡ c.unwrap.result = cc (e.1, c.unwrap.ensures) in
     (subst (Last shows origin built c.args.pass) same e.2).all
 
@@ -45,7 +45,7 @@ returns-clause-names g c =
     let shows : Box g.row.B.Denot Global → List _ = λ b. g.B.AccountView.entries b.value in
     let origin : Box g.row.B.Denot Global → Origin = λ b. record { before = g.B.AccountView.before b.value; opening = g.B.AccountView.opening b.value } in
     let built : Box g.row.B.Denot Global = c.self.inside.table.shared.key.value in
-    let e = closes shows origin built c.pass.inside.badge.table_id _ _ _ _ _ c.take-value.result (sym (ap (facts c.pass.inside.badge.table_id) c.into_seat.ensures.2) ∙ c.pass.view_is) c.requires.root.0 c.requires.root.1 c.close_with-closed.ensures.values.2 c.take-value.ensures.value in
+    let e = closes shows origin built c.pass.inside.badge.table_id c.pass.inside.began c.pass.inside.ended _ _ _ _ _ c.take-value.result (sym (ap (facts c.pass.inside.badge.table_id c.pass.inside.began c.pass.inside.ended) c.into_seat.ensures.2) ∙ c.pass.view_is) c.requires.root.0 c.requires.root.1 c.close_with-closed.ensures.values.2 c.take-value.ensures.value in
     let same : e.0 ≡ c.unwrap.result = cc (e.1, c.unwrap.ensures) in
     (subst (Last shows origin built c.args.pass) same e.2).names
 
@@ -54,7 +54,7 @@ returns-clause-before g c =
     let shows : Box g.row.B.Denot Global → List _ = λ b. g.B.AccountView.entries b.value in
     let origin : Box g.row.B.Denot Global → Origin = λ b. record { before = g.B.AccountView.before b.value; opening = g.B.AccountView.opening b.value } in
     let built : Box g.row.B.Denot Global = c.self.inside.table.shared.key.value in
-    let e = closes shows origin built c.pass.inside.badge.table_id _ _ _ _ _ c.take-value.result (sym (ap (facts c.pass.inside.badge.table_id) c.into_seat.ensures.2) ∙ c.pass.view_is) c.requires.root.0 c.requires.root.1 c.close_with-closed.ensures.values.2 c.take-value.ensures.value in
+    let e = closes shows origin built c.pass.inside.badge.table_id c.pass.inside.began c.pass.inside.ended _ _ _ _ _ c.take-value.result (sym (ap (facts c.pass.inside.badge.table_id c.pass.inside.began c.pass.inside.ended) c.into_seat.ensures.2) ∙ c.pass.view_is) c.requires.root.0 c.requires.root.1 c.close_with-closed.ensures.values.2 c.take-value.ensures.value in
     let same : e.0 ≡ c.unwrap.result = cc (e.1, c.unwrap.ensures) in
     ap (λ (o : Origin). o.before) (subst (Last shows origin built c.args.pass) same e.2).same
 
@@ -63,7 +63,7 @@ returns-clause-opening g c =
     let shows : Box g.row.B.Denot Global → List _ = λ b. g.B.AccountView.entries b.value in
     let origin : Box g.row.B.Denot Global → Origin = λ b. record { before = g.B.AccountView.before b.value; opening = g.B.AccountView.opening b.value } in
     let built : Box g.row.B.Denot Global = c.self.inside.table.shared.key.value in
-    let e = closes shows origin built c.pass.inside.badge.table_id _ _ _ _ _ c.take-value.result (sym (ap (facts c.pass.inside.badge.table_id) c.into_seat.ensures.2) ∙ c.pass.view_is) c.requires.root.0 c.requires.root.1 c.close_with-closed.ensures.values.2 c.take-value.ensures.value in
+    let e = closes shows origin built c.pass.inside.badge.table_id c.pass.inside.began c.pass.inside.ended _ _ _ _ _ c.take-value.result (sym (ap (facts c.pass.inside.badge.table_id c.pass.inside.began c.pass.inside.ended) c.into_seat.ensures.2) ∙ c.pass.view_is) c.requires.root.0 c.requires.root.1 c.close_with-closed.ensures.values.2 c.take-value.ensures.value in
     let same : e.0 ≡ c.unwrap.result = cc (e.1, c.unwrap.ensures) in
     ap (λ (o : Origin). o.opening) (subst (Last shows origin built c.args.pass) same e.2).same
 
@@ -72,6 +72,6 @@ returns-clause-built g c none_given =
     let shows : Box g.row.B.Denot Global → List _ = λ b. g.B.AccountView.entries b.value in
     let origin : Box g.row.B.Denot Global → Origin = λ b. record { before = g.B.AccountView.before b.value; opening = g.B.AccountView.opening b.value } in
     let built : Box g.row.B.Denot Global = c.self.inside.table.shared.key.value in
-    let e = closes shows origin built c.pass.inside.badge.table_id _ _ _ _ _ c.take-value.result (sym (ap (facts c.pass.inside.badge.table_id) c.into_seat.ensures.2) ∙ c.pass.view_is) c.requires.root.0 c.requires.root.1 c.close_with-closed.ensures.values.2 c.take-value.ensures.value in
+    let e = closes shows origin built c.pass.inside.badge.table_id c.pass.inside.began c.pass.inside.ended _ _ _ _ _ c.take-value.result (sym (ap (facts c.pass.inside.badge.table_id c.pass.inside.began c.pass.inside.ended) c.into_seat.ensures.2) ∙ c.pass.view_is) c.requires.root.0 c.requires.root.1 c.close_with-closed.ensures.values.2 c.take-value.ensures.value in
     let same : e.0 ≡ c.unwrap.result = cc (e.1, c.unwrap.ensures) in
     ap (λ (b : Box g.row.B.Denot Global). b.value) ((subst (Last shows origin built c.args.pass) same e.2).untouched none_given) ∙ ap (λ (l : LockFacts g.row.B.Denot). l.built) c.self.view_is

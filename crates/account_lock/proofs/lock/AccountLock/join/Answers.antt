@@ -13,14 +13,16 @@ join_seat-requires g c = (search rules, search rules, search rules, search rules
 pub returns-clause-pass : goal.returns-clause-pass
 returns-clause-pass g c =
     let z = c.into_badge.result.table_id in let v = c.into_seat-seat.result.me.0 in let w = c.into_seat.result.me.0 in
-    let is : facts z c.into_badge.result.views ≡ facts_of z (joined v w) = search rules in
-    let one : facts_of z v ≡ c.args.pass.now = search rules in
-    let two : facts_of c.into_seat.result.table_id w ≡ c.args.other = search rules in
-    let heard : StartsWith (joined v w).seen w.seen = search rules in is ∙ joined_facts z _ v w _ _ one two heard
+    let b = c.pass.inside.began in let e = c.pass.inside.ended in
+    let is : facts z b e c.into_badge.result.views ≡ facts_of z b e (joined v w) = search rules in
+    let one : facts_of z b e v ≡ c.args.pass.now = search rules in
+    let two : facts_of c.into_seat.result.table_id c.other.inside.began c.other.inside.ended w ≡ c.args.other = search rules in
+    let heard : StartsWith (joined v w).seen w.seen = search rules in is ∙ joined_facts z _ b e _ _ v w _ _ one two heard
 
 pub returns-clause-seen : goal.returns-clause-seen
 returns-clause-seen g c =
     let z = c.into_badge.result.table_id in let v = c.into_seat-seat.result.me.0 in let w = c.into_seat.result.me.0 in
-    let is : facts z c.into_badge.result.views ≡ facts_of z (joined v w) = search rules in
-    let one : facts_of z v ≡ c.args.pass.now = search rules in
+    let b = c.pass.inside.began in let e = c.pass.inside.ended in
+    let is : facts z b e c.into_badge.result.views ≡ facts_of z b e (joined v w) = search rules in
+    let one : facts_of z b e v ≡ c.args.pass.now = search rules in
     subst (λ (k : PassFacts). StartsWith k.seen c.args.pass.now.seen) (sym is) (subst (λ (k : PassFacts). StartsWith (joined v w).seen k.seen) one (then_more v.turn v.seen w.seen))
