@@ -12,3 +12,6 @@ pub mod Pairs
 pub mod Parts
 pub mod Between
 pub mod Grips
+pub mod Nested
+pub mod Releases
+pub mod Sending

@@ -1,5 +1,5 @@
 -- What a call, or a look, makes of a session.
-use Rattle.std.proofs.Common.{◌≡◌, ◌⊎◌, inl, inr, ⊎_elim, ℕ, zero, suc, ◌+◌, ◌≤◌, List, [], ◌∷◌, ◌++◌, length, Some, slice_get, Result, Ok, Err, OnErr, refl, sym, ap, ◌∙◌, subst, append_assoc, arith, length-append}
+use Rattle.std.proofs.Common.{◌≡◌, ◌⊎◌, inl, inr, ⊎_elim, ℕ, zero, suc, ◌+◌, ◌≤◌, List, [], ◌∷◌, ◌++◌, length, None, Some, slice_get, Result, Ok, Err, OnErr, refl, sym, ap, ◌∙◌, subst, append_assoc, arith, length-append}
 use Rattle.std.proofs.Math.ListN.{set}
 use Rattle.std.proofs.lemmas.List.{append-nil}
 use Rattle.mail_records.specs.Histories.{Entry, History}
@@ -10,11 +10,11 @@ use Rattle.account_book.specs.declared.plans.Out.{Out}
 use Rattle.account_book.specs.declared.plans.Plan.{Plan}
 use Rattle.account_book.specs.declared.plans.Point.{Point}
 use Rattle.account_lock.specs.Entries.{StartsWith, under}
-use Rattle.account_lock.specs.Views.{PassFacts}
+use Rattle.account_lock.specs.Views.{LastTurn, PassFacts, begun_within}
 use Rattle.account_hall.specs.Calls.{HasLooked, IsCalled, point_at}
 use Rattle.account_hall.specs.Copies.{IsNextCall}
 use Rattle.account_hall.specs.Histories.{GainsAtMostOne, count_with, history_with, seen_count, stamp_from}
-use Rattle.account_hall.specs.Sessions.{IsCall, IsFree, IsInOrder, IsLook, IsSession, SessionView}
+use Rattle.account_hall.specs.Sessions.{HasHadTurn, IsCall, IsFree, IsInOrder, IsLook, IsSession, SessionView}
 use Rattle.account_hall.proofs.Fronts.{all_at, all_set, at_set, set_same}
 use Rattle.account_hall.proofs.Orders.{in_order_called, in_order_looked, in_order_other, more_seen, trail_called}
 
@@ -24,8 +24,8 @@ decide zero (suc j) = inr (λ same. absurd (omega (arith, same)))
 decide (suc i) zero = inr (λ same. absurd (omega (arith, same)))
 decide (suc i) (suc j) = ⊎_elim (λ same. inl (ap suc same)) (λ apart. inr (λ same. apart (omega (arith, same)))) (decide i j)
 
-free_same : (k k' : PassFacts) (seen own : List Entry) → k' ≡ record k { seen = seen; own = own } → IsFree k → IsFree k'
-free_same k k' seen own same free = subst IsFree (sym same) (record { root = free.root; holds = free.holds; ended = free.ended })
+free_same : (k k' : PassFacts) (last : LastTurn) (seen own : List Entry) → k' ≡ record k { last = last; seen = seen; own = own } → IsFree k → IsFree k'
+free_same k k' last seen own same free = subst IsFree (sym same) (record { root = free.root; holds = free.holds; ended = free.ended })
 
 -- what a call found, and one entry more at most, begins with what was seen
 seen_on : (number serial before after : ℕ) (seen found new : List Entry) → StartsWith found seen → GainsAtMostOne number serial before after found new → StartsWith new seen
@@ -55,7 +55,7 @@ module _ (plan : History → Call → ℕ → Plan) (s : SessionView) (account :
 
   pub session_called : IsSession (after_call s account k' point)
   session_called = record {
-    free = all_set IsFree s.passes account k' order.free (free_same k k' k'.seen k'.own c.same (all_at IsFree s.passes account k order.free there));
+    free = all_set IsFree s.passes account k' order.free (free_same k k' k'.last k'.seen k'.own c.same (all_at IsFree s.passes account k order.free there));
     trail = trail_called account k k' s.trail point c.found (order.each account k there) refl opening_is c.seen c.own_then c.own c.performed.before_is c.performed.after_is order.trail;
     each = λ j x here. let h = at_set s.passes account j k' x here in ⊎_elim
         (λ (same : account ≡ j). subst (λ n. IsInOrder n x (s.trail ++ point ∷ [])) same (subst (λ y. IsInOrder account y (s.trail ++ point ∷ [])) (sym (h.0 same)) mine))
@@ -105,6 +105,10 @@ module _ (s : SessionView) (account : ℕ) (k k' : PassFacts) (order : IsSession
 
   pub is_look : IsLook account s (after_look s account k')
   is_look = record { pass = k; pass' = k'; there = there; passes = refl; looked = l; trail = refl }
+
+pub had_turn : (s : SessionView) (account : ℕ) (k k' : PassFacts) (trail : List Point) → slice_get s.passes account ≡ Some k → k'.last ≡ begun_within None k.last
+    → HasHadTurn account s (record { passes = set s.passes account k'; trail = trail })
+had_turn s account k k' trail there once = record { pass = k; pass' = k'; there = there; passes = refl; once = once }
 
 -- nothing was done
 pub look_away : (s : SessionView) (account : ℕ) (k : PassFacts) → slice_get s.passes account ≡ Some k → IsLook account s s

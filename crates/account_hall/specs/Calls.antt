@@ -29,7 +29,7 @@ pub record IsPerformed (plan : History → Call → ℕ → Plan) (opened : Hist
 
 -- A session had seen what k says of an account, and has seen what k' says after this call. The
 -- entries that it found are `found`: they begin with those that it had seen, and of them its own
--- were those that it knew.
+-- were those that it knew. Of its turns nothing is said here.
 pub record IsCalled (plan : History → Call → ℕ → Plan) (k k' : PassFacts) (serial : ℕ)
     (call : Call) (moment : ℕ) (before after : ℕ) (out : Out) : Type 0 where
   pub found : List Entry
@@ -38,10 +38,10 @@ pub record IsCalled (plan : History → Call → ℕ → Plan) (k k' : PassFacts
   pub performed : IsPerformed plan k.opening found k'.seen k.name serial call moment before after
       out
   pub own : k'.own ≡ under k.name k'.seen
-  pub same : k' ≡ record k { seen = k'.seen; own = k'.own }
+  pub same : k' ≡ record k { last = k'.last; seen = k'.seen; own = k'.own }
 
--- a session has seen more of an account, and nothing else changed
+-- a session has seen more of an account, perhaps in a turn, and nothing else changed
 pub record HasLooked (k k' : PassFacts) : Type 0 where
   pub seen : StartsWith k'.seen k.seen
   pub own : k'.own ≡ k.own
-  pub same : k' ≡ record k { seen = k'.seen }
+  pub same : k' ≡ record k { last = k'.last; seen = k'.seen }

@@ -1,6 +1,6 @@
 -- What a copy from one account to another is: the calls of one copy, in order. The definitions of
 -- the first part are over any states of a session; those of the last part over a session of a hall.
-use Rattle.std.specs.Prelude.{◌≡◌, ℕ, ◌⊎◌, Bool, false, cond, List, [], ◌∷◌, ◌++◌, take, Option, Some, None, option_and_then, Result, Ok, Err, codes}
+use Rattle.std.specs.Prelude.{◌≡◌, ℕ, ◌+◌, ◌⊎◌, Bool, true, false, cond, List, [], ◌∷◌, ◌++◌, take, min, max, slice_get, Option, Some, None, option_and_then, Result, Ok, Err, codes}
 use Rattle.jm_json.specs.Call.{Call as Invocation, error_of}
 use Rattle.jm_json.specs.Invocations.{call_of}
 use Rattle.jm_json.specs.declared.invocation.Invocation.{Invocation as TheInvocation}
@@ -13,6 +13,7 @@ use Rattle.account_book.specs.declared.asks.Carried.{Carried}
 use Rattle.account_book.specs.declared.plans.Out.{Out}
 use Rattle.account_book.specs.declared.plans.Out.TheVariants as out
 use Rattle.account_book.specs.declared.plans.Plan.{Plan}
+use Rattle.account_lock.specs.Views.{PassFacts, turn_of}
 use Rattle.account_hall.specs.Histories.{seen_count}
 use Rattle.account_hall.specs.Sessions.{IsCall, IsLook, SessionView}
 use Rattle.account_hall.specs.declared.copies.CopyCall.{CopyCall}
@@ -181,21 +182,45 @@ copy_steps {R} plan_of set_of copy moment = record {
   made = copy.made;
 }
 
+-- A session had one turn at each of two accounts. It had its turn at the one with the lower number
+-- when that at the other began, and when that ended. So it took the one with the lower number first
+-- and gave it back last, and while it had the other no other session used either.
+pub record HasHadBoth (low high : ℕ) (old new : SessionView) : Type 0 where
+  pub lower : PassFacts
+  pub lower' : PassFacts
+  pub higher : PassFacts
+  pub higher' : PassFacts
+  pub low_there : slice_get old.passes low ≡ Some lower
+  pub low_there' : slice_get new.passes low ≡ Some lower'
+  pub high_there : slice_get old.passes high ≡ Some higher
+  pub high_there' : slice_get new.passes high ≡ Some higher'
+  pub once : (lower'.last.number ≡ lower.last.number + 1)
+      × (higher'.last.number ≡ higher.last.number + 1)
+  pub began : higher'.last.began_in ≡ Some (turn_of lower')
+  pub ended : higher'.last.ended_in ≡ Some (turn_of lower')
+
+-- the same of the accounts of a copy
+abbrev pub HasHeldBoth : CopyCall → SessionView → SessionView → Type 0
+HasHeldBoth copy old new = HasHadBoth (min copy.from copy.to) (max copy.from copy.to) old new
+
 -- A copy of a session is answered so. It took both accounts, and then made one to three calls, each
 -- with a point of its own, in order. As each begins with what the session has seen of its account,
--- no entry of another session comes between them.
+-- no entry of another session comes between them. It had both accounts at once, in one turn each.
 pub record IsCopy {R : Type 0} (plan_of : R → History → Call → ℕ → Plan)
     (set_of : SetOf) (copy : CopyCall) (moment : ℕ)
     (old new : SessionView) (answer : Out) : Type 0 where
   pub taken : SessionView
   pub took : HasTaken copy.from copy.to old taken
   pub copied : IsCopied (copy_steps plan_of set_of copy moment) taken new answer
+  pub held : HasHeldBoth copy old new
 
 -- A copy that ended out of memory: the session may have seen more of both accounts, and the calls
--- that were performed are kept, each with its point.
+-- that were performed stand, each with its point. It had both accounts at once, in one turn each,
+-- or nothing was done.
 pub record HasBegunCopy {R : Type 0} (plan_of : R → History → Call → ℕ → Plan)
     (set_of : SetOf) (copy : CopyCall) (moment : ℕ)
     (old new : SessionView) : Type 0 where
   pub taken : SessionView
   pub took : HasTaken copy.from copy.to old taken
   pub begun : HasBegun (copy_steps plan_of set_of copy moment) taken new
+  pub held : (new ≡ old) ⊎ HasHeldBoth copy old new

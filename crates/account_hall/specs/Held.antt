@@ -1,5 +1,5 @@
 -- Accounts that a session holds: it has taken their books out of their locks.
-use Rattle.std.specs.Prelude.{◌≡◌, ◌⊎◌, ℕ, ◌+◌, Bool, true, false, List, [], ◌∷◌, ◌++◌, Ok, Option, Some, None, length, slice_get, slice_set}
+use Rattle.std.specs.Prelude.{◌≡◌, ◌⊎◌, ℕ, ◌+◌, ◌<◌, Bool, true, false, List, [], ◌∷◌, ◌++◌, Ok, Option, Some, None, length, slice_get, slice_set}
 use Rattle.jm_json.specs.declared.invocation.Invocation.{Invocation as TheInvocation}
 use Rattle.jm_json.specs.declared.invocation.Created.{Created}
 use Rattle.mail_records.specs.Histories.{Entry, History}
@@ -10,7 +10,7 @@ use Rattle.account_book.specs.declared.plans.Out.{Out}
 use Rattle.account_book.specs.declared.plans.Plan.{Plan}
 use Rattle.account_book.specs.declared.plans.Point.{Point}
 use Rattle.account_lock.specs.Entries.{ExtendsUnder, StartsWith, under}
-use Rattle.account_lock.specs.Views.{PassFacts}
+use Rattle.account_lock.specs.Views.{PassFacts, Turn, begun_within, ended_within, going_turn}
 use Rattle.account_hall.specs.Calls.{IsPerformed, point_at}
 use Rattle.account_hall.specs.Copies.{CopySteps, SetOf, carried_in, first_response, joined, place_call, set_call}
 use Rattle.account_hall.specs.Halls.{entries_of}
@@ -108,13 +108,25 @@ pub record MayHaveFollowed (c : CopySteps HeldState) (fetched : Out) (s s' : Hel
 
 -- ---- taking and giving back
 
--- the pass of a session that holds an account with these entries
-abbrev pub holding : PassFacts → List Entry → PassFacts
-holding k es = record k { holds = true; seen = es }
+-- the pass of a session that took an account with these entries, within this turn of another pass
+-- if there is one
+abbrev pub holding : PassFacts → Option Turn → List Entry → PassFacts
+holding k other es =
+    record k { holds = true; last = begun_within other k.last; seen = es }
 
--- the pass after it gave an account back with these entries
-abbrev pub released : PassFacts → List Entry → PassFacts
-released k es = record k { holds = false; seen = es; own = under k.name es }
+-- the pass after it gave an account back with these entries, within this turn of another pass if
+-- there is one
+abbrev pub released : PassFacts → Option Turn → List Entry → PassFacts
+released k other es = record k {
+  holds = false;
+  last = ended_within other k.last;
+  seen = es;
+  own = under k.name es;
+}
+
+-- the next turn of a pass
+abbrev pub next_turn : PassFacts → Turn
+next_turn k = record { lock = k.lock; name = k.name; number = k.last.number + 1 }
 
 -- What a session with this pass holds after it took an account.
 pub record IsHeldBy {K R : Type 0} (account : ℕ) (k : PassFacts) (h : Held K R) : Type 0 where
@@ -125,15 +137,35 @@ pub record IsHeldBy {K R : Type 0} (account : ℕ) (k : PassFacts) (h : Held K R
   pub opened : h.book.value.opened ≡ k.opening
   pub before : h.book.value.before ≡ k.before
 
--- an account was taken
-pub record IsTaken {K R : Type 0} (account : ℕ) (ks ks' : List PassFacts) (h : Held K R)
-    : Type 0 where
+-- the turn that the pass at an account has, if it has one
+abbrev pub turn_if : Option PassFacts → Option Turn
+turn_if None = None
+turn_if (Some k) = going_turn k
+
+abbrev pub turn_at : List PassFacts → ℕ → Option Turn
+turn_at ks account = turn_if (slice_get ks account)
+
+-- the pass at this account has its turn
+abbrev pub HasTurnAt : ℕ → List PassFacts → Type 0
+HasTurnAt account ks =
+    (k : PassFacts) → slice_get ks account ≡ Some k → k.holds ≡ true
+
+-- an account was taken, within this turn of another pass if there is one
+pub record IsTaken {K R : Type 0} (account : ℕ) (other : Option Turn) (ks ks' : List PassFacts)
+    (h : Held K R) : Type 0 where
   pub pass : PassFacts
   pub there : slice_get ks account ≡ Some pass
   pub held : IsHeldBy account pass h
-  pub list : ks' ≡ slice_set ks account (holding pass (entries_in h))
+  pub list : ks' ≡ slice_set ks account (holding pass other (entries_in h))
 
--- two accounts were taken
+-- of the turns of two passes, that at the account with the higher number began within the other
+abbrev pub IsWithin : (from to : ℕ) → (k other : PassFacts) → (began other_began : Option Turn)
+    → Type 0
+IsWithin from to k other began other_began =
+    (from < to → other_began ≡ Some (next_turn k))
+    × (to < from → began ≡ Some (next_turn other))
+
+-- two accounts were taken, the one with the lower number first
 pub record AreTaken {K R : Type 0} (from to : ℕ) (ks ks' : List PassFacts) (h g : Held K R)
     : Type 0 where
   pub pass : PassFacts
@@ -142,9 +174,12 @@ pub record AreTaken {K R : Type 0} (from to : ℕ) (ks ks' : List PassFacts) (h 
   pub other_there : slice_get ks to ≡ Some other
   pub held : IsHeldBy from pass h
   pub other_held : IsHeldBy to other g
+  pub began : Option Turn
+  pub other_began : Option Turn
+  pub within : IsWithin from to pass other began other_began
   pub list : ks'
-      ≡ slice_set (slice_set ks from (holding pass (entries_in h))) to
-      (holding other (entries_in g))
+      ≡ slice_set (slice_set ks from (holding pass began (entries_in h))) to
+      (holding other other_began (entries_in g))
 
 -- a session holds the account, and may give it back
 pub record MayRelease {K R : Type 0} (ks : List PassFacts) (h : Held K R) : Type 0 where
@@ -160,10 +195,21 @@ abbrev pub IsFreeAt : ℕ → List PassFacts → Type 0
 IsFreeAt account ks =
     (k : PassFacts) → slice_get ks account ≡ Some k → (k.root ≡ false) × (k.holds ≡ false)
 
--- the passes after a held account was given back
-abbrev pub released_at : List PassFacts → ℕ → List Entry → Option PassFacts → List PassFacts
-released_at ks account es None = ks
-released_at ks account es (Some k) = slice_set ks account (released k es)
+-- the passes after a held account was given back, within this turn of another pass if there is one
+abbrev pub released_at : List PassFacts → ℕ → Option Turn → List Entry → Option PassFacts
+    → List PassFacts
+released_at ks account other es None = ks
+released_at ks account other es (Some k) = slice_set ks account (released k other es)
 
-abbrev pub released_to : {K R : Type 0} → List PassFacts → Held K R → List PassFacts
-released_to ks h = released_at ks h.account (entries_in h) (slice_get ks h.account)
+abbrev pub released_to : {K R : Type 0} → List PassFacts → Option Turn → Held K R → List PassFacts
+released_to ks other h =
+    released_at ks h.account other (entries_in h) (slice_get ks h.account)
+
+-- two held accounts were given back, the one with the lower number last
+abbrev pub released_after : {K R : Type 0} → List PassFacts → (low high : Held K R) → List PassFacts
+released_after ks low high = released_to (released_to ks (turn_at ks low.account) high) None low
+
+abbrev pub AreReleased : {K R : Type 0} → (ks ks' : List PassFacts) → (h g : Held K R) → Type 0
+AreReleased ks ks' h g =
+    (h.account < g.account → ks' ≡ released_after ks h g)
+    × (g.account < h.account → ks' ≡ released_after ks g h)

@@ -1,6 +1,6 @@
 -- Sessions of a hall. A session has a pass for each account, which says what it has seen, and a
 -- trail: the points of its calls, in order.
-use Rattle.std.specs.Prelude.{◌≡◌, ℕ, ◌+◌, ◌-◌, ◌≤◌, ◌==◌, Bool, false, ◌&&◌, if◌then◌else◌, List, [], ◌∷◌, ◌++◌, Some, map, take, drop, length, slice_get, slice_set, ⊤}
+use Rattle.std.specs.Prelude.{◌≡◌, ℕ, ◌+◌, ◌-◌, ◌≤◌, ◌==◌, Bool, true, false, ◌&&◌, if◌then◌else◌, List, [], ◌∷◌, ◌++◌, Some, None, map, take, drop, length, slice_get, slice_set, ⊤}
 use Rattle.std.specs.List.{AllByRecursion}
 use Rattle.mail_records.specs.Histories.{Entry, History, entry_stamp}
 use Rattle.record_codec.specs.Sizes.{edit_bytes}
@@ -10,7 +10,7 @@ use Rattle.account_book.specs.declared.plans.Out.{Out}
 use Rattle.account_book.specs.declared.plans.Plan.{Plan}
 use Rattle.account_book.specs.declared.plans.Point.{Point}
 use Rattle.account_lock.specs.Entries.{StartsWith, under}
-use Rattle.account_lock.specs.Views.{PassFacts}
+use Rattle.account_lock.specs.Views.{PassFacts, begun_within}
 use Rattle.account_hall.specs.Calls.{HasLooked}
 use Rattle.account_hall.specs.Histories.{seen_count, seen_history, stamp_of}
 
@@ -86,7 +86,7 @@ pub record IsSession (s : SessionView) : Type 0 where
 -- A call of a session on an account is answered so. The trail has one point more. That begins at
 -- or after the entries that the session had seen, and ends with those that it has seen now. The
 -- answer is the reply at the point, under the session's pass and the number of the point. What the
--- session has seen of other accounts is as before.
+-- session has seen of other accounts is as before. Of its turns nothing is said here.
 pub record IsCall (plan : History → Call → ℕ → Plan) (account : ℕ) (call : Call) (moment : ℕ)
     (old new : SessionView) (out : Out) : Type 0 where
   pub pass : PassFacts
@@ -94,7 +94,7 @@ pub record IsCall (plan : History → Call → ℕ → Plan) (account : ℕ) (ca
   pub point : Point
   pub there : slice_get old.passes account ≡ Some pass
   pub passes : new.passes ≡ slice_set old.passes account pass'
-  pub same : pass' ≡ record pass { seen = pass'.seen; own = pass'.own }
+  pub same : pass' ≡ record pass { last = pass'.last; seen = pass'.seen; own = pass'.own }
   pub seen : StartsWith pass'.seen pass.seen
   pub own : pass'.own ≡ under pass'.name pass'.seen
   pub trail : new.trail ≡ old.trail ++ point ∷ []
@@ -114,3 +114,11 @@ pub record IsLook (account : ℕ) (old new : SessionView) : Type 0 where
   pub passes : new.passes ≡ slice_set old.passes account pass'
   pub looked : HasLooked pass pass'
   pub trail : new.trail ≡ old.trail
+
+-- the session had one turn more at the account, and no other one
+pub record HasHadTurn (account : ℕ) (old new : SessionView) : Type 0 where
+  pub pass : PassFacts
+  pub pass' : PassFacts
+  pub there : slice_get old.passes account ≡ Some pass
+  pub passes : new.passes ≡ slice_set old.passes account pass'
+  pub once : pass'.last ≡ begun_within None pass.last

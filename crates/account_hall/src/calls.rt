@@ -1,10 +1,11 @@
 // Calls of a session on an account.
-ghost use Rattle.std.specs.Prelude.{◌≡◌, ◌≤◌, ◌<◌, false, length, IfOk, OnErr};
+ghost use Rattle.std.specs.Prelude.{◌≡◌, ◌≤◌, ◌<◌, false, length, IfOk, None, OnErr, OnOk};
 ghost use Rattle.account_book.specs.Plans.{last_moment};
 ghost use Rattle.account_hall.specs.Calls.{HasLooked, IsCalled, IsPerformed};
 ghost use Rattle.account_hall.specs.Halls.{AreOf, entries_of};
-ghost use Rattle.account_hall.specs.Sessions.{IsCall, IsLook};
+ghost use Rattle.account_hall.specs.Sessions.{HasHadTurn, IsCall, IsLook};
 ghost use Rattle.account_lock.specs.Entries.{ExtendsUnder};
+ghost use Rattle.account_lock.specs.Views.{begun_within};
 
 use crate::hall::Hall;
 use crate::passes::Passes;
@@ -62,6 +63,7 @@ fn call_at<K: Keeper, R: Rules, W: Wait>(
     ensures called { IfOk result (λ done. (rules : R) × IsCalled (R.plan_of rules) pass.old pass.new
         serial call.now moment done.before done.after done.out) }
     ensures looked { OnErr result (HasLooked pass.old pass.new) }
+    ensures turn { pass.new.last ≡ begun_within None pass.old.last }
 {
     let mut book = lock.take(rt, pass);
     let number = pass.name();
@@ -72,7 +74,8 @@ fn call_at<K: Keeper, R: Rules, W: Wait>(
 
 impl<K: Keeper, R: Rules> Hall<K, R> {
     /// Performs a call on an account, at a timestamp in seconds since the beginning of 1970. It may
-    /// wait for other sessions that use the account. The trail gains the point of the call.
+    /// wait for other sessions that use the account. The session has one turn at it, and the trail
+    /// gains the point of the call.
     ///
     /// Fails only if memory runs out. Then the trail and the session's entries are as before, and
     /// the session may have seen more of the account.
@@ -91,6 +94,7 @@ impl<K: Keeper, R: Rules> Hall<K, R> {
         ensures called { IfOk result (λ out. (rules : R) × IsCall (R.plan_of rules) account call.now
             moment passes.old passes.new out) }
         ensures looked { OnErr result (IsLook account passes.old passes.new) }
+        ensures turn { OnOk result (HasHadTurn account passes.old passes.new) }
         ensures hall { AreOf self.now passes.new.passes }
     {
         passes.trail.reserve(1)?;

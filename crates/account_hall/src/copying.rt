@@ -9,7 +9,7 @@ use crate::copies::{CopyCall, Originals};
 use crate::hall::{Hall, Room};
 use crate::held::copy_held;
 use crate::passes::Passes;
-use crate::taking::{give_back, take_both};
+use crate::taking::{give_both, take_both};
 use account_book::{Out, Point, Rules};
 use account_lock::Pass;
 use jm_base::NoMemory;
@@ -47,15 +47,15 @@ fn copy_between<W: Wait, K: Keeper, R: Rules, O: Originals>(
 {
     let (mut from, mut to) = take_both(rt, rooms, list, copy.from, copy.to);
     let copied = copy_held(alloc, &mut from, &mut to, trail, originals, copy, moment);
-    give_back(rooms, list, to);
-    give_back(rooms, list, from);
+    give_both(rooms, list, from, to);
     copied
 }
 
 impl<K: Keeper, R: Rules> Hall<K, R> {
     /// Copies from one account to another, at a timestamp in seconds since the beginning of 1970.
     /// It may wait for other sessions that use them: it takes both accounts, the one with the lower
-    /// number first, and gives them back at the end. Meanwhile no other session uses either.
+    /// number first, and gives them back at the end, that one last. Meanwhile no other session uses
+    /// either: it has one turn at each, and the one at the higher number within the other.
     ///
     /// The account of the originals is asked for what is copied. If it carries something, the other
     /// account is asked to place that. Then `originals` says whether a set of the originals follows

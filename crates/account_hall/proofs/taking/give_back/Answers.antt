@@ -1,9 +1,9 @@
-use Rattle.std.proofs.Common.{◌≡◌, true, refl, sym, ap, ◌∙◌, subst}
+use Rattle.std.proofs.Common.{◌≡◌, None, Some, true, refl, slice_get, sym, ap, ◌∙◌, subst}
 use Rattle.std.proofs.Math.ListN.{set}
 use Rattle.account_lock.specs.Entries.{ExtendsUnder}
 use Rattle.account_hall.specs.Held.{entries_in}
 use Rattle.account_hall.proofs.Grips.{grip_lock, grip_there, one_there}
-use Rattle.account_hall.proofs.Pairs.{released_is}
+use Rattle.account_hall.proofs.Releases.{released_is}
 use Rattle.account_hall.proofs.taking.give_back.Goals as goal
 
 pub give-requires-clause-lock : goal.give-requires-clause-lock
@@ -38,4 +38,4 @@ give-requires-clause-opening g c =
 pub returns : goal.returns
 returns g c =
     let there = grip_there c.args.rooms.now.items c.args.list.now.items c.args.held.account c.requires.hall c.requires.account c.index_mut-pass.result.now c.index_mut-pass.ensures.value in
-    ap (set c.args.list.now.items c.args.held.account) c.give.ensures ∙ sym (released_is c.args.list.now.items c.args.held c.args.held.account c.index_mut-pass.result.now refl there)
+    ap (set c.args.list.now.items c.args.held.account) c.give.ensures ∙ sym (released_is c.args.list.now.items None c.args.held c.args.held.account c.index_mut-pass.result.now refl there)

@@ -2,9 +2,9 @@ use Rattle.std.proofs.Common.{◌≡◌, ◌+◌, ◌++◌, ◌∷◌, [], Some,
 use Rattle.std.proofs.Math.ListN.{set}
 use Rattle.account_hall.specs.Calls.{point_at}
 use Rattle.account_hall.specs.Halls.{AreOf}
-use Rattle.account_hall.specs.Sessions.{IsCall, IsLook, IsSession, SessionView}
+use Rattle.account_hall.specs.Sessions.{HasHadTurn, IsCall, IsLook, IsSession, SessionView}
 use Rattle.account_hall.proofs.Fronts.{of_set, pass_there, room_lock, some_pass}
-use Rattle.account_hall.proofs.Steps.{OnErr-any, is_call, is_look, look_away, session_called, session_looked}
+use Rattle.account_hall.proofs.Steps.{OnErr-any, had_turn, is_call, is_look, look_away, session_called, session_looked}
 use Rattle.account_hall.proofs.hall.Hall.call.Goals as goal
 
 pub returns-in_err-reserve-clause-looked : goal.returns-in_err-reserve-clause-looked
@@ -48,6 +48,15 @@ returns-in-Ok-clause-called g c =
     let trail = sym (c.push_reserved.ensures.items ∙ ap (λ ps. ps ++ point_at c.args.account done.before done.after c.args.moment ∷ []) c.reserve.ensures.items) in
     let new = subst (λ ps. IsCall (g.R.Rules.plan_of w.0) c.args.account c.args.call.now c.args.moment s (record { passes = set s.passes c.args.account c.call_at.new.pass; trail = ps }) done.out) trail call in
     (w.0, subst (λ v. IsCall (g.R.Rules.plan_of w.0) c.args.account c.args.call.now c.args.moment v (record { passes = set s.passes c.args.account c.call_at.new.pass; trail = c.push_reserved.new.self.items }) done.out) c.passes.view_is new)
+
+pub returns-in-Ok-clause-turn : goal.returns-in-Ok-clause-turn
+returns-in-Ok-clause-turn g c =
+    let s : SessionView = record { passes = c.passes.inside.list.items; trail = c.passes.inside.trail.items } in
+    let of : AreOf c.args.self.now s.passes = subst (λ v. AreOf c.args.self.now v.passes) (sym c.passes.view_is) c.requires.hall in
+    let k = c.index_mut-pass.result.now in
+    let there : slice_get s.passes c.args.account ≡ Some k = pass_there c.self.inside.rooms.items c.args.self.now s.passes c.args.account k c.self.view_is of c.requires.account c.index_mut-pass.ensures.value in
+    subst (λ v. HasHadTurn c.args.account v (record { passes = set s.passes c.args.account c.call_at.new.pass; trail = c.push_reserved.new.self.items })) c.passes.view_is
+    (had_turn s c.args.account k c.call_at.new.pass c.push_reserved.new.self.items there c.call_at.ensures.turn)
 
 pub returns-in-Ok-clause-hall : goal.returns-in-Ok-clause-hall
 returns-in-Ok-clause-hall g c =

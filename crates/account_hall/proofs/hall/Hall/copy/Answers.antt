@@ -15,7 +15,7 @@ returns-in_err-reserve-clause-begun g c =
     let k = some_pass c.args.self.now s.passes copy.from of c.requires.from in
     let l = some_pass c.args.self.now s.passes copy.to of c.requires.to in
     let none : HasBegunCopy g.R.Rules.plan_of g.O.Originals.set_of copy c.args.moment s s =
-    record { taken = s; took = record { between = s; first = look_away s copy.from k.0 k.1; second = look_away s copy.to l.0 l.1 }; begun = inl refl } in
+    record { taken = s; took = record { between = s; first = look_away s copy.from k.0 k.1; second = look_away s copy.to l.0 l.1 }; begun = inl refl; held = inl refl } in
     let new = subst (λ ps. HasBegunCopy g.R.Rules.plan_of g.O.Originals.set_of copy c.args.moment s (session_of s.passes ps)) (sym c.reserve.ensures.items) none in
     OnErr-any c.from_residual.result (subst (λ v. HasBegunCopy g.R.Rules.plan_of g.O.Originals.set_of copy c.args.moment v (session_of s.passes c.reserve.new.self.items)) c.passes.view_is new)
 
