@@ -7,6 +7,7 @@
 #![tactic(auto)]
 
 mod access;
+mod creation;
 mod database;
 mod keeper;
 mod opening;

@@ -269,6 +269,33 @@ fn an_empty_file_is_a_new_database(rt: HostRuntime) -> Result<(), Fail> {
     Ok(())
 }
 
+// the two bytes of a file's header that say how large its pages are
+fn page_size(rt: &HostRuntime, path: &str) -> io::Result<Option<(u8, u8)>> {
+    let file = fs::read(rt, path)?;
+    match (file.get(16), file.get(17)) {
+        (Some(high), Some(low)) => Ok(Some((*high, *low))),
+        _ => Ok(None),
+    }
+}
+
+#[test]
+fn a_new_file_has_pages_of_1024_bytes_and_another_keeps_its_size(
+    rt: HostRuntime,
+) -> Result<(), Fail> {
+    folder(&rt, "keep_sqlite_pages")?;
+    make(
+        &rt,
+        "keep_sqlite_pages/old.sqlite",
+        "INSERT INTO commits VALUES (1, x'61')",
+    )?;
+    let steps = [Load(&[b"a"]), Append(b"b"), Load(&[b"a", b"b"])];
+    assert!(rt; goes_at(&rt, "keep_sqlite_pages/old.sqlite", &steps, [0; 3])?);
+    assert!(rt; page_size(&rt, "keep_sqlite_pages/old.sqlite")? == Some((16, 0)));
+    assert!(rt; goes_at(&rt, "keep_sqlite_pages/new.sqlite", &[Append(b"a")], [0; 3])?);
+    assert!(rt; page_size(&rt, "keep_sqlite_pages/new.sqlite")? == Some((4, 0)));
+    Ok(())
+}
+
 #[test]
 fn two_rows_are_loaded_by_adopt(rt: HostRuntime) -> Result<(), Fail> {
     folder(&rt, "keep_sqlite_adopt")?;
