@@ -2,10 +2,11 @@ use denote.Exit.{no}
 use denote.Param.{param}
 use denote.Struct.Field.{u64-field}
 use denote.Param.Send.{IsSend, IsSync, arg_send, param_send, sendable, shr_send}
+use Rattle.std.proofs.Crossing.{crosses}
 use Rattle.std.proofs.alloc.Global.TheSendSync as global
 use Rattle.server_users.proofs.users.Users.TheSendSync as users
 use Rattle.account_hall.specs.contracts.hall.Hall.{the_row}
-use Rattle.account_hall.proofs.passes.Passes.TheSendSync as passes
+use Rattle.account_hall.proofs.Sending.{passes_send}
 use Rattle.jmap_server.proofs.ends.Ends.TheSendSync as ends
 use Rattle.jmap_server.proofs.Sharing.{hall_sync, ten_send}
 use Rattle.jmap_server.proofs.worker.start_worker.Goals as goal
@@ -22,7 +23,13 @@ spawn_with-requires-send-F g c κs within =
     (shr_send _ _ _ h)
     (shr_send _ _ _ ends.the_sync)
     n
-    passes.the_send
+    passes_send
     c.type_bounds.send-L
     c.type_bounds.send-C
     c.type_bounds.send-G))
+
+pub spawn_with-requires-send-T : goal.spawn_with-requires-send-T
+spawn_with-requires-send-T g c κs within =
+    let p = passes_send in
+    let l = c.type_bounds.send-L in
+    search (sendable, crosses, param_send, arg_send) depth 40
