@@ -12,16 +12,16 @@ pub enum Ask {
     /// Asks for the bytes of the blob, or of the part of a message, that has this id (RFC 8620,
     /// section 6.2).
     Blob(Text),
-    /// Asks for the emails to be copied, with their blobs: the side of an Email/copy that reads
-    /// (RFC 8621, section 4.7).
+    /// Asks for the emails or blobs to be copied: the side that reads of an Email/copy or a
+    /// Blob/copy (RFC 8621, section 4.7; RFC 8620, section 6.3).
     Fetch(Invocation),
-    /// Asks to create what the other side read: the side of an Email/copy that writes.
+    /// Asks to create what the other side read: the side that writes of an Email/copy or Blob/copy.
     Place(Invocation, Carried),
     /// Asks for the present state of each kind of record.
     States,
 }
 
-/// What is carried from one account to another by Email/copy.
+/// What is carried from one account to another by an Email/copy or a Blob/copy.
 #[derive(Drop)]
 pub struct Carried {
     /// The emails, each as an object.

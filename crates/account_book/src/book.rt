@@ -225,7 +225,7 @@ impl<K: Keeper, R: Rules> Book<K, R> {
     }
 
     /// Performs a call at a timestamp, in seconds since the beginning of 1970. The call is answered
-    /// as its plan says, or, if the plan's edits would pass the limit of 64 MiB, with
+    /// as its plan says, or, if the plan's edits would pass `MAX_EDIT_BYTES`, with
     /// `serverUnavailable`. A plan that changes something and is within the limit is kept first, as
     /// a commit under the stamp, and then entered. If the keeper refuses it, the call is answered
     /// with `serverFail`, or an upload with `Failed`: the mark of a refusal is then entered under

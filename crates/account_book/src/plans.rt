@@ -22,7 +22,7 @@ pub enum Out {
     Failed,
     /// The bytes that a blob's id names, or None where it names none.
     Blob(Option<Bytes>),
-    /// What the side of an Email/copy that reads has read.
+    /// What the side of a copy that reads has read.
     Carried(Carried),
     /// The state of each kind of record.
     States {

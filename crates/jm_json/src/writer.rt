@@ -25,7 +25,7 @@ use std::mem;
 const INITIAL_TEXT_BYTES: usize = 256;
 
 /// Returns the compact text of a tree, with keys in byte order (RFC 8259). It is read back as the
-/// tree if that nests at most 127 deep and its numbers are below 2^53 and above -2^53.
+/// tree if that nests at most `MAX_DEPTH` deep and its numbers are below 2^53 and above -2^53.
 pub fn write(alloc: Global, tree: &Json) -> Result<Bytes, NoMemory>
     ensures text { IfOk result (λ b. b ≡ compact_text (data_of (tree_of tree.now))) }
     ensures reads_back { IfOk result (λ b. depth (data_of (tree_of tree.now)) ≤ max_depth
