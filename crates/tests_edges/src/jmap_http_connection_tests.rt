@@ -50,6 +50,9 @@ const FULL: &str =
 const HELLO: &str =
     "HTTP/1.1 200 OK\r\nContent-Type: text/html\r\nContent-Length: 5\r\nCache-Control: no-store\r\n\r\nhello";
 
+const HELLO_AS_ASKED: &str =
+    "HTTP/1.1 200 OK\r\nContent-Type: text/%zz\r\nContent-Length: 5\r\nCache-Control: no-store\r\n\r\nhello";
+
 const NO_TARGET: &str =
     "HTTP/1.1 404 Not Found\r\nContent-Type: application/problem+json\r\nContent-Length: 35\r\nCache-Control: no-store\r\n\r\n{\"status\":404,\"type\":\"about:blank\"}";
 
@@ -116,6 +119,16 @@ const CONNECTIONS: &[(&str, &str, Served)] = &[
     (
         "GET /jmap/download/A1/b1/?accept=text%2Fhtml HTTP/1.1\r\nHost: h\r\nAuthorization: Bearer t\r\n\r\n",
         HELLO,
+        Served::End,
+    ),
+    (
+        "POST /jmap/api HTTP/1.1\r\nHost: h\r\nAuthorization: Bearer T\r\nContent-Length: 2\r\n\r\n{}",
+        UNKNOWN,
+        Served::End,
+    ),
+    (
+        "GET /jmap/download/A1/b1/x?accept=text/%zz HTTP/1.1\r\nHost: h\r\nAuthorization: Bearer t\r\n\r\n",
+        HELLO_AS_ASKED,
         Served::End,
     ),
     (
