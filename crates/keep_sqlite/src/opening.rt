@@ -23,6 +23,9 @@ const MAX_CACHE_BYTES: u64 = 134_217_728;
 // How many bytes of pages a log may have that are not in the file yet.
 const LOG_BYTES: u64 = 4_194_304;
 
+// The fewest bytes that a page of a database may have.
+const LEAST_PAGE_BYTES: u64 = 512;
+
 /// Opens the file at this path, or creates it. What it reads is kept in memory, up to 128 MiB.
 pub fn open_file(rt: &HostRuntime, path: &str) -> Result<Connection<FileStore<File>>, Error> {
     if path == ":memory:" || path.starts_with("file:") {
@@ -105,14 +108,15 @@ fn read_page_bytes(rt: &HostRuntime, path: &str) -> io::Result<u64> {
     Ok(page_bytes(count, head[16], head[17]))
 }
 
-// Returns how many bytes a page has, as these two bytes of the header say if so many are there.
+// Returns how many bytes a page has, as these two bytes of the header say if so many are there. A
+// header that says too few is damaged.
 fn page_bytes(count: usize, high: u8, low: u8) -> u64 {
     if count < 18 {
         return NEW_PAGE_BYTES as u64;
     }
     match u64::from(high) * 256 + u64::from(low) {
-        0 => NEW_PAGE_BYTES as u64,
         1 => 65_536,
-        bytes => bytes,
+        bytes if bytes >= LEAST_PAGE_BYTES => bytes,
+        _ => NEW_PAGE_BYTES as u64,
     }
 }
