@@ -132,6 +132,11 @@ const CONNECTIONS: &[(&str, &str, Served)] = &[
         Served::End,
     ),
     (
+        "POST /jmap/upload/R/ HTTP/1.1\r\nHost: h\r\nAuthorization: Bearer t\r\nContent-Length: 2\r\n\r\nhi",
+        NO_TARGET,
+        Served::End,
+    ),
+    (
         "GET /jmap/download/A1/b2/x HTTP/1.1\r\nHost: h\r\nAuthorization: Bearer t\r\n\r\n",
         NO_TARGET,
         Served::End,
