@@ -18,7 +18,7 @@ use crate::{Entry, MAX_EDIT_BYTES};
 use blob_store::BlobList;
 use jm_base::{Bytes, NoMemory};
 use mail_records::{Commit, Content, Edit, Edits, Stamp, apply_all_ready};
-use record_codec::edit_bytes;
+use record_codec::count_edit_bytes;
 use state_log::{Log, note_all_ready};
 use std::alloc::Global;
 use std::marker::Model;
@@ -86,7 +86,7 @@ impl Account {
     }
 
     /// Does nothing. Its clause says that the edits of its history fit one after the other.
-    pub fn edits_fit(&self)
+    pub fn has_fitting_edits(&self)
         ensures { AllFit self.now.history.base (edits_of self.now.history) }
     {
         let _log = &self.log;
@@ -157,7 +157,7 @@ impl Account {
 
     // Does nothing. Its clause says that, if the edits are within the limit, the last position and
     // the next numbers are in bounds, which callers can't see.
-    pub(crate) fn bounds(&self)
+    pub(crate) fn is_bounded(&self)
         requires { edit_bytes (edits_of self.now.history) ≤ MAX_EDIT_BYTES }
         ensures { IsBounded self.now.history }
     {
@@ -166,13 +166,13 @@ impl Account {
 
     // Returns how many bytes the encoded edits of all entries and these edits take, or None where
     // the account would pass its limit with them.
-    pub(crate) fn edit_bytes_with(&self, edits: &[Edit]) -> Option<u64>
+    pub(crate) fn count_edit_bytes_with(&self, edits: &[Edit]) -> Option<u64>
         ensures within { MatchOption result (¬ IsWithin edit_bytes self.now.history edits.now)
             (λ bytes. IsWithin edit_bytes self.now.history edits.now) }
         ensures bytes { MatchOption result ⊤ (λ bytes. bytes
             ≡ edit_bytes (edits_of self.now.history) + edit_bytes edits.now) }
     {
-        let bytes = self.edit_bytes.saturating_add(edit_bytes(edits));
+        let bytes = self.edit_bytes.saturating_add(count_edit_bytes(edits));
         if bytes > MAX_EDIT_BYTES {
             return None;
         }
@@ -298,7 +298,14 @@ impl Account {
                 };
                 let noted = note_more(before, entry)?;
                 let threads = are_both(keeps_threads, applied.keeps_threads);
-                let account = held(base, applied.content, noted, blobs, base_blobs, threads);
+                let account = build_account(
+                    base,
+                    applied.content,
+                    noted,
+                    blobs,
+                    base_blobs,
+                    threads,
+                );
                 Ok(Some(Loading::Fitting(account)))
             }
         }
@@ -314,7 +321,7 @@ fn let_go(base: Content, log: Log, entries: Vec<Entry>, edits: Edits) {
 }
 
 // Returns the account that holds these parts.
-fn held(
+fn build_account(
     base: Content,
     content: Content,
     noted: Noted,

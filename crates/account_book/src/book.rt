@@ -21,7 +21,7 @@ ghost use Rattle.account_book.specs.Replies.{IsReply, IsWithin, NoneRefused, com
 
 use crate::commits::keep_commit;
 use crate::passes::find_greatest_pass;
-use crate::plans::refusal;
+use crate::plans::build_refusal;
 use crate::start::load_content;
 use crate::{Account, Call, Done, Out, Plan, Rules, StartFault};
 use account_lock::AccountView;
@@ -220,7 +220,7 @@ impl<K: Keeper, R: Rules> Book<K, R> {
         ensures whole { R.is_whole self.now.rules result.now.history }
         ensures bounded { IsBounded result.now.history }
     {
-        self.account.bounds();
+        self.account.is_bounded();
         &self.account
     }
 
@@ -281,7 +281,7 @@ impl<K: Keeper, R: Rules> Book<K, R> {
             ≡ K.append_faults self.old.keeper) }
     {
         let before = self.account.count();
-        let plan = self.planned(alloc, call, moment)?;
+        let plan = self.plan_call(alloc, call, moment)?;
         if plan.is_idle() {
             return Ok(Done {
                 out: plan.out,
@@ -289,15 +289,15 @@ impl<K: Keeper, R: Rules> Book<K, R> {
                 after: before,
             });
         }
-        let Some(bytes) = self.account.edit_bytes_with(plan.edits.as_slice()) else {
+        let Some(bytes) = self.account.count_edit_bytes_with(plan.edits.as_slice()) else {
             return Ok(Done {
-                out: refusal(alloc, "serverUnavailable", &call.ask)?,
+                out: build_refusal(alloc, "serverUnavailable", &call.ask)?,
                 before,
                 after: before,
             });
         };
         // After the keeper was asked, memory may run out for this answer.
-        let refused = refusal(alloc, "serverFail", &call.ask)?;
+        let refused = build_refusal(alloc, "serverFail", &call.ask)?;
         let Plan { out, blobs, edits } = plan;
         let commit = Commit {
             blobs,
@@ -313,7 +313,7 @@ impl<K: Keeper, R: Rules> Book<K, R> {
     }
 
     // Returns the plan of a call. Its clauses are what the rules promise of it.
-    fn planned(&self, alloc: Global, call: &Call, moment: u64) -> Result<Plan, NoMemory>
+    fn plan_call(&self, alloc: Global, call: &Call, moment: u64) -> Result<Plan, NoMemory>
         requires moment { moment ≤ last_moment }
         ensures plan { IfOk result (λ p. p ≡ R.plan_of self.now.rules self.now.history call.now
             moment) }

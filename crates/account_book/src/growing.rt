@@ -11,7 +11,7 @@ use crate::blobs::push_all;
 use blob_store::BlobList;
 use jm_base::{Blobs, Kind, NoMemory};
 use mail_records::{Applied, Content, Edit, apply_fitting};
-use record_codec::edit_bytes;
+use record_codec::count_edit_bytes;
 use state_log::{Log, note_all_ready};
 use std::alloc::Global;
 
@@ -112,7 +112,7 @@ pub(crate) fn note_more(noted: Noted, entry: Entry) -> Result<Noted, NoMemory>
     } = noted;
     log.reserve(entry.edits.as_slice())?;
     note_all_ready(&mut log, entry.edits.as_slice());
-    let bytes = bytes.saturating_add(edit_bytes(entry.edits.as_slice()));
+    let bytes = bytes.saturating_add(count_edit_bytes(entry.edits.as_slice()));
     entries.push(entry)?;
     Ok(Noted {
         log,

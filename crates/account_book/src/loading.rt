@@ -22,7 +22,7 @@ pub enum Loading {
 
 #[tactic(auto, using(crate::proofs::Taking::not_taken, crate::proofs::Taking::taken_over_more))]
 // Takes a commit after others whose blobs are past the limits.
-fn content_with(
+fn apply_commit(
     alloc: Global,
     content: Content,
     commit: Commit,
@@ -39,16 +39,12 @@ fn content_with(
 
 #[tactic(auto, using(crate::proofs::Taking::taken_at))]
 // Takes a commit, or answers None where its edits don't fit.
-fn loading_with(
-    alloc: Global,
-    loading: Loading,
-    commit: Commit,
-) -> Result<Option<Loading>, NoMemory>
+fn load_commit(alloc: Global, loading: Loading, commit: Commit) -> Result<Option<Loading>, NoMemory>
     ensures { IfOk result (λ o. (h : History) → IsLoading loading h → IsTaken h commit o) }
 {
     match loading {
         Loading::Fitting(account) => account.with_commit(alloc, commit),
-        Loading::Overfull(content) => content_with(alloc, content, commit),
+        Loading::Overfull(content) => apply_commit(alloc, content, commit),
     }
 }
 
@@ -64,7 +60,7 @@ fn take_commit(
     ensures err { IfErr result (λ e. (h : History) → IsLoading loading h
         → IsCommitRefused commit row h e) }
 {
-    match loading_with(alloc, loading, commit) {
+    match load_commit(alloc, loading, commit) {
         Ok(Some(next)) => Ok(next),
         Ok(None) => Err(StartFault::Damaged {
             row,

@@ -69,12 +69,12 @@ pub struct Done {
 }
 
 // Returns the answer that is one response, which reports an error.
-fn error_reply(alloc: Global, kind: &str, id: &Text) -> Result<Out, NoMemory>
+fn build_error_reply(alloc: Global, kind: &str, id: &Text) -> Result<Out, NoMemory>
     ensures { IfOk result (λ out. out ≡ Out.Replies
         (record { responses = error_of kind.now id.now ∷ []; made = [] })) }
 {
     let mut responses = Invocations::new(alloc);
-    responses.push(Invocation::error(alloc, kind, id.copy()?)?)?;
+    responses.push(Invocation::build_error_response(alloc, kind, id.copy()?)?)?;
     Ok(Out::Replies(Replied {
         responses,
         made: Made::new(alloc),
@@ -82,12 +82,12 @@ fn error_reply(alloc: Global, kind: &str, id: &Text) -> Result<Out, NoMemory>
 }
 
 /// Returns the answer to what can't be done: for a method the error of this type, else `Failed`.
-pub(crate) fn refusal(alloc: Global, kind: &str, ask: &Ask) -> Result<Out, NoMemory>
+pub(crate) fn build_refusal(alloc: Global, kind: &str, ask: &Ask) -> Result<Out, NoMemory>
     ensures { IfOk result (λ out. out ≡ refusal kind.now ask.now) }
 {
     match ask {
         Ask::Method(call) | Ask::Fetch(call) | Ask::Place(call, _) => {
-            error_reply(alloc, kind, &call.id)
+            build_error_reply(alloc, kind, &call.id)
         }
         Ask::Upload(_) | Ask::Blob(_) | Ask::States => Ok(Out::Failed),
     }

@@ -17,7 +17,7 @@ fn stop(account: Account, fault: StartFault) -> Result<Account, StartFault>
 }
 
 // Returns the account, if it is valid.
-fn valid_account<R: Rules>(
+fn check_account<R: Rules>(
     alloc: Global,
     rules: &R,
     account: Account,
@@ -38,7 +38,7 @@ fn valid_account<R: Rules>(
 }
 
 // Returns the account that the rows make, if it is valid. This is the last row.
-fn loaded_account<R: Rules>(
+fn finish_loading<R: Rules>(
     alloc: Global,
     rules: &R,
     loading: Loading,
@@ -50,7 +50,7 @@ fn loaded_account<R: Rules>(
         → IsEndFault (R.is_whole rules.now) h last e) }
 {
     match loading {
-        Loading::Fitting(account) => valid_account(alloc, rules, account, last),
+        Loading::Fitting(account) => check_account(alloc, rules, account, last),
         Loading::Overfull(_) => Err(StartFault::Damaged {
             row: last,
             reason: Reason::NotWhole,
@@ -78,7 +78,7 @@ pub(crate) fn load_content<R: Rules>(
     let count = rows.len();
     let last = count as u64;
     match load_rows(alloc, rows) {
-        Ok(loading) => loaded_account(alloc, rules, loading, last),
+        Ok(loading) => finish_loading(alloc, rules, loading, last),
         Err(fault) => Err(fault),
     }
 }

@@ -64,7 +64,7 @@ fn perform_held<K: Keeper, R: Rules>(
 }
 
 // Returns what an answer carries, or the answer itself.
-fn carried_in(out: Out) -> Result<Carried, Out>
+fn take_carried(out: Out) -> Result<Carried, Out>
     ensures { result ≡ carried_in out }
 {
     match out {
@@ -87,7 +87,7 @@ fn carried_in(out: Out) -> Result<Carried, Out>
 }
 
 // Returns what an answer replies, or the answer itself.
-fn replied_in(out: Out) -> Result<Replied, Out>
+fn take_replied(out: Out) -> Result<Replied, Out>
     ensures { result ≡ replied_in out }
 {
     match out {
@@ -141,7 +141,7 @@ fn push_first(responses: &mut Vec<Invocation>, answer: Out)
     ensures { map call_of responses.new.items
         ≡ map call_of responses.old.items ++ first_response answer }
 {
-    match replied_in(answer) {
+    match take_replied(answer) {
         Ok(replied) => push_first_of(responses, replied),
         Err(_) => {}
     }
@@ -193,7 +193,7 @@ fn ask_set<K: Keeper, R: Rules>(
 fn with_error(alloc: Global, kind: &str, id: &Text, mut placed: Replied) -> Result<Out, NoMemory>
     ensures { IfOk result (λ out. out ≡ joined placed (error_of kind.now id.now ∷ [])) }
 {
-    let told = Invocation::error(alloc, kind, id.copy()?)?;
+    let told = Invocation::build_error_response(alloc, kind, id.copy()?)?;
     placed.responses.push(told)?;
     Ok(Out::Replies(placed))
 }
@@ -269,7 +269,7 @@ fn follow_placed<K: Keeper, R: Rules, O: Originals>(
     ensures none { OnErr result ((entries_in from.new ≡ entries_in from.old)
         × (trail.new.items ≡ trail.old.items)) }
 {
-    match replied_in(placed) {
+    match take_replied(placed) {
         Err(other) => Ok(other),
         Ok(placed) => match find_set(alloc, originals, &copy, &placed) {
             Ok(set) => follow_copy(
@@ -347,7 +347,7 @@ fn follow_fetched<K: Keeper, R: Rules, O: Originals>(
         (state_of from.new to.new trail.new.items)) }
     ensures gained { HasGained from.old from.new × HasGained to.old to.new }
 {
-    match carried_in(fetched) {
+    match take_carried(fetched) {
         Err(other) => Ok(other),
         Ok(carried) => place_held(
             alloc, from, to, trail, originals, read_only, copy, made, carried, moment,

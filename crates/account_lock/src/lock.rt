@@ -71,7 +71,7 @@ impl Model for Pass {
 }
 
 // Returns a list of one slot with the value in it, or the value if memory runs out.
-fn one_slot<B: AccountView>(alloc: Global, value: Box<B>) -> Result<Vec<Option<Box<B>>>, Box<B>>
+fn build_slot<B: AccountView>(alloc: Global, value: Box<B>) -> Result<Vec<Option<Box<B>>>, Box<B>>
     ensures ok { IfOk result (λ v. v.items ≡ Some value ∷ []) }
     ensures err { IfErr result (λ b. b ≡ value) }
 {
@@ -96,7 +96,7 @@ impl<B: AccountView> AccountLock<B> {
         ensures err { IfErr result (λ b. b ≡ value) }
     {
         let about = Snapshot::of(&value);
-        let slots = one_slot(alloc, value)?;
+        let slots = build_slot(alloc, value)?;
         match Table::new(alloc, &[0, 0, 0], slots, &about) {
             Ok((table, seat)) => Ok((
                 AccountLock { table },
@@ -104,8 +104,8 @@ impl<B: AccountView> AccountLock<B> {
                     name: 0,
                     given: 0,
                     badge: seat.into_badge(),
-                    began: Noted::none(),
-                    ended: Noted::none(),
+                    began: Noted::note_nothing(),
+                    ended: Noted::note_nothing(),
                 },
             )),
             Err(refused) => {
@@ -138,8 +138,8 @@ impl<B: AccountView> AccountLock<B> {
         await_turn(rt, words, &mut seat, ticket);
         let value = lift(words, &mut seat);
         pass.badge = seat.into_badge();
-        pass.began = Noted::none();
-        pass.ended = Noted::none();
+        pass.began = Noted::note_nothing();
+        pass.ended = Noted::note_nothing();
         value
     }
 
@@ -184,7 +184,7 @@ impl<B: AccountView> AccountLock<B> {
         let mut seat = mem::replace(&mut pass.badge, Badge::blank()).into_seat::<Option<Box<B>>>();
         lay_back(words, &mut seat, value);
         pass.badge = seat.into_badge();
-        pass.ended = Noted::none();
+        pass.ended = Noted::note_nothing();
     }
 
     /// Does what [`AccountLock::give`] does, while another pass, which may be of another lock, has
@@ -224,8 +224,8 @@ impl<B: AccountView> AccountLock<B> {
             name: pass.given,
             given: 0,
             badge: new.into_badge(),
-            began: Noted::none(),
-            ended: Noted::none(),
+            began: Noted::note_nothing(),
+            ended: Noted::note_nothing(),
         })
     }
 

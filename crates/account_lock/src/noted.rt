@@ -24,7 +24,7 @@ impl Model for Noted {
 
 impl Noted {
     // Notes no turn.
-    pub(crate) fn none() -> Noted
+    pub(crate) fn note_nothing() -> Noted
         ensures { result ≡ None }
     {
         let blank = Badge::blank();

@@ -43,13 +43,13 @@ pub(crate) fn hold(line: &mut Bytes, more: &[u8]) -> Result<(), NoMemory>
         ++ take (most_held (line.old ++ more.now) - length line.old) more.now) }
     ensures err { OnErr result (line.new ≡ line.old) }
 {
-    let most = most_held_of(line.as_slice(), more);
+    let most = choose_held_limit_of_both(line.as_slice(), more);
     let count = more.len().min(most.saturating_sub(line.len()));
     line.append(&more[..count])
 }
 
 // Returns how many bytes of a line are held, by its first bytes.
-fn most_held(line: &[u8]) -> usize
+fn choose_held_limit(line: &[u8]) -> usize
     ensures { result ≡ most_held line.now }
 {
     if begins_with_plus(line) {
@@ -59,13 +59,13 @@ fn most_held(line: &[u8]) -> usize
 }
 
 // Returns how many bytes are held of a line of which these are, and more.
-fn most_held_of(line: &[u8], more: &[u8]) -> usize
+fn choose_held_limit_of_both(line: &[u8], more: &[u8]) -> usize
     ensures { result ≡ most_held (line.now ++ more.now) }
 {
     if line.is_empty() {
-        return most_held(more);
+        return choose_held_limit(more);
     }
-    most_held(line)
+    choose_held_limit(line)
 }
 
 /// Answers the line that is held and ends with these bytes, and begins the next line. If memory

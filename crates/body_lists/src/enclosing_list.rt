@@ -57,7 +57,7 @@ fn is_attached(part: &Part) -> bool
 
 impl EnclosingList {
     /// Returns the list of the message alone, as in a mixed multipart.
-    pub fn top() -> EnclosingList
+    pub fn enter_message() -> EnclosingList
         ensures { enclosing_of result ≡ top_list }
     {
         EnclosingList {
@@ -97,7 +97,7 @@ impl EnclosingList {
 
 impl Open {
     /// Returns which lists are open after a part.
-    pub fn after(self, place: EnclosingList, first: bool, part: &Part) -> Open
+    pub fn close_lists_after(self, place: EnclosingList, first: bool, part: &Part) -> Open
         ensures { open_of result ≡ open_after (enclosing_of place) first (open_of self)
             (node_of part.now) }
     {

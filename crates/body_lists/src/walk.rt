@@ -76,7 +76,7 @@ impl BodyLists {
                 part,
             );
         }
-        let taking = taking.after(place, first, part);
+        let taking = taking.close_lists_after(place, first, part);
         let attached = is_media(part) && !(taking.text && taking.html);
         self.push(taking.text, taking.html, attached, part)
     }
@@ -167,7 +167,7 @@ fn add_parts(
     let mut taking = taking;
     for part in parts {
         add_part(alloc, out, place, first, taking, part)?;
-        taking = taking.after(place, first, part);
+        taking = taking.close_lists_after(place, first, part);
         first = false;
     }
     Ok(())
@@ -187,6 +187,13 @@ pub fn lists(alloc: Global, part: &Part) -> Result<BodyLists, NoMemory>
         text: true,
         html: true,
     };
-    add_part(alloc, &mut out, EnclosingList::top(), true, taking, part)?;
+    add_part(
+        alloc,
+        &mut out,
+        EnclosingList::enter_message(),
+        true,
+        taking,
+        part,
+    )?;
     Ok(out)
 }

@@ -13,7 +13,7 @@ use state_log::Log;
 use std::alloc::Global;
 use std::collections::BTreeMap;
 
-fn positive(number: i64) -> Option<u64>
+fn check_positive(number: i64) -> Option<u64>
     ensures { result ≡ positive number }
 {
     if number < 1 {
@@ -27,7 +27,7 @@ fn read_maximum(max: Option<i64>) -> Option<Option<u64>>
     ensures { result ≡ maximum_of max }
 {
     match max {
-        Some(number) => match positive(number) {
+        Some(number) => match check_positive(number) {
             Some(max) => Some(Some(max)),
             None => None,
         },
@@ -53,7 +53,7 @@ pub fn find_state(log: &Log, kind: Kind, text: &[u8]) -> Option<u64>
 }
 
 // Returns the state of a kind at a position up to the end.
-fn state_there(log: &Log, kind: Kind, position: u64, more: bool) -> u64
+fn find_state_at(log: &Log, kind: Kind, position: u64, more: bool) -> u64
     requires end { more ≡ false → position ≡ log_end log.now }
     ensures { (h : History) → IsLogOf h log.now → result ≡ state_at h kind position }
 {
@@ -79,7 +79,7 @@ fn has_items(numbers: &Numbers) -> bool
 }
 
 // Returns the page that marks come to.
-fn page_with(
+fn build_page(
     alloc: Global,
     marks: &BTreeMap<u64, Mark>,
     new_state: u64,
@@ -114,13 +114,13 @@ fn make_page(
         → page ≡ page_of h kind from (page_end h kind max from)) }
 {
     let end = log.end();
-    let notes = log.notes_between(from, end);
+    let notes = log.find_notes_between(from, end);
     let walk = mark_notes(alloc, notes, kind, max)?;
     let count = notes.len();
     let left = count - walk.taken;
     let more = is_some_left(left);
-    let new_state = state_there(log, kind, end - left as u64, more);
-    let page = page_with(alloc, &walk.marks, new_state, more)?;
+    let new_state = find_state_at(log, kind, end - left as u64, more);
+    let page = build_page(alloc, &walk.marks, new_state, more)?;
     Ok(page)
 }
 

@@ -79,7 +79,7 @@ pub fn read_blob_ids<'a>(alloc: Global, members: &'a Members) -> Result<Vec<&'a 
 }
 
 // Lends the blob of this number.
-fn blob_with(blobs: &BlobList, number: u64) -> Option<&[u8]>
+fn find_numbered_blob(blobs: &BlobList, number: u64) -> Option<&[u8]>
     ensures { option_map (λ b. b.now) result ≡ blob_numbered number blobs.now.blobs }
 {
     match blobs.get(number) {
@@ -114,7 +114,7 @@ fn read_by_id(
     ensures { IfOk result (λ b. b ≡ bytes_by blobs.now.blobs id) }
 {
     match id {
-        Some(id) => read_bytes(alloc, blob_with(blobs, id.blob), id.leaf),
+        Some(id) => read_bytes(alloc, find_numbered_blob(blobs, id.blob), id.leaf),
         None => Ok(None),
     }
 }

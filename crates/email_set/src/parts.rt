@@ -8,7 +8,7 @@ use jm_base::NoMemory;
 use std::alloc::Global;
 
 // Returns what follows a byte in a path, if the path begins with it.
-fn after_byte<'a>(path: &'a [u8], byte: u8) -> Option<&'a [u8]>
+fn strip_byte<'a>(path: &'a [u8], byte: u8) -> Option<&'a [u8]>
     ensures { option_map (λ r. r.now) result ≡ stripped (byte ∷ []) path.now }
 {
     if path.is_empty() || path[0] != byte {
@@ -23,7 +23,7 @@ pub fn strip_prefix<'a>(prefix: &[u8], path: &'a [u8]) -> Option<&'a [u8]>
 {
     let mut rest = path;
     for byte in prefix {
-        match after_byte(rest, *byte) {
+        match strip_byte(rest, *byte) {
             Some(more) => rest = more,
             None => return None,
         }

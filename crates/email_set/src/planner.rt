@@ -38,7 +38,7 @@ pub fn start_planner(alloc: Global, content: &Content) -> Planner
 }
 
 // Returns the email that an edit puts.
-fn email_put(edit: &Edit) -> Option<&Email>
+fn find_put_email(edit: &Edit) -> Option<&Email>
     ensures { option_map (λ r. r.now) result ≡ email_put edit.now }
 {
     match edit {
@@ -64,7 +64,7 @@ pub fn find_email<'a>(content: &'a Content, planner: &'a Planner, number: u64) -
         → option_map (λ r. r.now) result ≡ email_at s.content number }
 {
     match find_last_edit(planner, number) {
-        Some(edit) => email_put(edit),
+        Some(edit) => find_put_email(edit),
         None => content.email(number),
     }
 }

@@ -9,11 +9,12 @@ ghost use Rattle.filter_terms.specs.Compiled.{match_each, terms_match, MeanCondi
 
 use crate::compiled::Terms;
 use crate::conditions::{
-    has_attachment, in_mailbox, in_mailbox_other_than, keyword, max_size, min_size,
-    read_mailbox_condition, received_after, received_before,
+    build_after_condition, build_before_condition, build_in_mailbox_condition,
+    build_in_mailbox_other_than_condition, build_max_size_condition, build_min_size_condition,
+    has_attachment, keyword, read_mailbox_condition,
 };
-use crate::message_conditions::{contains, header};
-use crate::terms::{EmailTerm, Operator, Term, operator_of, term_of};
+use crate::message_conditions::{build_header_condition, contains};
+use crate::terms::{EmailTerm, Operator, Term, find_term, read_operator};
 use jm_base::{Kind, NoMemory};
 use jm_json::{Json, Member, Members};
 use std::alloc::Global;
@@ -24,18 +25,18 @@ fn read_email_term(alloc: Global, term: EmailTerm, value: &Json) -> Result<Terms
     ensures { IfOk result (λ t. MeansTerm t (Some (Term.OfEmail term)) (tree_of value.now)) }
 {
     match term {
-        EmailTerm::InMailbox => Ok(Terms::OfEmail(in_mailbox(value))),
+        EmailTerm::InMailbox => Ok(Terms::OfEmail(build_in_mailbox_condition(value))),
         EmailTerm::InMailboxOtherThan => {
-            Ok(Terms::OfEmail(in_mailbox_other_than(alloc, value)?))
+            Ok(Terms::OfEmail(build_in_mailbox_other_than_condition(alloc, value)?))
         }
-        EmailTerm::Before => Ok(Terms::OfEmail(received_before(value))),
-        EmailTerm::After => Ok(Terms::OfEmail(received_after(value))),
-        EmailTerm::MinSize => Ok(Terms::OfEmail(min_size(value))),
-        EmailTerm::MaxSize => Ok(Terms::OfEmail(max_size(value))),
+        EmailTerm::Before => Ok(Terms::OfEmail(build_before_condition(value))),
+        EmailTerm::After => Ok(Terms::OfEmail(build_after_condition(value))),
+        EmailTerm::MinSize => Ok(Terms::OfEmail(build_min_size_condition(value))),
+        EmailTerm::MaxSize => Ok(Terms::OfEmail(build_max_size_condition(value))),
         EmailTerm::Keyword(test) => Ok(Terms::OfEmail(keyword(alloc, test, value)?)),
         EmailTerm::HasAttachment => Ok(Terms::OfEmail(has_attachment(value))),
         EmailTerm::Contains(place) => Ok(Terms::OfMessage(contains(alloc, place, value)?)),
-        EmailTerm::Header => Ok(Terms::OfMessage(header(alloc, value)?)),
+        EmailTerm::Header => Ok(Terms::OfMessage(build_header_condition(alloc, value)?)),
     }
 }
 
@@ -58,7 +59,7 @@ fn read_members(alloc: Global, kind: Kind, members: &[Member]) -> Result<Vec<Ter
 {
     let mut all = Vec::new(alloc);
     for member in members {
-        let term = term_of(kind, member.name.as_str());
+        let term = find_term(kind, member.name.as_str());
         all.push(read_term(alloc, term, &member.value)?)?;
     }
     Ok(all)
@@ -98,7 +99,7 @@ fn compile_object(alloc: Global, kind: Kind, members: &Members) -> Result<Terms,
     ensures { IfOk result (λ t. Means kind t (object (fields_of members.now))) }
 {
     match members.get("operator") {
-        Some(operator) => match operator_of(operator) {
+        Some(operator) => match read_operator(operator) {
             Some(operator) => Ok(Terms::Join(
                 operator,
                 compile_conditions(alloc, kind, members.as_slice())?,

@@ -6,12 +6,12 @@ ghost use Rattle.filter_terms.specs.Compiled.{IsMatch, IsMatchOf, all_true, matc
 ghost use Rattle.filter_terms.specs.Targets.{AMailbox, AnEmail, email_in_thread};
 
 use crate::conditions::{EmailCondition, MailboxCondition};
-use crate::emails::email_matches;
-use crate::mailboxes::mailbox_matches;
-use crate::message_conditions::{MessageCondition, message_matches};
+use crate::emails::match_email_condition;
+use crate::mailboxes::match_mailbox_condition;
+use crate::message_conditions::{MessageCondition, match_message_condition};
 use crate::terms::Operator;
 use crate::texts::{OpenedMessage, Texts2};
-use crate::without_texts::known;
+use crate::without_texts::match_without_texts;
 use jm_base::NoMemory;
 use mail_records::{Content, Email, Mailbox};
 
@@ -28,7 +28,7 @@ pub(crate) enum Terms {
 /// Returns whether the terms match an email whose message was opened. Its texts are looked at only
 /// if the other conditions leave open whether the terms match.
 #[cycle(email_holds)]
-pub(crate) fn email_holds<M: OpenedMessage>(
+pub(crate) fn match_opened_email<M: OpenedMessage>(
     terms: &Terms,
     content: &Content,
     message: &mut M,
@@ -38,16 +38,16 @@ pub(crate) fn email_holds<M: OpenedMessage>(
         (email_in_thread content.now.content.emails email.now) (M.contents message.old)) }
     ensures same { M.contents message.new ≡ M.contents message.old }
 {
-    match known(terms, content, email) {
+    match match_without_texts(terms, content, email) {
         Some(known) => Ok(known),
-        None => email_decides(terms, content, message, email),
+        None => match_terms_with_texts(terms, content, message, email),
     }
 }
 
 // Returns whether the terms match, of which some look at texts.
 #[tactic(auto, using(crate::proofs::Matched::by_kind))]
 #[cycle(email_holds)]
-fn email_decides<M: OpenedMessage>(
+fn match_terms_with_texts<M: OpenedMessage>(
     terms: &Terms,
     content: &Content,
     message: &mut M,
@@ -59,15 +59,17 @@ fn email_decides<M: OpenedMessage>(
 {
     match terms {
         Terms::Always => Ok(true),
-        Terms::OfEmail(condition) => Ok(email_matches(condition, content, email)),
-        Terms::OfMessage(condition) => message_matches(condition, message),
+        Terms::OfEmail(condition) => Ok(match_email_condition(condition, content, email)),
+        Terms::OfMessage(condition) => match_message_condition(condition, message),
         Terms::OfMailbox(_) => Ok(false),
-        Terms::Join(operator, items) => email_joins(*operator, items, content, message, email),
+        Terms::Join(operator, items) => join_email_matches(
+            *operator, items, content, message, email,
+        ),
     }
 }
 
 #[cycle(email_holds)]
-fn email_joins<M: OpenedMessage>(
+fn join_email_matches<M: OpenedMessage>(
     operator: Operator,
     items: &[Terms],
     content: &Content,
@@ -79,9 +81,9 @@ fn email_joins<M: OpenedMessage>(
     ensures same { M.contents message.new ≡ M.contents message.old }
 {
     match operator {
-        Operator::And => all_hold(items, content, message, email),
-        Operator::Or => some_holds(items, content, message, email),
-        Operator::Not => match some_holds(items, content, message, email) {
+        Operator::And => match_all_terms(items, content, message, email),
+        Operator::Or => match_some_term(items, content, message, email),
+        Operator::Not => match match_some_term(items, content, message, email) {
             Ok(some) => Ok(!some),
             Err(e) => Err(e),
         },
@@ -89,7 +91,7 @@ fn email_joins<M: OpenedMessage>(
 }
 
 #[cycle(email_holds)]
-fn all_hold<M: OpenedMessage>(
+fn match_all_terms<M: OpenedMessage>(
     items: &[Terms],
     content: &Content,
     message: &mut M,
@@ -100,7 +102,7 @@ fn all_hold<M: OpenedMessage>(
     ensures same { M.contents message.new ≡ M.contents message.old }
 {
     for item in items {
-        if !email_holds(item, content, message, email)? {
+        if !match_opened_email(item, content, message, email)? {
             return Ok(false);
         }
     }
@@ -108,7 +110,7 @@ fn all_hold<M: OpenedMessage>(
 }
 
 #[cycle(email_holds)]
-fn some_holds<M: OpenedMessage>(
+fn match_some_term<M: OpenedMessage>(
     items: &[Terms],
     content: &Content,
     message: &mut M,
@@ -119,7 +121,7 @@ fn some_holds<M: OpenedMessage>(
     ensures same { M.contents message.new ≡ M.contents message.old }
 {
     for item in items {
-        if email_holds(item, content, message, email)? {
+        if match_opened_email(item, content, message, email)? {
             return Ok(true);
         }
     }
@@ -128,7 +130,7 @@ fn some_holds<M: OpenedMessage>(
 
 /// Returns whether the terms match an email, whose message is opened only if the conditions that
 /// look at no text leave that open.
-pub(crate) fn holds_of_email<T: Texts2>(
+pub(crate) fn match_email_terms<T: Texts2>(
     terms: &Terms,
     content: &Content,
     texts: &T,
@@ -137,11 +139,11 @@ pub(crate) fn holds_of_email<T: Texts2>(
     ensures { IfOk result (λ b. b ≡ terms_match terms.now
         (AnEmail (T.texts texts.now) (email_in_thread content.now.content.emails email.now))) }
 {
-    match known(terms, content, email) {
+    match match_without_texts(terms, content, email) {
         Some(known) => Ok(known),
         None => {
             let mut message = texts.open(email.blob)?;
-            email_decides(terms, content, &mut message, email)
+            match_terms_with_texts(terms, content, &mut message, email)
         }
     }
 }
@@ -149,34 +151,34 @@ pub(crate) fn holds_of_email<T: Texts2>(
 /// Returns whether the terms hold of a mailbox.
 #[tactic(auto, using(crate::proofs::Matched::by_kind))]
 #[cycle(mailbox_holds)]
-pub(crate) fn mailbox_holds(terms: &Terms, mailbox: &Mailbox) -> bool
+pub(crate) fn match_mailbox_terms(terms: &Terms, mailbox: &Mailbox) -> bool
     ensures { result ≡ terms_match terms.now (AMailbox mailbox.now) }
 {
     match terms {
         Terms::Always => true,
         Terms::OfEmail(_) | Terms::OfMessage(_) => false,
-        Terms::OfMailbox(condition) => mailbox_matches(condition, mailbox),
-        Terms::Join(operator, items) => mailbox_joins(*operator, items, mailbox),
+        Terms::OfMailbox(condition) => match_mailbox_condition(condition, mailbox),
+        Terms::Join(operator, items) => join_mailbox_matches(*operator, items, mailbox),
     }
 }
 
 #[cycle(mailbox_holds)]
-fn mailbox_joins(operator: Operator, items: &[Terms], mailbox: &Mailbox) -> bool
+fn join_mailbox_matches(operator: Operator, items: &[Terms], mailbox: &Mailbox) -> bool
     ensures { result ≡ joined operator (match_each items.now (AMailbox mailbox.now)) }
 {
     match operator {
-        Operator::And => all_hold_of_mailbox(items, mailbox),
-        Operator::Or => some_holds_of_mailbox(items, mailbox),
-        Operator::Not => !some_holds_of_mailbox(items, mailbox),
+        Operator::And => match_all_with_mailbox(items, mailbox),
+        Operator::Or => match_some_with_mailbox(items, mailbox),
+        Operator::Not => !match_some_with_mailbox(items, mailbox),
     }
 }
 
 #[cycle(mailbox_holds)]
-fn all_hold_of_mailbox(items: &[Terms], mailbox: &Mailbox) -> bool
+fn match_all_with_mailbox(items: &[Terms], mailbox: &Mailbox) -> bool
     ensures { result ≡ list_all (λ c. c) (match_each items.now (AMailbox mailbox.now)) }
 {
     for item in items {
-        if !mailbox_holds(item, mailbox) {
+        if !match_mailbox_terms(item, mailbox) {
             return false;
         }
     }
@@ -184,11 +186,11 @@ fn all_hold_of_mailbox(items: &[Terms], mailbox: &Mailbox) -> bool
 }
 
 #[cycle(mailbox_holds)]
-fn some_holds_of_mailbox(items: &[Terms], mailbox: &Mailbox) -> bool
+fn match_some_with_mailbox(items: &[Terms], mailbox: &Mailbox) -> bool
     ensures { result ≡ list_any (λ c. c) (match_each items.now (AMailbox mailbox.now)) }
 {
     for item in items {
-        if mailbox_holds(item, mailbox) {
+        if match_mailbox_terms(item, mailbox) {
             return true;
         }
     }

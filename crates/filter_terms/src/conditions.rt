@@ -12,7 +12,7 @@ ghost use Rattle.filter_terms.specs.Targets.{EmailInThread};
 ghost use Rattle.filter_terms.specs.Texts.{MessageTexts};
 
 use crate::terms::{EmailTerm, KeywordTest, MailboxTerm};
-use crate::values::{as_count, as_date, as_flag, mailbox_number};
+use crate::values::{as_count, as_date, as_flag, read_mailbox_id};
 use jm_base::{NoMemory, Numbers, Text};
 use jm_json::Json;
 use method_args::lend_strings;
@@ -58,14 +58,14 @@ fn push_number(numbers: &mut Numbers, id: &str) -> Result<(), NoMemory>
     ensures { OnOk result ((m : ℕ) → list_any (λ n. n == m) numbers.new
         ≡ (list_any (λ n. n == m) numbers.old || is_mailbox_id id.now m)) }
 {
-    match mailbox_number(id.as_bytes()) {
+    match read_mailbox_id(id.as_bytes()) {
         Some(number) => numbers.push(number),
         None => Ok(()),
     }
 }
 
 // Returns the numbers of the mailboxes whose ids these are.
-fn mailbox_numbers(alloc: Global, ids: &[&str]) -> Result<Numbers, NoMemory>
+fn collect_mailbox_numbers(alloc: Global, ids: &[&str]) -> Result<Numbers, NoMemory>
     ensures { IfOk result (λ ns. (m : ℕ) → list_any (λ n. n == m) ns
         ≡ list_any (λ id. is_mailbox_id id m) (map (λ id. id.now) ids.now)) }
 {
@@ -77,11 +77,11 @@ fn mailbox_numbers(alloc: Global, ids: &[&str]) -> Result<Numbers, NoMemory>
 }
 
 // Returns the condition of a mailbox's id.
-fn in_mailbox_of(id: &Text) -> EmailCondition
+fn build_mailbox_id_condition(id: &Text) -> EmailCondition
     ensures { (texts : ℕ → MessageTexts) (s : EmailInThread) → email_matches s result
         ≡ is_in_mailbox id.now s.email }
 {
-    match mailbox_number(id.as_bytes()) {
+    match read_mailbox_id(id.as_bytes()) {
         Some(number) => EmailCondition::InMailbox(number),
         None => EmailCondition::Never,
     }
@@ -89,28 +89,31 @@ fn in_mailbox_of(id: &Text) -> EmailCondition
 
 /// Returns the condition `inMailbox` of a value. Each function below returns the condition of its
 /// name; a value of a wrong kind, with which no filter is read, gives one that matches nothing.
-pub(crate) fn in_mailbox(value: &Json) -> EmailCondition
+pub(crate) fn build_in_mailbox_condition(value: &Json) -> EmailCondition
     ensures { (texts : ℕ → MessageTexts) (s : EmailInThread) → email_matches s result
         ≡ email_term_holds texts s EmailTerm.InMailbox (tree_of value.now) }
 {
     match value.as_text() {
-        Some(id) => in_mailbox_of(id),
+        Some(id) => build_mailbox_id_condition(id),
         None => EmailCondition::Never,
     }
 }
 
 #[tactic(auto, using(crate::proofs::MailboxIds::others_same))]
-pub(crate) fn in_mailbox_other_than(alloc: Global, value: &Json) -> Result<EmailCondition, NoMemory>
+pub(crate) fn build_in_mailbox_other_than_condition(
+    alloc: Global,
+    value: &Json,
+) -> Result<EmailCondition, NoMemory>
     ensures { IfOk result (λ c. (texts : ℕ → MessageTexts) (s : EmailInThread) → email_matches s c
         ≡ email_term_holds texts s EmailTerm.InMailboxOtherThan (tree_of value.now)) }
 {
     match lend_strings(alloc, value)? {
-        Some(ids) => Ok(EmailCondition::InMailboxOtherThan(mailbox_numbers(alloc, &ids)?)),
+        Some(ids) => Ok(EmailCondition::InMailboxOtherThan(collect_mailbox_numbers(alloc, &ids)?)),
         None => Ok(EmailCondition::Never),
     }
 }
 
-pub(crate) fn received_before(value: &Json) -> EmailCondition
+pub(crate) fn build_before_condition(value: &Json) -> EmailCondition
     ensures { (texts : ℕ → MessageTexts) (s : EmailInThread) → email_matches s result
         ≡ email_term_holds texts s EmailTerm.Before (tree_of value.now) }
 {
@@ -120,7 +123,7 @@ pub(crate) fn received_before(value: &Json) -> EmailCondition
     }
 }
 
-pub(crate) fn received_after(value: &Json) -> EmailCondition
+pub(crate) fn build_after_condition(value: &Json) -> EmailCondition
     ensures { (texts : ℕ → MessageTexts) (s : EmailInThread) → email_matches s result
         ≡ email_term_holds texts s EmailTerm.After (tree_of value.now) }
 {
@@ -130,7 +133,7 @@ pub(crate) fn received_after(value: &Json) -> EmailCondition
     }
 }
 
-pub(crate) fn min_size(value: &Json) -> EmailCondition
+pub(crate) fn build_min_size_condition(value: &Json) -> EmailCondition
     ensures { (texts : ℕ → MessageTexts) (s : EmailInThread) → email_matches s result
         ≡ email_term_holds texts s EmailTerm.MinSize (tree_of value.now) }
 {
@@ -140,7 +143,7 @@ pub(crate) fn min_size(value: &Json) -> EmailCondition
     }
 }
 
-pub(crate) fn max_size(value: &Json) -> EmailCondition
+pub(crate) fn build_max_size_condition(value: &Json) -> EmailCondition
     ensures { (texts : ℕ → MessageTexts) (s : EmailInThread) → email_matches s result
         ≡ email_term_holds texts s EmailTerm.MaxSize (tree_of value.now) }
 {
@@ -178,13 +181,13 @@ pub(crate) fn keyword(
 fn has_parent(id: &Text) -> MailboxCondition
     ensures { (m : Mailbox) → mailbox_matches m result ≡ has_parent (Some id.now) m.parent }
 {
-    match mailbox_number(id.as_bytes()) {
+    match read_mailbox_id(id.as_bytes()) {
         Some(number) => MailboxCondition::HasParent(number),
         None => MailboxCondition::Never,
     }
 }
 
-fn parent_id(value: &Json) -> MailboxCondition
+fn build_parent_id_condition(value: &Json) -> MailboxCondition
     ensures { (m : Mailbox) → mailbox_matches m result
         ≡ mailbox_term_holds m MailboxTerm.ParentId (tree_of value.now) }
 {
@@ -196,7 +199,7 @@ fn parent_id(value: &Json) -> MailboxCondition
 }
 
 #[tactic(auto, using(crate::proofs::Lowered::in_lower_case))]
-fn name(alloc: Global, value: &Json) -> Result<MailboxCondition, NoMemory>
+fn build_name_condition(alloc: Global, value: &Json) -> Result<MailboxCondition, NoMemory>
     ensures { IfOk result (λ c. (m : Mailbox) → mailbox_matches m c
         ≡ mailbox_term_holds m MailboxTerm.Name (tree_of value.now)) }
 {
@@ -206,7 +209,7 @@ fn name(alloc: Global, value: &Json) -> Result<MailboxCondition, NoMemory>
     }
 }
 
-fn role(value: &Json) -> Result<MailboxCondition, NoMemory>
+fn build_role_condition(value: &Json) -> Result<MailboxCondition, NoMemory>
     ensures { IfOk result (λ c. (m : Mailbox) → mailbox_matches m c
         ≡ mailbox_term_holds m MailboxTerm.Role (tree_of value.now)) }
 {
@@ -249,9 +252,9 @@ pub(crate) fn read_mailbox_condition(
         ≡ mailbox_term_holds m term (tree_of value.now)) }
 {
     match term {
-        MailboxTerm::ParentId => Ok(parent_id(value)),
-        MailboxTerm::Name => name(alloc, value),
-        MailboxTerm::Role => role(value),
+        MailboxTerm::ParentId => Ok(build_parent_id_condition(value)),
+        MailboxTerm::Name => build_name_condition(alloc, value),
+        MailboxTerm::Role => build_role_condition(value),
         MailboxTerm::HasAnyRole => Ok(has_any_role(value)),
         MailboxTerm::IsSubscribed => Ok(is_subscribed(value)),
     }

@@ -58,7 +58,7 @@ fn is_in_other_than(numbers: &[u64], email: &Email) -> bool
 }
 
 // Returns whether the email of an entry has the keyword.
-fn entry_has(keyword: &str, content: &Content, entry: &Threaded) -> bool
+fn has_keyword_in_entry(keyword: &str, content: &Content, entry: &Threaded) -> bool
     ensures { result ≡ passes (λ e. has_keyword keyword.now e)
         (email_at content.now.content entry.now.email) }
 {
@@ -68,24 +68,24 @@ fn entry_has(keyword: &str, content: &Content, entry: &Threaded) -> bool
     }
 }
 
-fn some_entry_has(keyword: &str, content: &Content, entries: &[Threaded]) -> bool
+fn has_keyword_in_some_entry(keyword: &str, content: &Content, entries: &[Threaded]) -> bool
     ensures { result ≡ list_any (λ t. passes (λ e. has_keyword keyword.now e)
         (email_at content.now.content t.email)) entries.now }
 {
     for entry in entries {
-        if entry_has(keyword, content, entry) {
+        if has_keyword_in_entry(keyword, content, entry) {
             return true;
         }
     }
     false
 }
 
-fn all_entries_have(keyword: &str, content: &Content, entries: &[Threaded]) -> bool
+fn has_keyword_in_each_entry(keyword: &str, content: &Content, entries: &[Threaded]) -> bool
     ensures { result ≡ list_all (λ t. passes (λ e. has_keyword keyword.now e)
         (email_at content.now.content t.email)) entries.now }
 {
     for entry in entries {
-        if !entry_has(keyword, content, entry) {
+        if !has_keyword_in_entry(keyword, content, entry) {
             return false;
         }
     }
@@ -99,7 +99,7 @@ pub fn has_some_in_thread(keyword: &str, content: &Content, thread: u64) -> bool
         (of_thread thread content.now.content.emails) }
 {
     let _emails = content.emails();
-    some_entry_has(keyword, content, content.in_thread(thread))
+    has_keyword_in_some_entry(keyword, content, content.find_in_thread(thread))
 }
 
 /// Returns whether all emails of a thread have the keyword, which is in lower case.
@@ -109,10 +109,10 @@ pub fn has_all_in_thread(keyword: &str, content: &Content, thread: u64) -> bool
         (of_thread thread content.now.content.emails) }
 {
     let _emails = content.emails();
-    all_entries_have(keyword, content, content.in_thread(thread))
+    has_keyword_in_each_entry(keyword, content, content.find_in_thread(thread))
 }
 
-fn keyword_holds(test: KeywordTest, keyword: &str, content: &Content, email: &Email) -> bool
+fn match_keyword_test(test: KeywordTest, keyword: &str, content: &Content, email: &Email) -> bool
     ensures { result ≡ keyword_holds (email_in_thread content.now.content.emails email.now) test
         keyword.now }
 {
@@ -126,7 +126,11 @@ fn keyword_holds(test: KeywordTest, keyword: &str, content: &Content, email: &Em
 }
 
 /// Returns whether a condition that looks at no text matches an email of a content.
-pub(crate) fn email_matches(condition: &EmailCondition, content: &Content, email: &Email) -> bool
+pub(crate) fn match_email_condition(
+    condition: &EmailCondition,
+    content: &Content,
+    email: &Email,
+) -> bool
     ensures { result ≡ email_matches (email_in_thread content.now.content.emails email.now)
         condition.now }
 {
@@ -139,7 +143,7 @@ pub(crate) fn email_matches(condition: &EmailCondition, content: &Content, email
         EmailCondition::MinSize(size) => *size <= email.size,
         EmailCondition::MaxSize(size) => email.size < *size,
         EmailCondition::Keyword(test, keyword) => {
-            keyword_holds(*test, keyword.as_str(), content, email)
+            match_keyword_test(*test, keyword.as_str(), content, email)
         }
         EmailCondition::HasAttachment(flag) => *flag == email.summary.attachment,
     }

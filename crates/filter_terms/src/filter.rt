@@ -9,11 +9,11 @@ ghost use Rattle.filter_terms.specs.Targets.{AMailbox, AnEmail, email_in_thread}
 ghost use Rattle.filter_terms.specs.ThreadScope;
 
 use crate::compile::compile;
-use crate::compiled::{Terms, holds_of_email, mailbox_holds};
+use crate::compiled::{Terms, match_email_terms, match_mailbox_terms};
 use crate::faults::TermFault;
 use crate::invalid::invalid;
 use crate::texts::Texts2;
-use crate::thread_scope::tree_is_wide;
+use crate::thread_scope::is_wide_tree;
 use crate::unsupported::unsupported;
 use jm_base::{Kind, NoMemory, Text};
 use jm_json::{Json, copy};
@@ -66,7 +66,7 @@ pub fn read_filter(alloc: Global, kind: Kind, tree: &Json) -> Result<Filter, Ter
         return Err(TermFault::Unsupported(Text::from_str(alloc, name)?));
     }
     let terms = compile(alloc, kind, tree)?;
-    let over_thread = tree_is_wide(kind, tree);
+    let over_thread = is_wide_tree(kind, tree);
     Ok(Filter {
         kind,
         tree: copy(alloc, tree)?,
@@ -95,14 +95,14 @@ pub fn matches_email<T: Texts2>(
         (AnEmail (T.texts texts.now) (email_in_thread content.now.content.emails email.now))
         filter.now.tree) }
 {
-    holds_of_email(&filter.terms, content, texts, email)
+    match_email_terms(&filter.terms, content, texts, email)
 }
 
 /// Returns whether a filter of mailboxes matches a mailbox.
 pub fn matches_mailbox(filter: &Filter, mailbox: &Mailbox) -> bool
     ensures { result ≡ holds filter.now.kind (AMailbox mailbox.now) filter.now.tree }
 {
-    mailbox_holds(&filter.terms, mailbox)
+    match_mailbox_terms(&filter.terms, mailbox)
 }
 
 /// Returns whether a filter matches the record of this number, of the filter's kind. It matches no

@@ -7,7 +7,7 @@ ghost use Rattle.filter_terms.specs.Forms.{invalid_operator, fits, fits_email, f
 ghost use Rattle.filter_terms.specs.Names.{term_of};
 ghost use Rattle.filter_terms.specs.Values.{as_field_test, as_nullable, field_test};
 
-use crate::terms::{EmailTerm, MailboxTerm, Term, operator_of, term_of};
+use crate::terms::{EmailTerm, MailboxTerm, Term, find_term, read_operator};
 use crate::values::as_date;
 use jm_base::Kind;
 use jm_json::{Json, Member, Members};
@@ -96,22 +96,22 @@ fn fits(term: Option<Term>, value: &Json) -> bool
     }
 }
 
-fn misfit<'a>(kind: Kind, name: &'a str, value: &Json) -> Option<&'a str>
+fn find_invalid_value<'a>(kind: Kind, name: &'a str, value: &Json) -> Option<&'a str>
     ensures { option_map (λ s. s.now) result ≡ misfit kind name.now (tree_of value.now) }
 {
-    if fits(term_of(kind, name), value) {
+    if fits(find_term(kind, name), value) {
         None
     } else {
         Some(name)
     }
 }
 
-fn misfit_in(kind: Kind, members: &[Member]) -> Option<&str>
+fn find_invalid_in_members(kind: Kind, members: &[Member]) -> Option<&str>
     ensures { option_map (λ s. s.now) result
         ≡ misfit_in kind (fields_of (map member_of members.now)) }
 {
     for member in members {
-        if let Some(name) = misfit(kind, member.name.as_str(), &member.value) {
+        if let Some(name) = find_invalid_value(kind, member.name.as_str(), &member.value) {
             return Some(name);
         }
     }
@@ -119,10 +119,10 @@ fn misfit_in(kind: Kind, members: &[Member]) -> Option<&str>
 }
 
 // Returns the name `operator`, unless its value is AND, OR or NOT.
-fn invalid_operator(operator: &Json) -> Option<&'static str>
+fn find_invalid_operator(operator: &Json) -> Option<&'static str>
     ensures { option_map (λ s. s.now) result ≡ invalid_operator (tree_of operator.now) }
 {
-    match operator_of(operator) {
+    match read_operator(operator) {
         Some(_) => None,
         None => Some("operator"),
     }
@@ -136,44 +136,44 @@ pub(crate) fn invalid(kind: Kind, tree: &Json) -> Option<&str>
 {
     match tree {
         Json::Null => None,
-        Json::Object(members) => invalid_object(kind, members),
+        Json::Object(members) => find_invalid_in_object(kind, members),
         Json::Bool(_) | Json::Int(_) | Json::Text(_) | Json::List(_) => Some(""),
     }
 }
 
 #[tactic(auto, using(jm_json::proofs::Lists::lists_back))]
 #[cycle(invalid)]
-fn invalid_object(kind: Kind, members: &Members) -> Option<&str>
+fn find_invalid_in_object(kind: Kind, members: &Members) -> Option<&str>
     ensures { option_map (λ s. s.now) result ≡ invalid kind (object (fields_of members.now)) }
 {
     match members.get("operator") {
-        Some(operator) => match invalid_conditions(kind, members.as_slice()) {
+        Some(operator) => match find_invalid_in_conditions(kind, members.as_slice()) {
             Some(name) => Some(name),
-            None => invalid_operator(operator),
+            None => find_invalid_operator(operator),
         },
-        None => misfit_in(kind, members.as_slice()),
+        None => find_invalid_in_members(kind, members.as_slice()),
     }
 }
 
 #[cycle(invalid)]
-fn invalid_conditions(kind: Kind, members: &[Member]) -> Option<&str>
+fn find_invalid_in_conditions(kind: Kind, members: &[Member]) -> Option<&str>
     ensures { option_map (λ s. s.now) result
         ≡ invalid_conditions kind (fields_of (map member_of members.now)) }
 {
     for member in members {
         if member.name.as_str() == "conditions" {
-            return invalid_list(kind, &member.value);
+            return find_invalid_in_list(kind, &member.value);
         }
     }
     Some("conditions")
 }
 
 #[cycle(invalid)]
-fn invalid_list(kind: Kind, value: &Json) -> Option<&str>
+fn find_invalid_in_list(kind: Kind, value: &Json) -> Option<&str>
     ensures { option_map (λ s. s.now) result ≡ invalid_list kind (tree_of value.now) }
 {
     match value {
-        Json::List(items) => invalid_items(kind, items.as_slice()),
+        Json::List(items) => find_invalid_in_items(kind, items.as_slice()),
         Json::Null | Json::Bool(_) | Json::Int(_) | Json::Text(_) | Json::Object(_) => {
             Some("conditions")
         }
@@ -181,7 +181,7 @@ fn invalid_list(kind: Kind, value: &Json) -> Option<&str>
 }
 
 #[cycle(invalid)]
-fn invalid_items(kind: Kind, items: &[Json]) -> Option<&str>
+fn find_invalid_in_items(kind: Kind, items: &[Json]) -> Option<&str>
     ensures { option_map (λ s. s.now) result
         ≡ invalid_items kind (trees_of (map tree_of items.now)) }
 {

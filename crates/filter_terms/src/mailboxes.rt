@@ -37,7 +37,7 @@ fn has_role(wanted: &Option<Text>, role: &Option<Text>) -> bool
 }
 
 /// Returns whether a condition matches a mailbox.
-pub(crate) fn mailbox_matches(condition: &MailboxCondition, mailbox: &Mailbox) -> bool
+pub(crate) fn match_mailbox_condition(condition: &MailboxCondition, mailbox: &Mailbox) -> bool
     ensures { result ≡ mailbox_matches mailbox.now condition.now }
 {
     match condition {

@@ -45,7 +45,11 @@ pub(crate) fn contains(
 
 // Returns the condition of the name of a header field and a text.
 #[tactic(auto, using(crate::proofs::Lowered::in_lower_case))]
-fn field_contains(alloc: Global, name: &str, needle: &str) -> Result<MessageCondition, NoMemory>
+fn build_field_contains_condition(
+    alloc: Global,
+    name: &str,
+    needle: &str,
+) -> Result<MessageCondition, NoMemory>
     ensures { IfOk result (λ c. (m : MessageTexts) → message_matches m c
         ≡ has_field m name.now (Some needle.now)) }
 {
@@ -55,7 +59,7 @@ fn field_contains(alloc: Global, name: &str, needle: &str) -> Result<MessageCond
 }
 
 // Returns the condition of the name of a header field, and perhaps a text.
-fn field_condition(alloc: Global, strings: &[&str]) -> Result<MessageCondition, NoMemory>
+fn build_field_condition(alloc: Global, strings: &[&str]) -> Result<MessageCondition, NoMemory>
     ensures { IfOk result (λ c. (m : MessageTexts) → message_matches m c
         ≡ passes (λ test. field_holds m test) (field_test (map (λ t. t.now) strings.now))) }
 {
@@ -68,23 +72,26 @@ fn field_condition(alloc: Global, strings: &[&str]) -> Result<MessageCondition, 
     if let Some(_) = more.split_first() {
         return Ok(MessageCondition::Never);
     }
-    field_contains(alloc, name, needle)
+    build_field_contains_condition(alloc, name, needle)
 }
 
 /// Returns the condition of a value that names a header field, and perhaps a text.
-pub(crate) fn header(alloc: Global, value: &Json) -> Result<MessageCondition, NoMemory>
+pub(crate) fn build_header_condition(
+    alloc: Global,
+    value: &Json,
+) -> Result<MessageCondition, NoMemory>
     ensures { IfOk result (λ c. (texts : ℕ → MessageTexts) (s : EmailInThread)
         → message_matches (texts s.email.blob) c
         ≡ email_term_holds texts s EmailTerm.Header (tree_of value.now)) }
 {
     match lend_strings(alloc, value)? {
-        Some(strings) => field_condition(alloc, &strings),
+        Some(strings) => build_field_condition(alloc, &strings),
         None => Ok(MessageCondition::Never),
     }
 }
 
 /// Returns whether a condition matches a message that was opened.
-pub(crate) fn message_matches<M: OpenedMessage>(
+pub(crate) fn match_message_condition<M: OpenedMessage>(
     condition: &MessageCondition,
     message: &mut M,
 ) -> Result<bool, NoMemory>

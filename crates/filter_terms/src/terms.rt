@@ -58,7 +58,7 @@ pub(crate) enum Operator {
     Not,
 }
 
-fn keyword_test(name: &str) -> Option<KeywordTest>
+fn find_keyword_test(name: &str) -> Option<KeywordTest>
     ensures { result ≡ keyword_test name.now }
 {
     if name == "allInThreadHaveKeyword" {
@@ -98,7 +98,7 @@ fn place_named(name: &str) -> Option<Place>
     }
 }
 
-fn other_term(name: &str) -> Option<EmailTerm>
+fn find_other_term(name: &str) -> Option<EmailTerm>
     ensures { result ≡ other_term name.now }
 {
     if name == "inMailbox" {
@@ -122,19 +122,19 @@ fn other_term(name: &str) -> Option<EmailTerm>
     }
 }
 
-fn email_term(name: &str) -> Option<EmailTerm>
+fn find_email_term(name: &str) -> Option<EmailTerm>
     ensures { result ≡ email_term name.now }
 {
-    if let Some(test) = keyword_test(name) {
+    if let Some(test) = find_keyword_test(name) {
         return Some(EmailTerm::Keyword(test));
     }
     match place_named(name) {
         Some(place) => Some(EmailTerm::Contains(place)),
-        None => other_term(name),
+        None => find_other_term(name),
     }
 }
 
-fn mailbox_term(name: &str) -> Option<MailboxTerm>
+fn find_mailbox_term(name: &str) -> Option<MailboxTerm>
     ensures { result ≡ mailbox_term name.now }
 {
     if name == "parentId" {
@@ -153,17 +153,17 @@ fn mailbox_term(name: &str) -> Option<MailboxTerm>
 }
 
 /// Returns the condition with this name in a query of the kind, or `None` if there is none.
-pub(crate) fn term_of(kind: Kind, name: &str) -> Option<Term>
+pub(crate) fn find_term(kind: Kind, name: &str) -> Option<Term>
     ensures { result ≡ term_of kind name.now }
 {
     match kind {
-        Kind::Email => email_term(name).map(|term| Term::OfEmail(term)),
-        Kind::Mailbox => mailbox_term(name).map(|term| Term::OfMailbox(term)),
+        Kind::Email => find_email_term(name).map(|term| Term::OfEmail(term)),
+        Kind::Mailbox => find_mailbox_term(name).map(|term| Term::OfMailbox(term)),
         Kind::Thread => None,
     }
 }
 
-fn operator_named(name: &str) -> Option<Operator>
+fn find_operator(name: &str) -> Option<Operator>
     ensures { result ≡ operator_named name.now }
 {
     if name == "AND" {
@@ -178,11 +178,11 @@ fn operator_named(name: &str) -> Option<Operator>
 }
 
 /// Returns the operator that a value names, or `None` if it names none.
-pub(crate) fn operator_of(value: &Json) -> Option<Operator>
+pub(crate) fn read_operator(value: &Json) -> Option<Operator>
     ensures { result ≡ operator_of (tree_of value.now) }
 {
     match value.as_text() {
-        Some(name) => operator_named(name.as_str()),
+        Some(name) => find_operator(name.as_str()),
         None => None,
     }
 }

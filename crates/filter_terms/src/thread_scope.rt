@@ -4,7 +4,7 @@ ghost use Rattle.jm_json.specs.Json.{member_of, tree_of};
 ghost use Rattle.jm_json.specs.Tree.{fields_of, object, trees_of};
 ghost use Rattle.filter_terms.specs.ThreadScope.{conditions_wide, is_wide, is_wide_email, is_wide_term, is_wide_test, items_wide, list_wide, members_wide};
 
-use crate::terms::{EmailTerm, KeywordTest, Term, term_of};
+use crate::terms::{EmailTerm, KeywordTest, Term, find_term};
 use jm_base::Kind;
 use jm_json::{Json, Member, Members};
 
@@ -43,11 +43,11 @@ fn is_wide_term(term: Option<Term>) -> bool
     }
 }
 
-fn members_wide(kind: Kind, members: &[Member]) -> bool
+fn has_wide_member(kind: Kind, members: &[Member]) -> bool
     ensures { result ≡ members_wide kind (fields_of (map member_of members.now)) }
 {
     for member in members {
-        if is_wide_term(term_of(kind, member.name.as_str())) {
+        if is_wide_term(find_term(kind, member.name.as_str())) {
             return true;
         }
     }
@@ -56,28 +56,28 @@ fn members_wide(kind: Kind, members: &[Member]) -> bool
 
 /// Returns whether some condition of a filter looks at the other emails of a thread.
 #[cycle(wide)]
-pub(crate) fn tree_is_wide(kind: Kind, tree: &Json) -> bool
+pub(crate) fn is_wide_tree(kind: Kind, tree: &Json) -> bool
     ensures { result ≡ is_wide kind (tree_of tree.now) }
 {
     match tree {
-        Json::Object(members) => object_wide(kind, members),
+        Json::Object(members) => is_wide_object(kind, members),
         Json::Null | Json::Bool(_) | Json::Int(_) | Json::Text(_) | Json::List(_) => false,
     }
 }
 
 #[tactic(auto, using(jm_json::proofs::Lists::lists_back))]
 #[cycle(wide)]
-fn object_wide(kind: Kind, members: &Members) -> bool
+fn is_wide_object(kind: Kind, members: &Members) -> bool
     ensures { result ≡ is_wide kind (object (fields_of members.now)) }
 {
     match members.get("operator") {
-        Some(_) => conditions_wide(kind, members.as_slice()),
-        None => members_wide(kind, members.as_slice()),
+        Some(_) => has_wide_conditions(kind, members.as_slice()),
+        None => has_wide_member(kind, members.as_slice()),
     }
 }
 
 #[cycle(wide)]
-fn conditions_wide(kind: Kind, members: &[Member]) -> bool
+fn has_wide_conditions(kind: Kind, members: &[Member]) -> bool
     ensures { result ≡ conditions_wide kind (fields_of (map member_of members.now)) }
 {
     for member in members {
@@ -93,17 +93,17 @@ fn list_wide(kind: Kind, value: &Json) -> bool
     ensures { result ≡ list_wide kind (tree_of value.now) }
 {
     match value {
-        Json::List(items) => items_wide(kind, items.as_slice()),
+        Json::List(items) => has_wide_item(kind, items.as_slice()),
         Json::Null | Json::Bool(_) | Json::Int(_) | Json::Text(_) | Json::Object(_) => false,
     }
 }
 
 #[cycle(wide)]
-fn items_wide(kind: Kind, items: &[Json]) -> bool
+fn has_wide_item(kind: Kind, items: &[Json]) -> bool
     ensures { result ≡ items_wide kind (trees_of (map tree_of items.now)) }
 {
     for item in items {
-        if tree_is_wide(kind, item) {
+        if is_wide_tree(kind, item) {
             return true;
         }
     }

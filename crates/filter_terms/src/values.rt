@@ -8,7 +8,7 @@ ghost use Rattle.filter_terms.specs.Values.{as_date};
 
 use jm_base::{Kind, read_id};
 use jm_json::Json;
-use method_args::if_unsigned;
+use method_args::check_unsigned;
 use utc_dates::read_first_second;
 
 /// Returns the first whole second that is not before the date of a value, in Unix seconds, or
@@ -27,7 +27,7 @@ pub(crate) fn as_count(value: &Json) -> Option<u64>
     ensures { result ≡ as_count (tree_of value.now) }
 {
     match value {
-        Json::Int(number) => if_unsigned(*number),
+        Json::Int(number) => check_unsigned(*number),
         Json::Null | Json::Bool(_) | Json::Text(_) | Json::List(_) | Json::Object(_) => None,
     }
 }
@@ -44,7 +44,7 @@ pub(crate) fn as_flag(value: &Json) -> Option<bool>
 
 /// Returns the number of the mailbox whose id the text is, or `None` if the text is no such id.
 #[tactic(auto, using(crate::proofs::MailboxIds::by_ids))]
-pub(crate) fn mailbox_number(id: &[u8]) -> Option<u64>
+pub(crate) fn read_mailbox_id(id: &[u8]) -> Option<u64>
     ensures { (m : ℕ) → is_mailbox_id id.now m ≡ passes (λ n. n == m) result }
 {
     match read_id(id) {

@@ -5,7 +5,7 @@ ghost use Rattle.filter_terms.specs.Filters.{joined};
 ghost use Rattle.filter_terms.specs.Targets.{email_in_thread};
 
 use crate::compiled::Terms;
-use crate::emails::email_matches;
+use crate::emails::match_email_condition;
 use crate::terms::Operator;
 use mail_records::{Content, Email};
 
@@ -13,21 +13,21 @@ use mail_records::{Content, Email};
 /// may decide that. It takes no memory.
 #[tactic(auto, using(crate::proofs::Matched::by_kind))]
 #[cycle(known)]
-pub(crate) fn known(terms: &Terms, content: &Content, email: &Email) -> Option<bool>
+pub(crate) fn match_without_texts(terms: &Terms, content: &Content, email: &Email) -> Option<bool>
     ensures { IfSome result (IsAlwaysMatch terms.now
         (email_in_thread content.now.content.emails email.now)) }
 {
     match terms {
         Terms::Always => Some(true),
-        Terms::OfEmail(condition) => Some(email_matches(condition, content, email)),
+        Terms::OfEmail(condition) => Some(match_email_condition(condition, content, email)),
         Terms::OfMessage(_) => None,
         Terms::OfMailbox(_) => Some(false),
-        Terms::Join(operator, items) => known_joins(*operator, items, content, email),
+        Terms::Join(operator, items) => join_known_matches(*operator, items, content, email),
     }
 }
 
 #[cycle(known)]
-fn known_joins(
+fn join_known_matches(
     operator: Operator,
     items: &[Terms],
     content: &Content,
@@ -37,9 +37,9 @@ fn known_joins(
         (email_in_thread content.now.content.emails email.now)) }
 {
     match operator {
-        Operator::And => all_known(items, content, email),
-        Operator::Or => some_known(items, content, email),
-        Operator::Not => match some_known(items, content, email) {
+        Operator::And => match_all_without_texts(items, content, email),
+        Operator::Or => match_some_without_texts(items, content, email),
+        Operator::Not => match match_some_without_texts(items, content, email) {
             Some(some) => Some(!some),
             None => None,
         },
@@ -48,13 +48,13 @@ fn known_joins(
 
 // Returns false if some of the terms are known not to match, true if all are known to match.
 #[cycle(known)]
-fn all_known(items: &[Terms], content: &Content, email: &Email) -> Option<bool>
+fn match_all_without_texts(items: &[Terms], content: &Content, email: &Email) -> Option<bool>
     ensures { IfSome result (IsAlwaysMatchOf all_true items.now
         (email_in_thread content.now.content.emails email.now)) }
 {
     let mut all = true;
     for item in items {
-        match known(item, content, email) {
+        match match_without_texts(item, content, email) {
             Some(true) => {}
             Some(false) => return Some(false),
             None => all = false,
@@ -65,13 +65,13 @@ fn all_known(items: &[Terms], content: &Content, email: &Email) -> Option<bool>
 
 // Returns true if some of the terms are known to match, false if all are known not to match.
 #[cycle(known)]
-fn some_known(items: &[Terms], content: &Content, email: &Email) -> Option<bool>
+fn match_some_without_texts(items: &[Terms], content: &Content, email: &Email) -> Option<bool>
     ensures { IfSome result (IsAlwaysMatchOf some_true items.now
         (email_in_thread content.now.content.emails email.now)) }
 {
     let mut all = true;
     for item in items {
-        match known(item, content, email) {
+        match match_without_texts(item, content, email) {
             Some(false) => {}
             Some(true) => return Some(true),
             None => all = false,

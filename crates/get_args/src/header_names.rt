@@ -125,7 +125,7 @@ fn is_allowed(form: Form, name: &str) -> bool
 }
 
 // Returns the form of a name, if it is Raw, Text or one of addresses.
-fn first_form_named(text: &str) -> Option<Form>
+fn find_text_or_address_form(text: &str) -> Option<Form>
     ensures { result ≡ first_form_named text.now }
 {
     if text == "asRaw" {
@@ -142,7 +142,7 @@ fn first_form_named(text: &str) -> Option<Form>
 }
 
 // Returns the form of a name, if it is another one.
-fn last_form_named(text: &str) -> Option<Form>
+fn find_other_form(text: &str) -> Option<Form>
     ensures { result ≡ last_form_named text.now }
 {
     if text == "asMessageIds" {
@@ -157,12 +157,12 @@ fn last_form_named(text: &str) -> Option<Form>
 }
 
 // Returns the form of a name such as asText.
-fn form_named(text: &str) -> Option<Form>
+fn find_form(text: &str) -> Option<Form>
     ensures { result ≡ Names.form_named text.now }
 {
-    match first_form_named(text) {
+    match find_text_or_address_form(text) {
         Some(found) => Some(found),
-        None => last_form_named(text),
+        None => find_other_form(text),
     }
 }
 
@@ -191,7 +191,7 @@ fn is_field_name(name: &str) -> bool
 }
 
 // Returns a field that is asked for, if it may be asked for in this form.
-fn if_field(
+fn build_header_if_allowed(
     alloc: Global,
     name: &str,
     form: Form,
@@ -207,7 +207,7 @@ fn if_field(
 }
 
 // Returns a field that is asked for, in the form of a name such as asText.
-fn in_form(
+fn build_header_in_form(
     alloc: Global,
     name: &str,
     form: &str,
@@ -215,8 +215,8 @@ fn in_form(
 ) -> Result<Option<HeaderProperty>, NoMemory>
     ensures { IfOk result (λ o. o ≡ in_form name.now form.now all) }
 {
-    match form_named(form) {
-        Some(form) => if_field(alloc, name, form, all),
+    match find_form(form) {
+        Some(form) => build_header_if_allowed(alloc, name, form, all),
         None => Ok(None),
     }
 }
@@ -229,7 +229,11 @@ fn split_colon(text: &str) -> Option<(&str, &str)>
 }
 
 // Returns what is asked for after a field's name.
-fn after_name(alloc: Global, name: &str, text: &str) -> Result<Option<HeaderProperty>, NoMemory>
+fn read_after_name(
+    alloc: Global,
+    name: &str,
+    text: &str,
+) -> Result<Option<HeaderProperty>, NoMemory>
     ensures { IfOk result (λ o. o ≡ after_name name.now text.now (at_colon text.now)) }
 {
     match split_colon(text) {
@@ -237,24 +241,24 @@ fn after_name(alloc: Global, name: &str, text: &str) -> Result<Option<HeaderProp
             if last != "all" {
                 return Ok(None);
             }
-            in_form(alloc, name, form, true)
+            build_header_in_form(alloc, name, form, true)
         }
         None => {
             if text == "all" {
-                return if_field(alloc, name, Form::Raw, true);
+                return build_header_if_allowed(alloc, name, Form::Raw, true);
             }
-            in_form(alloc, name, text, false)
+            build_header_in_form(alloc, name, text, false)
         }
     }
 }
 
 // Returns a field by its name, with `all`, a form, or a form and `all` after it.
-fn field_asked(alloc: Global, text: &str) -> Result<Option<HeaderProperty>, NoMemory>
+fn read_header_field(alloc: Global, text: &str) -> Result<Option<HeaderProperty>, NoMemory>
     ensures { IfOk result (λ o. o ≡ field_asked text.now) }
 {
     match split_colon(text) {
-        Some((name, rest)) => after_name(alloc, name, rest),
-        None => if_field(alloc, text, Form::Raw, false),
+        Some((name, rest)) => read_after_name(alloc, name, rest),
+        None => build_header_if_allowed(alloc, text, Form::Raw, false),
     }
 }
 
@@ -271,7 +275,7 @@ pub(crate) fn read_header_property(
             if prefix != "header" {
                 return Ok(None);
             }
-            field_asked(alloc, rest)
+            read_header_field(alloc, rest)
         }
         None => Ok(None),
     }
@@ -284,7 +288,7 @@ pub(crate) struct FieldForm {
     pub form: Form,
 }
 
-fn field_form_of(field: &'static str, form: Form) -> Option<FieldForm>
+fn build_field_form(field: &'static str, form: Form) -> Option<FieldForm>
     ensures { option_map field_form_of result ≡ Some (field.now, form) }
 {
     Some(FieldForm { field, form })
@@ -295,17 +299,17 @@ fn find_first_form(name: &str) -> Option<FieldForm>
     ensures { option_map field_form_of result ≡ first_field_form name.now }
 {
     if name == "bcc" {
-        field_form_of("Bcc", Form::Addresses)
+        build_field_form("Bcc", Form::Addresses)
     } else if name == "cc" {
-        field_form_of("Cc", Form::Addresses)
+        build_field_form("Cc", Form::Addresses)
     } else if name == "from" {
-        field_form_of("From", Form::Addresses)
+        build_field_form("From", Form::Addresses)
     } else if name == "inReplyTo" {
-        field_form_of("In-Reply-To", Form::MessageIds)
+        build_field_form("In-Reply-To", Form::MessageIds)
     } else if name == "messageId" {
-        field_form_of("Message-ID", Form::MessageIds)
+        build_field_form("Message-ID", Form::MessageIds)
     } else if name == "references" {
-        field_form_of("References", Form::MessageIds)
+        build_field_form("References", Form::MessageIds)
     } else {
         None
     }
@@ -316,15 +320,15 @@ fn find_last_form(name: &str) -> Option<FieldForm>
     ensures { option_map field_form_of result ≡ last_field_form name.now }
 {
     if name == "replyTo" {
-        field_form_of("Reply-To", Form::Addresses)
+        build_field_form("Reply-To", Form::Addresses)
     } else if name == "sender" {
-        field_form_of("Sender", Form::Addresses)
+        build_field_form("Sender", Form::Addresses)
     } else if name == "sentAt" {
-        field_form_of("Date", Form::Date)
+        build_field_form("Date", Form::Date)
     } else if name == "subject" {
-        field_form_of("Subject", Form::Text)
+        build_field_form("Subject", Form::Text)
     } else if name == "to" {
-        field_form_of("To", Form::Addresses)
+        build_field_form("To", Form::Addresses)
     } else {
         None
     }

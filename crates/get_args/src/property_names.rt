@@ -13,7 +13,7 @@ use jm_base::{NoMemory, Sequence, Text};
 use std::alloc::Global;
 
 // Returns a property of an email that names no header field, of those up to `id` in byte order.
-fn first_own_property(name: &str) -> Option<Property>
+fn find_own_property_up_to_id(name: &str) -> Option<Property>
     ensures { result ≡ first_own_property name.now }
 {
     if name == "attachments" {
@@ -38,7 +38,7 @@ fn first_own_property(name: &str) -> Option<Property>
 }
 
 // Returns such a property, of those after `id`.
-fn last_own_property(name: &str) -> Option<Property>
+fn find_own_property_after_id(name: &str) -> Option<Property>
     ensures { result ≡ last_own_property name.now }
 {
     if name == "keywords" {
@@ -61,17 +61,17 @@ fn last_own_property(name: &str) -> Option<Property>
 }
 
 // Returns the properties of an email that name no header field.
-fn own_property(name: &str) -> Option<Property>
+fn find_own_property(name: &str) -> Option<Property>
     ensures { result ≡ Names.own_property name.now }
 {
-    match first_own_property(name) {
+    match find_own_property_up_to_id(name) {
         Some(found) => Some(found),
-        None => last_own_property(name),
+        None => find_own_property_after_id(name),
     }
 }
 
 // Returns the property that names a header field.
-fn field_property(alloc: Global, name: &str) -> Result<Option<Property>, NoMemory>
+fn find_field_property(alloc: Global, name: &str) -> Result<Option<Property>, NoMemory>
     ensures { IfOk result (λ o. o ≡ option_map last_field (field_form name.now)) }
 {
     match find_field_form(name) {
@@ -86,7 +86,7 @@ fn field_property(alloc: Global, name: &str) -> Result<Option<Property>, NoMemor
 }
 
 // Returns the property that is a header field.
-fn header_property(alloc: Global, name: &str) -> Result<Option<Property>, NoMemory>
+fn find_header_property(alloc: Global, name: &str) -> Result<Option<Property>, NoMemory>
     ensures { IfOk result (λ o. o ≡ option_map Property.Header (Names.header_named name.now)) }
 {
     match read_header_property(alloc, name)? {
@@ -96,21 +96,21 @@ fn header_property(alloc: Global, name: &str) -> Result<Option<Property>, NoMemo
 }
 
 // Returns the property of an email that a name means, if it means one.
-fn property_named(alloc: Global, name: &str) -> Result<Option<Property>, NoMemory>
+fn find_property(alloc: Global, name: &str) -> Result<Option<Property>, NoMemory>
     ensures { IfOk result (λ o. o ≡ Names.property_named name.now) }
 {
-    if let Some(property) = own_property(name) {
+    if let Some(property) = find_own_property(name) {
         return Ok(Some(property));
     }
-    if let Some(property) = field_property(alloc, name)? {
+    if let Some(property) = find_field_property(alloc, name)? {
         return Ok(Some(property));
     }
-    header_property(alloc, name)
+    find_header_property(alloc, name)
 }
 
 // Returns a property of a body part that is no field of its header, of those up to `language` in
 // byte order.
-fn first_own_part_property(name: &str) -> Option<PartProperty>
+fn find_part_property_up_to_language(name: &str) -> Option<PartProperty>
     ensures { result ≡ first_own_part_property name.now }
 {
     if name == "blobId" {
@@ -131,7 +131,7 @@ fn first_own_part_property(name: &str) -> Option<PartProperty>
 }
 
 // Returns such a property, of those after `language`.
-fn last_own_part_property(name: &str) -> Option<PartProperty>
+fn find_part_property_after_language(name: &str) -> Option<PartProperty>
     ensures { result ≡ last_own_part_property name.now }
 {
     if name == "location" {
@@ -152,12 +152,12 @@ fn last_own_part_property(name: &str) -> Option<PartProperty>
 }
 
 // Returns the properties of a body part that are no fields of its header.
-fn own_part_property(name: &str) -> Option<PartProperty>
+fn find_own_part_property(name: &str) -> Option<PartProperty>
     ensures { result ≡ Names.own_part_property name.now }
 {
-    match first_own_part_property(name) {
+    match find_part_property_up_to_language(name) {
         Some(found) => Some(found),
-        None => last_own_part_property(name),
+        None => find_part_property_after_language(name),
     }
 }
 
@@ -165,7 +165,7 @@ fn own_part_property(name: &str) -> Option<PartProperty>
 fn part_property_named(alloc: Global, name: &str) -> Result<Option<PartProperty>, NoMemory>
     ensures { IfOk result (λ o. o ≡ Names.part_property_named name.now) }
 {
-    if let Some(property) = own_part_property(name) {
+    if let Some(property) = find_own_part_property(name) {
         return Ok(Some(property));
     }
     match read_header_property(alloc, name)? {
@@ -175,10 +175,10 @@ fn part_property_named(alloc: Global, name: &str) -> Result<Option<PartProperty>
 }
 
 // Returns the property of a name, with the name.
-fn named_property(alloc: Global, name: &str) -> Result<Option<NamedProperty>, NoMemory>
+fn find_named_property(alloc: Global, name: &str) -> Result<Option<NamedProperty>, NoMemory>
     ensures { IfOk result (λ o. o ≡ named_property name.now) }
 {
-    match property_named(alloc, name)? {
+    match find_property(alloc, name)? {
         Some(property) => {
             let name = Text::from_str(alloc, name)?;
             Ok(Some(NamedProperty { name, property }))
@@ -187,7 +187,10 @@ fn named_property(alloc: Global, name: &str) -> Result<Option<NamedProperty>, No
     }
 }
 
-fn named_part_property(alloc: Global, name: &str) -> Result<Option<NamedPartProperty>, NoMemory>
+fn find_named_part_property(
+    alloc: Global,
+    name: &str,
+) -> Result<Option<NamedPartProperty>, NoMemory>
     ensures { IfOk result (λ o. o ≡ named_part_property name.now) }
 {
     match part_property_named(alloc, name)? {
@@ -208,7 +211,7 @@ pub(crate) fn read_properties(
 {
     let mut properties = Sequence::new(alloc);
     for name in names {
-        match named_property(alloc, name)? {
+        match find_named_property(alloc, name)? {
             Some(property) => properties.push(property)?,
             None => return Ok(None),
         }
@@ -225,7 +228,7 @@ pub(crate) fn read_part_properties(
 {
     let mut properties = Sequence::new(alloc);
     for name in names {
-        match named_part_property(alloc, name)? {
+        match find_named_part_property(alloc, name)? {
             Some(property) => properties.push(property)?,
             None => return Ok(None),
         }

@@ -115,7 +115,7 @@ fn push_hidden(
     Ok(())
 }
 
-fn hidden_of(
+fn collect_hidden(
     alloc: Global,
     names: &[&str],
     properties: &[&'static str],
@@ -150,7 +150,7 @@ pub fn find_hidden_properties(
             if !are_properties(properties, names.as_slice()) {
                 return Err(blame_argument(alloc, "properties"));
             }
-            Ok(hidden_of(alloc, names.as_slice(), properties)?)
+            Ok(collect_hidden(alloc, names.as_slice(), properties)?)
         }
         None => Ok(Vec::new(alloc)),
     }

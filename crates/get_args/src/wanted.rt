@@ -119,7 +119,7 @@ fn with_id<'a>(alloc: Global, parse: bool, names: &[&'a str]) -> Result<Vec<&'a 
 }
 
 // Returns the properties that are asked for, if each name is one's.
-fn properties_in(
+fn read_wanted_properties(
     alloc: Global,
     args: &Members,
     parse: bool,
@@ -136,7 +136,7 @@ fn properties_in(
     }
 }
 
-fn email_properties(
+fn read_email_properties(
     alloc: Global,
     args: &Members,
     parse: bool,
@@ -145,14 +145,17 @@ fn email_properties(
     ensures err { IfErr result
         (Blames (codes "properties") (properties_in parse args.now ≡ None)) }
 {
-    match properties_in(alloc, args, parse)? {
+    match read_wanted_properties(alloc, args, parse)? {
         Some(properties) => Ok(properties),
         None => Err(blame_argument(alloc, "properties")),
     }
 }
 
 // Returns the properties of body parts that are asked for, if each name is one's.
-fn parts_in(alloc: Global, args: &Members) -> Result<Option<Sequence<NamedPartProperty>>, NoMemory>
+fn read_body_properties(
+    alloc: Global,
+    args: &Members,
+) -> Result<Option<Sequence<NamedPartProperty>>, NoMemory>
     ensures { IfOk result (λ o. o ≡ parts_in args.now) }
 {
     match names_by(alloc, &PART_NAMES, args.get("bodyProperties"))? {
@@ -168,13 +171,13 @@ fn part_properties(
     ensures ok { IfOk result (λ ps. parts_in args.now ≡ Some ps) }
     ensures err { IfErr result (Blames (codes "bodyProperties") (parts_in args.now ≡ None)) }
 {
-    match parts_in(alloc, args)? {
+    match read_body_properties(alloc, args)? {
         Some(parts) => Ok(parts),
         None => Err(blame_argument(alloc, "bodyProperties")),
     }
 }
 
-fn flag(alloc: Global, args: &Members, name: &str) -> Result<bool, WantedFault>
+fn read_flag_argument(alloc: Global, args: &Members, name: &str) -> Result<bool, WantedFault>
     ensures ok { IfOk result (λ b. flag_in name.now args.now ≡ Some b) }
     ensures err { IfErr result (Blames name.now (flag_in name.now args.now ≡ None)) }
 {
@@ -204,11 +207,11 @@ pub fn read_wanted_members(
     ensures err { IfErr result (λ fault. ReadingFails fault (wanted_by (Some args.now) parse)) }
 {
     let parts = part_properties(alloc, args)?;
-    let all_values = flag(alloc, args, "fetchAllBodyValues")?;
-    let html_values = flag(alloc, args, "fetchHTMLBodyValues")?;
-    let text_values = flag(alloc, args, "fetchTextBodyValues")?;
+    let all_values = read_flag_argument(alloc, args, "fetchAllBodyValues")?;
+    let html_values = read_flag_argument(alloc, args, "fetchHTMLBodyValues")?;
+    let text_values = read_flag_argument(alloc, args, "fetchTextBodyValues")?;
     let most_bytes = count(alloc, args, "maxBodyValueBytes")?;
-    let properties = email_properties(alloc, args, parse)?;
+    let properties = read_email_properties(alloc, args, parse)?;
     Ok(Wanted {
         properties,
         parts,
@@ -235,7 +238,7 @@ pub fn read_wanted(alloc: Global, args: &Json, parse: bool) -> Result<Wanted, Wa
 }
 
 // Returns these names of properties as the items of an argument.
-fn name_items(alloc: Global, names: &[&str]) -> Result<Items, NoMemory>
+fn build_name_items(alloc: Global, names: &[&str]) -> Result<Items, NoMemory>
     ensures { IfOk result (λ ts. ts ≡ map text (map (λ t. t.now) names.now)) }
 {
     let mut items = Items::with_room(alloc, names.len())?;
@@ -249,7 +252,7 @@ fn name_items(alloc: Global, names: &[&str]) -> Result<Items, NoMemory>
 fn read_arguments(alloc: Global) -> Result<Json, NoMemory>
     ensures { IfOk result (λ t. tree_of t ≡ read_arguments) }
 {
-    let mut names = name_items(alloc, &MESSAGE_NAMES)?;
+    let mut names = build_name_items(alloc, &MESSAGE_NAMES)?;
     names.push(Json::Text(Text::from_str(alloc, "bodyStructure")?))?;
     let mut args = Members::with_room(alloc, 2)?;
     args.set(alloc, "fetchTextBodyValues", Json::Bool(true))?;

@@ -5,9 +5,11 @@ ghost use Rattle.account_hall.specs.Halls.{AreOf};
 ghost use Rattle.hall_port.specs.Steps.{HasBegunTo, HasStopped, IsAsked, IsCopied, IsPerformed, IsRead, IsUploaded};
 
 use crate::asking::Asks;
-use crate::lines::{find_changeable, uploaded_as};
-use crate::replies::{bytes_of, copy_made, copy_text, error_reply, replied_of, stored_of};
-use crate::targets::{accounts_of, find_source, find_target};
+use crate::lines::{build_uploaded, find_changeable};
+use crate::replies::{
+    build_error_reply, copy_made, copy_text, take_bytes, take_replied, take_stored,
+};
+use crate::targets::{find_accounts, find_source, find_target};
 use account_book::{Ask, Call, Out};
 use account_hall::{CopyCall, Passes};
 use batch_lines::{UploadPort, Uploaded};
@@ -118,7 +120,7 @@ impl<'a, A: Asks> HallPort<'a, A> {
             read_only: to.read_only,
         };
         match self.ask(alloc, to.number, &call) {
-            Ok(out) => Ok(replied_of(alloc, out)),
+            Ok(out) => Ok(take_replied(alloc, out)),
             Err(refused) => Err(refused),
         }
     }
@@ -148,7 +150,7 @@ impl<'a, A: Asks> HallPort<'a, A> {
             made,
         };
         match self.asker.copy(alloc, &mut self.passes, copy, self.time) {
-            Ok(out) => Ok(replied_of(alloc, out)),
+            Ok(out) => Ok(take_replied(alloc, out)),
             Err(refused) => Err(refused),
         }
     }
@@ -166,7 +168,7 @@ impl<'a, A: Asks> HallPort<'a, A> {
             read_only: false,
         };
         match self.ask(alloc, account, &call) {
-            Ok(out) => Ok(stored_of(out)),
+            Ok(out) => Ok(take_stored(out)),
             Err(refused) => Err(refused),
         }
     }
@@ -188,7 +190,7 @@ impl<'a, A: Asks> HallPort<'a, A> {
             read_only: false,
         };
         match self.ask(alloc, account, &call) {
-            Ok(out) => Ok(bytes_of(out)),
+            Ok(out) => Ok(take_bytes(out)),
             Err(refused) => Err(refused),
         }
     }
@@ -205,9 +207,9 @@ impl<'a, A: Asks> Port for HallPort<'a, A> {
 
     fn call(&mut self, alloc: Global, call: &Invocation, made: &Made) -> Result<Replied, NoMemory> {
         let users = self.users;
-        let accounts = accounts_of(users, self.user);
+        let accounts = find_accounts(users, self.user);
         match find_target(accounts, call) {
-            Err(kind) => error_reply(alloc, kind, call),
+            Err(kind) => build_error_reply(alloc, kind, call),
             Ok(to) => {
                 let copy = call.copy(alloc)?;
                 let made = copy_made(alloc, made)?;
@@ -272,12 +274,12 @@ impl<'a, A: Asks> UploadPort for HallPort<'a, A> {
 
     fn upload(&mut self, alloc: Global, bytes: Bytes) -> Result<Uploaded, NoMemory> {
         let users = self.users;
-        match find_changeable(accounts_of(users, self.user)) {
+        match find_changeable(find_accounts(users, self.user)) {
             None => Ok(Uploaded::Failed),
             Some(to) => {
                 let id = to.id.copy()?;
                 match self.keep(alloc, to.number, bytes) {
-                    Ok(stored) => Ok(uploaded_as(id, stored)),
+                    Ok(stored) => Ok(build_uploaded(id, stored)),
                     Err(refused) => Err(refused),
                 }
             }

@@ -22,7 +22,7 @@ pub(crate) fn find_changeable(accounts: &[UserAccount]) -> Option<&UserAccount>
 }
 
 /// Returns what is answered to a line, where this is answered to the upload to an account.
-pub(crate) fn uploaded_as(account: Text, stored: Stored) -> Uploaded
+pub(crate) fn build_uploaded(account: Text, stored: Stored) -> Uploaded
     ensures { result ≡ uploaded_as account stored }
 {
     match stored {

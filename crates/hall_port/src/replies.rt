@@ -10,12 +10,16 @@ use jmap_http::Stored;
 use std::alloc::Global;
 
 /// Returns the reply that is one error of this type.
-pub(crate) fn error_reply(alloc: Global, kind: &str, call: &Invocation) -> Result<Replied, NoMemory>
+pub(crate) fn build_error_reply(
+    alloc: Global,
+    kind: &str,
+    call: &Invocation,
+) -> Result<Replied, NoMemory>
     ensures { IfOk result
         (λ r. r ≡ record { responses = error_of kind.now call.now.id ∷ []; made = [] }) }
 {
     let mut responses = Invocations::new(alloc);
-    responses.push(Invocation::error(alloc, kind, call.id.copy()?)?)?;
+    responses.push(Invocation::build_error_response(alloc, kind, call.id.copy()?)?)?;
     Ok(Replied {
         responses,
         made: Made::new(alloc),
@@ -23,7 +27,7 @@ pub(crate) fn error_reply(alloc: Global, kind: &str, call: &Invocation) -> Resul
 }
 
 /// Returns what is replied where a method is asked.
-pub(crate) fn replied_of(alloc: Global, out: Out) -> Replied
+pub(crate) fn take_replied(alloc: Global, out: Out) -> Replied
     ensures { result ≡ replied_of out }
 {
     match out {
@@ -41,7 +45,7 @@ pub(crate) fn replied_of(alloc: Global, out: Out) -> Replied
 }
 
 /// Returns what is answered where an upload is asked.
-pub(crate) fn stored_of(out: Out) -> Stored
+pub(crate) fn take_stored(out: Out) -> Stored
     ensures { result ≡ stored_of out }
 {
     match out {
@@ -54,7 +58,7 @@ pub(crate) fn stored_of(out: Out) -> Stored
 }
 
 /// Returns what is answered where the bytes of a blob are asked.
-pub(crate) fn bytes_of(out: Out) -> Option<Bytes>
+pub(crate) fn take_bytes(out: Out) -> Option<Bytes>
     ensures { result ≡ bytes_of out }
 {
     match out {

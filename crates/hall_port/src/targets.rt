@@ -12,7 +12,7 @@ use method_args::read_text;
 use server_users::{UserAccount, Users};
 
 /// Returns the accounts of the user with an index, or none if there is no such user.
-pub(crate) fn accounts_of(users: &Users, user: u64) -> &[UserAccount]
+pub(crate) fn find_accounts(users: &Users, user: u64) -> &[UserAccount]
     ensures accounts { result.now ≡ accounts_of users.now user }
     ensures numbered { AllByRecursion (IsNumbered users.now.account_ids) result.now }
 {

@@ -34,7 +34,7 @@ fn is_bracket(context: Context) -> bool
     }
 }
 
-fn in_part(part: Part, character: AddressCharacter) -> bool
+fn is_in_part(part: Part, character: AddressCharacter) -> bool
     ensures { result ≡ Addresses.in_part part character }
 {
     match part {
@@ -64,7 +64,7 @@ fn opens_comment(character: AddressCharacter) -> bool
 }
 
 /// Returns the index where the first bracket opens, or the length.
-fn opening(characters: &[AddressCharacter]) -> usize
+fn find_opening_bracket(characters: &[AddressCharacter]) -> usize
     ensures value { result ≡ position_or_len Addresses.opens_bracket characters.now }
     ensures within { result ≤ length characters.now }
 {
@@ -77,7 +77,7 @@ fn opening(characters: &[AddressCharacter]) -> usize
 }
 
 /// Returns the index where the first bracket closes, or the length.
-fn closing(characters: &[AddressCharacter]) -> usize
+fn find_closing_bracket(characters: &[AddressCharacter]) -> usize
     ensures value { result ≡ position_or_len Addresses.closes_bracket characters.now }
     ensures within { result ≤ length characters.now }
 {
@@ -94,7 +94,7 @@ fn push_character(out: &mut String, part: Part, character: AddressCharacter) -> 
     ensures { OnOk result (string_bytes out.new
         ≡ string_bytes out.old ++ part_text part (character ∷ [])) }
 {
-    if in_part(part, character) {
+    if is_in_part(part, character) {
         out.push(character.character)?;
     }
     Ok(())
@@ -143,16 +143,16 @@ pub fn read_phrase(
 fn read_email(alloc: Global, item: &[AddressCharacter]) -> Result<Text, NoMemory>
     ensures { IfOk result (λ t. t ≡ Addresses.email_of item.now) }
 {
-    let at = opening(item);
+    let at = find_opening_bracket(item);
     if at < item.len() {
         let inner = &item[at + 1..];
-        return read_plainly(alloc, Part::Whole, &inner[..closing(inner)]);
+        return read_plainly(alloc, Part::Whole, &inner[..find_closing_bracket(inner)]);
     }
     read_plainly(alloc, Part::Plain, item)
 }
 
 /// Returns a text, if it isn't empty.
-fn if_some(text: Text) -> Option<Text>
+fn keep_nonempty(text: Text) -> Option<Text>
     ensures { result ≡ Addresses.if_some text }
 {
     if text.as_bytes().is_empty() {
@@ -162,18 +162,18 @@ fn if_some(text: Text) -> Option<Text>
 }
 
 /// Reads the name before the bracket of an item (display-name).
-fn name_before(alloc: Global, item: &[AddressCharacter]) -> Result<Option<Text>, NoMemory>
+fn read_display_name(alloc: Global, item: &[AddressCharacter]) -> Result<Option<Text>, NoMemory>
     ensures { IfOk result (λ n. n ≡ Addresses.name_before item.now) }
 {
-    let at = opening(item);
+    let at = find_opening_bracket(item);
     if at < item.len() {
-        return Ok(if_some(read_phrase(alloc, Part::Phrase, &item[..at])?));
+        return Ok(keep_nonempty(read_phrase(alloc, Part::Phrase, &item[..at])?));
     }
     Ok(None)
 }
 
 /// Returns what follows a parenthesis that opens a comment, or else what was found before.
-fn newer<'a>(
+fn choose_newer_comment<'a>(
     character: AddressCharacter,
     after: &'a [AddressCharacter],
     found: &'a [AddressCharacter],
@@ -188,13 +188,13 @@ fn newer<'a>(
 }
 
 /// Returns what follows the parenthesis that opens the last comment.
-fn last_comment(item: &[AddressCharacter]) -> &[AddressCharacter]
+fn find_last_comment(item: &[AddressCharacter]) -> &[AddressCharacter]
     ensures { result.now ≡ Addresses.last_comment item.now }
 {
     let mut found: &[AddressCharacter] = &[];
     let mut rest = item;
     while let [character, after @ ..] = rest {
-        found = newer(*character, after, found);
+        found = choose_newer_comment(*character, after, found);
         rest = after;
     }
     found
@@ -204,9 +204,9 @@ fn last_comment(item: &[AddressCharacter]) -> &[AddressCharacter]
 fn read_name(alloc: Global, item: &[AddressCharacter]) -> Result<Option<Text>, NoMemory>
     ensures { IfOk result (λ n. n ≡ Addresses.name_of item.now) }
 {
-    match name_before(alloc, item)? {
+    match read_display_name(alloc, item)? {
         Some(name) => Ok(Some(name)),
-        None => Ok(if_some(read_phrase(alloc, Part::Remark, last_comment(item))?)),
+        None => Ok(keep_nonempty(read_phrase(alloc, Part::Remark, find_last_comment(item))?)),
     }
 }
 
@@ -218,7 +218,7 @@ pub fn push_address(
 ) -> Result<(), NoMemory>
     ensures { OnOk result (addresses.new ≡ addresses.old ++ address_of item.now) }
 {
-    match if_some(read_email(alloc, item)?) {
+    match keep_nonempty(read_email(alloc, item)?) {
         None => Ok(()),
         Some(email) => {
             let name = read_name(alloc, item)?;

@@ -26,7 +26,7 @@ fn is_bare(context: Context) -> bool
 
 /// Returns the sign that a character outside quotes, comments and brackets is, if a group is open
 /// or not.
-fn bare_sign(in_group: bool, c: char) -> Option<Sign>
+fn find_bare_sign(in_group: bool, c: char) -> Option<Sign>
     ensures { result ≡ Groups.bare_sign in_group c }
 {
     if c == ',' {
@@ -40,11 +40,11 @@ fn bare_sign(in_group: bool, c: char) -> Option<Sign>
     }
 }
 
-fn sign_of(in_group: bool, character: AddressCharacter) -> Option<Sign>
+fn find_sign(in_group: bool, character: AddressCharacter) -> Option<Sign>
     ensures { result ≡ Groups.sign_of in_group character }
 {
     if is_bare(character.context) {
-        bare_sign(in_group, character.character)
+        find_bare_sign(in_group, character.character)
     } else {
         None
     }
@@ -69,7 +69,7 @@ pub fn read_piece(characters: &[AddressCharacter], in_group: bool) -> Option<Pie
     ensures less { IfSome result (λ p. length p.rest.now < length characters.now) }
 {
     for (i, character) in characters.iter().enumerate() {
-        if let Some(sign) = sign_of(in_group, *character) {
+        if let Some(sign) = find_sign(in_group, *character) {
             return Some(Piece {
                 item: &characters[..i],
                 sign,

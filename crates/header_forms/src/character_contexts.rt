@@ -58,7 +58,7 @@ fn step_in_quotes(escaped: bool, c: char) -> Step
 }
 
 /// Returns what is open when comments are in this state, or none is left.
-fn in_comment(comments: CommentState) -> State
+fn build_comment_state(comments: CommentState) -> State
     ensures { result ≡ in_comment comments }
 {
     match comments {
@@ -86,7 +86,7 @@ fn step_in_comment(comments: CommentState, c: char) -> Step
 {
     let next = advance_state(comments, c as u32);
     let said = is_said_in_comment(comments, next, c);
-    step_to(c, Context::Comment, said, in_comment(next))
+    step_to(c, Context::Comment, said, build_comment_state(next))
 }
 
 fn step_in_bracket(c: char) -> Step

@@ -25,7 +25,7 @@ pub fn read_date_text(alloc: Global, text: &[u8]) -> Result<Option<Text>, NoMemo
 }
 
 /// Returns the seconds from the beginning of 1970 to the beginning of the day.
-fn day_seconds(date_time: &ZonedDateTime) -> i64
+fn count_day_seconds(date_time: &ZonedDateTime) -> i64
     requires { IsReal date_time.now }
     ensures value { result
         ≡ days_from_civil (pos date_time.now.year) date_time.now.month date_time.now.day
@@ -41,7 +41,7 @@ fn day_seconds(date_time: &ZonedDateTime) -> i64
 }
 
 /// Returns the seconds from the beginning of the day.
-fn clock_seconds(time: TimeOfDay) -> i64
+fn count_clock_seconds(time: TimeOfDay) -> i64
     ensures value { result ≡ pos (time.hour * 3600 + time.minute * 60 + time.second) }
     ensures bound { IsWithin 4294967295 result }
 {
@@ -49,7 +49,7 @@ fn clock_seconds(time: TimeOfDay) -> i64
 }
 
 /// Returns how many seconds a zone's clock is ahead of UTC.
-fn offset_seconds(offset: ZoneOffset) -> i64
+fn count_offset_seconds(offset: ZoneOffset) -> i64
     ensures value { result ≡ Dates.offset_seconds offset }
     ensures bound { IsWithin 4294967295 result }
 {
@@ -58,15 +58,16 @@ fn offset_seconds(offset: ZoneOffset) -> i64
 }
 
 /// Returns the Unix seconds of a date-time.
-fn seconds_of(date_time: &ZonedDateTime) -> i64
+fn count_unix_seconds(date_time: &ZonedDateTime) -> i64
     requires { IsReal date_time.now }
     ensures { result ≡ unix_seconds date_time.now }
 {
-    day_seconds(date_time) + clock_seconds(date_time.time) - offset_seconds(date_time.offset)
+    count_day_seconds(date_time) + count_clock_seconds(date_time.time)
+        - count_offset_seconds(date_time.offset)
 }
 
 /// Returns the timestamp, if it is in the years 0001 to 9999 (RFC 3339).
-fn if_in_range(seconds: i64) -> Option<UtcDate>
+fn check_timestamp(seconds: i64) -> Option<UtcDate>
     ensures value { result ≡ Dates.if_in_range seconds }
     ensures kept { IfSome result IsUtcDate }
 {
@@ -84,5 +85,5 @@ pub fn find_timestamp(text: &[u8]) -> Option<UtcDate>
     ensures kept { IfSome result IsUtcDate }
 {
     let date_time = read_date_time(text)?;
-    if_in_range(seconds_of(&date_time))
+    check_timestamp(count_unix_seconds(&date_time))
 }

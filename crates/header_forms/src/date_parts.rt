@@ -9,7 +9,7 @@ ghost use Rattle.header_forms.specs.Dates.{number_in, value_from, name_number, w
 use crate::date_time::{TimeOfDay, ZoneOffset};
 
 /// Returns the number of at most four digits; none if a byte is no digit.
-fn digits(word: &[u8]) -> Option<u16>
+fn read_digits(word: &[u8]) -> Option<u16>
     requires { length word.now ≤ 4 }
     ensures value { result ≡ (if list_all is_ascii_digit word.now then Some (value_from 0 word.now)
         else None) }
@@ -39,7 +39,7 @@ pub fn read_number(least: usize, most: usize, word: &[u8]) -> Option<u16>
     if word.len() < least || most < word.len() {
         return None;
     }
-    digits(word)
+    read_digits(word)
 }
 
 /// Returns whether a word is a name, in either case. `name` is in lower case.
@@ -109,7 +109,7 @@ pub fn read_month(word: &[u8]) -> Option<u16>
 }
 
 /// Returns the year of a number of `size` digits (obs-year; RFC 5322, section 4.3).
-fn full_year(size: usize, n: u16) -> u16
+fn compute_full_year(size: usize, n: u16) -> u16
     requires most { n < 10000 }
     requires short { size ≤ 3 → n < 1000 }
     requires size { size ≤ 4 }
@@ -131,11 +131,11 @@ pub fn read_year(word: &[u8]) -> Option<u16>
     ensures bound { IfSome result (λ n. n < 10000) }
 {
     let n = read_number(2, 4, word)?;
-    Some(full_year(word.len(), n))
+    Some(compute_full_year(word.len(), n))
 }
 
 /// Returns a valid time of day. Second 60, which may be in any minute, is read as second 59.
-fn if_time(hour: u16, minute: u16, second: u16) -> Option<TimeOfDay>
+fn check_time(hour: u16, minute: u16, second: u16) -> Option<TimeOfDay>
     ensures { result ≡ Dates.if_time hour minute second }
 {
     if hour < 24 && minute < 60 && second <= 60 {
@@ -157,7 +157,7 @@ fn time_by(hour: &[u8], minute: &[u8], second: &[u8]) -> Option<TimeOfDay>
     let hour = read_number(2, 2, hour)?;
     let minute = read_number(2, 2, minute)?;
     let second = read_number(2, 2, second)?;
-    if_time(hour, minute, second)
+    check_time(hour, minute, second)
 }
 
 /// Reads the time of a word `hh:mm` or `hh:mm:ss`.
@@ -183,7 +183,7 @@ pub fn read_time(word: &[u8]) -> Option<TimeOfDay>
     }
 }
 
-fn hours(behind: bool, n: u16) -> ZoneOffset
+fn build_hours_offset(behind: bool, n: u16) -> ZoneOffset
     requires { n < 24 }
     ensures { result ≡ Dates.hours behind n }
 {
@@ -195,26 +195,26 @@ fn hours(behind: bool, n: u16) -> ZoneOffset
 
 /// Returns the offset of a zone's name, in either case (obs-zone; RFC 5322, section 4.3). A name
 /// that isn't known has that of UTC.
-fn named_zone(name: &[u8]) -> ZoneOffset
+fn find_zone_offset(name: &[u8]) -> ZoneOffset
     ensures { result ≡ zone_named (str_to_ascii_lowercase name.now) }
 {
     if is_name(name, b"edt") {
-        hours(true, 4)
+        build_hours_offset(true, 4)
     } else if is_name(name, b"est") || is_name(name, b"cdt") {
-        hours(true, 5)
+        build_hours_offset(true, 5)
     } else if is_name(name, b"cst") || is_name(name, b"mdt") {
-        hours(true, 6)
+        build_hours_offset(true, 6)
     } else if is_name(name, b"mst") || is_name(name, b"pdt") {
-        hours(true, 7)
+        build_hours_offset(true, 7)
     } else if is_name(name, b"pst") {
-        hours(true, 8)
+        build_hours_offset(true, 8)
     } else {
-        hours(false, 0)
+        build_hours_offset(false, 0)
     }
 }
 
 /// Returns the offset of a number hhmm, if there is one.
-fn offset_by(behind: bool, digits: Option<u16>) -> Option<ZoneOffset>
+fn build_offset(behind: bool, digits: Option<u16>) -> Option<ZoneOffset>
     requires { IfSome digits (λ n. n < 10000) }
     ensures { result ≡ Dates.offset_by behind digits }
 {
@@ -243,11 +243,11 @@ pub fn read_zone(word: &[u8]) -> Option<ZoneOffset>
         [] => None,
         [sign, digits @ ..] => {
             if *sign == b'+' {
-                offset_by(false, read_number(4, 4, digits))
+                build_offset(false, read_number(4, 4, digits))
             } else if *sign == b'-' {
-                offset_by(true, read_number(4, 4, digits))
+                build_offset(true, read_number(4, 4, digits))
             } else if is_letters(word) {
-                Some(named_zone(word))
+                Some(find_zone_offset(word))
             } else {
                 None
             }

@@ -23,7 +23,7 @@ fn has_day(year: u16, month: u16, day: u16) -> bool
 }
 
 /// Returns the date-time, if the calendar has its day.
-fn if_day(date_time: ZonedDateTime) -> Option<ZonedDateTime>
+fn check_day(date_time: ZonedDateTime) -> Option<ZonedDateTime>
     requires year { date_time.year ≤ LAST_YEAR }
     requires from_month { 1 ≤ date_time.month }
     requires to_month { date_time.month ≤ 12 }
@@ -40,7 +40,7 @@ fn if_day(date_time: ZonedDateTime) -> Option<ZonedDateTime>
 
 /// Reads the date-time of five words.
 #[tactic(auto, unfolding(crate::specs::Dates::date_time_by))]
-fn date_time_by(
+fn read_date_time_words(
     day_word: &[u8],
     month_word: &[u8],
     year_word: &[u8],
@@ -56,7 +56,7 @@ fn date_time_by(
     let year = read_year(year_word)?;
     let time = read_time(time_word)?;
     let offset = read_zone(zone_word)?;
-    if_day(ZonedDateTime {
+    check_day(ZonedDateTime {
         year,
         month,
         day,
@@ -66,7 +66,7 @@ fn date_time_by(
 }
 
 /// Reads the date-time of these two words and the words of the text.
-fn after_month(day_word: &[u8], month_word: &[u8], text: &[u8]) -> Option<ZonedDateTime>
+fn read_after_month(day_word: &[u8], month_word: &[u8], text: &[u8]) -> Option<ZonedDateTime>
     ensures value { result ≡ date_time_from (λ later.
         date_time_of_words (day_word.now ∷ month_word.now ∷ later)) text.now }
     ensures real { IfSome result IsReal }
@@ -77,17 +77,17 @@ fn after_month(day_word: &[u8], month_word: &[u8], text: &[u8]) -> Option<ZonedD
     if !is_done(zone.rest) {
         return None;
     }
-    date_time_by(day_word, month_word, year.word, time.word, zone.word)
+    read_date_time_words(day_word, month_word, year.word, time.word, zone.word)
 }
 
 /// Reads the date-time of the words of the text, which have no weekday.
-fn after_comma(text: &[u8]) -> Option<ZonedDateTime>
+fn read_after_comma(text: &[u8]) -> Option<ZonedDateTime>
     ensures value { result ≡ date_time_from date_time_of_words text.now }
     ensures real { IfSome result IsReal }
 {
     let day = read_word(text)?;
     let month = read_word(day.rest)?;
-    after_month(day.word, month.word, month.rest)
+    read_after_month(day.word, month.word, month.rest)
 }
 
 fn is_comma(word: &[u8]) -> bool
@@ -104,8 +104,8 @@ pub fn read_date_time(text: &[u8]) -> Option<ZonedDateTime>
     let first = read_word(text)?;
     let second = read_word(first.rest)?;
     if !is_comma(second.word) {
-        return after_month(first.word, second.word, second.rest);
+        return read_after_month(first.word, second.word, second.rest);
     }
     let _day = read_weekday(first.word)?;
-    after_comma(second.rest)
+    read_after_comma(second.rest)
 }

@@ -8,7 +8,7 @@ use jm_base::{NoMemory, Text};
 use std::alloc::Global;
 
 /// Returns the last digit of a number.
-fn last_digit(n: u16) -> char
+fn find_last_digit(n: u16) -> char
     ensures value { result ≡ 48 + n % 10 }
     ensures ascii { result < 128 }
 {
@@ -19,8 +19,8 @@ fn last_digit(n: u16) -> char
 fn push_two(text: &mut String, n: u16) -> Result<(), NoMemory>
     ensures { OnOk result (string_bytes text.new ≡ string_bytes text.old ++ two_digits n) }
 {
-    text.push(last_digit(n / 10))?;
-    text.push(last_digit(n))?;
+    text.push(find_last_digit(n / 10))?;
+    text.push(find_last_digit(n))?;
     Ok(())
 }
 
@@ -55,7 +55,7 @@ fn push_time(text: &mut String, time: TimeOfDay) -> Result<(), NoMemory>
     push_signed(text, ':', time.second)
 }
 
-fn sign_of(offset: ZoneOffset) -> char
+fn choose_offset_sign(offset: ZoneOffset) -> char
     ensures value { result ≡ (if offset.behind then 45 else 43) }
     ensures ascii { result < 128 }
 {
@@ -70,7 +70,7 @@ fn push_offset(text: &mut String, offset: ZoneOffset) -> Result<(), NoMemory>
         text.push('Z')?;
         return Ok(());
     }
-    push_signed(text, sign_of(offset), offset.minutes / 60)?;
+    push_signed(text, choose_offset_sign(offset), offset.minutes / 60)?;
     push_signed(text, ':', offset.minutes % 60)
 }
 

@@ -33,7 +33,7 @@ fn is_in_word(byte: u8) -> bool
 }
 
 /// Returns how many bytes the word at the start has.
-fn word_len(text: &[u8]) -> usize
+fn count_word_bytes(text: &[u8]) -> usize
     ensures within { result ≤ length text.now }
     ensures value { result ≡ prefix_len DateWords.is_in_word text.now }
 {
@@ -47,17 +47,17 @@ fn word_len(text: &[u8]) -> usize
 
 /// Reads the word at the start, which is no comma.
 #[tactic(auto, using(crate::proofs::DateSplit::word_split))]
-fn plain_word(text: &[u8]) -> Word<'_>
+fn read_plain_word(text: &[u8]) -> Word<'_>
     requires { starts_word text.now ≡ true }
     ensures { words_of text.now ≡ option_map (λ later. result.word.now ∷ later)
         (words_of result.rest.now) }
 {
-    let (word, rest) = text.split_at(word_len(text));
+    let (word, rest) = text.split_at(count_word_bytes(text));
     Word { word, rest }
 }
 
 /// Reads the word that the text begins with; none if the text is empty.
-fn front_word(text: &[u8]) -> Option<Word<'_>>
+fn read_leading_word(text: &[u8]) -> Option<Word<'_>>
     requires { begins_word text.now ≡ true }
     ensures value { IfSome result (λ w. words_of text.now
         ≡ option_map (λ later. w.word.now ∷ later) (words_of w.rest.now)) }
@@ -72,7 +72,7 @@ fn front_word(text: &[u8]) -> Option<Word<'_>>
                     rest,
                 });
             }
-            Some(plain_word(text))
+            Some(read_plain_word(text))
         }
     }
 }
@@ -84,7 +84,7 @@ pub fn read_word(text: &[u8]) -> Option<Word<'_>>
     ensures none { IfNone result (has_no_word (words_of text.now) ≡ true) }
 {
     let rest = skip_gaps(text)?;
-    front_word(rest)
+    read_leading_word(rest)
 }
 
 /// Returns whether there is no word, and each comment is closed.

@@ -16,7 +16,7 @@ use jm_json::{Items, Json, Members};
 use std::alloc::Global;
 use std::collections::VecDeque;
 
-fn text_or_null(text: Option<Text>) -> Json
+fn show_text_or_null(text: Option<Text>) -> Json
     ensures { tree_of result ≡ Forms.text_or_null text }
 {
     match text {
@@ -26,13 +26,13 @@ fn text_or_null(text: Option<Text>) -> Json
 }
 
 /// Returns the object of an address.
-fn address_tree(alloc: Global, address: Address) -> Result<Json, NoMemory>
+fn show_address(alloc: Global, address: Address) -> Result<Json, NoMemory>
     ensures { IfOk result (λ t. tree_of t ≡ Forms.address_tree address) }
 {
     let Address { email, name } = address;
     let mut members = Members::with_room(alloc, 2)?;
     members.set(alloc, "email", Json::Text(email))?;
-    members.set(alloc, "name", text_or_null(name))?;
+    members.set(alloc, "name", show_text_or_null(name))?;
     Ok(Json::Object(members))
 }
 
@@ -42,35 +42,35 @@ fn address_items(alloc: Global, addresses: Addresses) -> Result<Items, NoMemory>
     let mut items = Items::with_room(alloc, addresses.len())?;
     let mut rest = VecDeque::from_vec(addresses.into_vec());
     while let Some(address) = rest.pop_front() {
-        items.push(address_tree(alloc, address)?)?;
+        items.push(show_address(alloc, address)?)?;
     }
     Ok(items)
 }
 
 /// Returns the object of a group.
-fn group_tree(alloc: Global, group: Group) -> Result<Json, NoMemory>
+fn show_group(alloc: Global, group: Group) -> Result<Json, NoMemory>
     ensures { IfOk result (λ t. tree_of t ≡ Forms.group_tree group) }
 {
     let Group { name, addresses } = group;
     let addresses = address_items(alloc, addresses)?;
     let mut members = Members::with_room(alloc, 2)?;
     members.set(alloc, "addresses", Json::List(addresses))?;
-    members.set(alloc, "name", text_or_null(name))?;
+    members.set(alloc, "name", show_text_or_null(name))?;
     Ok(Json::Object(members))
 }
 
-fn group_items(alloc: Global, groups: Groups) -> Result<Items, NoMemory>
+fn show_groups(alloc: Global, groups: Groups) -> Result<Items, NoMemory>
     ensures { IfOk result (λ ts. ts ≡ map Forms.group_tree groups) }
 {
     let mut items = Items::with_room(alloc, groups.len())?;
     let mut rest = VecDeque::from_vec(groups.into_vec());
     while let Some(group) = rest.pop_front() {
-        items.push(group_tree(alloc, group)?)?;
+        items.push(show_group(alloc, group)?)?;
     }
     Ok(items)
 }
 
-fn text_items(alloc: Global, texts: Texts) -> Result<Items, NoMemory>
+fn show_texts(alloc: Global, texts: Texts) -> Result<Items, NoMemory>
     ensures { IfOk result (λ ts. ts ≡ map text' texts) }
 {
     let mut items = Items::with_room(alloc, texts.len())?;
@@ -88,7 +88,7 @@ fn list_or_null(alloc: Global, texts: Texts) -> Result<Json, NoMemory>
     if texts.is_empty() {
         return Ok(Json::Null);
     }
-    Ok(Json::List(text_items(alloc, texts)?))
+    Ok(Json::List(show_texts(alloc, texts)?))
 }
 
 /// Returns the value of a header field in a form, as JSON (RFC 8621, section 4.1.2). `value` is
@@ -100,15 +100,15 @@ pub fn form_of(alloc: Global, value: &[u8], form: Form) -> Result<Json, NoMemory
     match form {
         Form::Raw => Ok(Json::Text(read_raw(alloc, value)?)),
         Form::Text => Ok(Json::Text(read_text_form(alloc, value)?)),
-        Form::Addresses => address_list(alloc, value),
-        Form::GroupedAddresses => group_list(alloc, value),
-        Form::MessageIds => angle_list(alloc, value),
-        Form::Date => date_or_null(alloc, value),
-        Form::Urls => angle_list(alloc, value),
+        Form::Addresses => read_address_list(alloc, value),
+        Form::GroupedAddresses => read_group_list(alloc, value),
+        Form::MessageIds => read_angle_list(alloc, value),
+        Form::Date => read_date_or_null(alloc, value),
+        Form::Urls => read_angle_list(alloc, value),
     }
 }
 
-fn address_list(alloc: Global, value: &[u8]) -> Result<Json, NoMemory>
+fn read_address_list(alloc: Global, value: &[u8]) -> Result<Json, NoMemory>
     ensures { IfOk result (λ j. tree_of j ≡ form_tree Form.Addresses value.now) }
 {
     let line = unfold_value(alloc, value)?;
@@ -116,24 +116,24 @@ fn address_list(alloc: Global, value: &[u8]) -> Result<Json, NoMemory>
     Ok(Json::List(address_items(alloc, addresses)?))
 }
 
-fn group_list(alloc: Global, value: &[u8]) -> Result<Json, NoMemory>
+fn read_group_list(alloc: Global, value: &[u8]) -> Result<Json, NoMemory>
     ensures { IfOk result (λ j. tree_of j ≡ form_tree Form.GroupedAddresses value.now) }
 {
     let line = unfold_value(alloc, value)?;
     let groups = parse_groups(alloc, line.as_str())?;
-    Ok(Json::List(group_items(alloc, groups)?))
+    Ok(Json::List(show_groups(alloc, groups)?))
 }
 
-fn angle_list(alloc: Global, value: &[u8]) -> Result<Json, NoMemory>
+fn read_angle_list(alloc: Global, value: &[u8]) -> Result<Json, NoMemory>
     ensures { IfOk result (λ j. tree_of j ≡ form_tree Form.MessageIds value.now) }
 {
     let line = unfold_value(alloc, value)?;
     list_or_null(alloc, read_angle_texts(alloc, line.as_str())?)
 }
 
-fn date_or_null(alloc: Global, value: &[u8]) -> Result<Json, NoMemory>
+fn read_date_or_null(alloc: Global, value: &[u8]) -> Result<Json, NoMemory>
     ensures { IfOk result (λ j. tree_of j ≡ form_tree Form.Date value.now) }
 {
     let line = unfold_value(alloc, value)?;
-    Ok(text_or_null(read_date_text(alloc, line.as_bytes())?))
+    Ok(show_text_or_null(read_date_text(alloc, line.as_bytes())?))
 }

@@ -41,7 +41,7 @@ fn push_group(groups: &mut Groups, name: Option<Text>, addresses: Addresses) -> 
 }
 
 /// Continues with an item that ends at a comma.
-fn after_item(alloc: Global, work: Work, item: &[AddressCharacter]) -> Result<Work, NoMemory>
+fn take_item(alloc: Global, work: Work, item: &[AddressCharacter]) -> Result<Work, NoMemory>
     ensures { IfOk result (λ w. (later : Slices) → w.groups ++ groups_from w.name w.addresses later
         ≡ work.groups ++ groups_from work.name work.addresses (slice item.now Sign.Comma later)) }
 {
@@ -59,7 +59,7 @@ fn after_item(alloc: Global, work: Work, item: &[AddressCharacter]) -> Result<Wo
 }
 
 /// Continues with the name of a group, which ends at a colon.
-fn after_name(alloc: Global, work: Work, item: &[AddressCharacter]) -> Result<Work, NoMemory>
+fn take_group_name(alloc: Global, work: Work, item: &[AddressCharacter]) -> Result<Work, NoMemory>
     ensures { IfOk result (λ w. (later : Slices) → w.groups ++ groups_from w.name w.addresses later
         ≡ work.groups ++ groups_from work.name work.addresses (slice item.now Sign.Colon later)) }
 {
@@ -78,7 +78,7 @@ fn after_name(alloc: Global, work: Work, item: &[AddressCharacter]) -> Result<Wo
 }
 
 /// Continues with the last item of a group, which ends at a semicolon.
-fn after_group(alloc: Global, work: Work, item: &[AddressCharacter]) -> Result<Work, NoMemory>
+fn take_group_end(alloc: Global, work: Work, item: &[AddressCharacter]) -> Result<Work, NoMemory>
     ensures { IfOk result (λ w. (later : Slices) → w.groups ++ groups_from w.name w.addresses later
         ≡ work.groups ++ groups_from work.name work.addresses
         (slice item.now Sign.Semicolon later)) }
@@ -98,7 +98,7 @@ fn after_group(alloc: Global, work: Work, item: &[AddressCharacter]) -> Result<W
 }
 
 /// Continues with a piece that ends with this sign.
-fn after_piece(
+fn take_piece(
     alloc: Global,
     work: Work,
     item: &[AddressCharacter],
@@ -108,14 +108,14 @@ fn after_piece(
         ≡ work.groups ++ groups_from work.name work.addresses (slice item.now sign later)) }
 {
     match sign {
-        Sign::Comma => after_item(alloc, work, item),
-        Sign::Colon => after_name(alloc, work, item),
-        Sign::Semicolon => after_group(alloc, work, item),
+        Sign::Comma => take_item(alloc, work, item),
+        Sign::Colon => take_group_name(alloc, work, item),
+        Sign::Semicolon => take_group_end(alloc, work, item),
     }
 }
 
 /// Returns the groups, with those of the last piece.
-fn at_end(alloc: Global, work: Work, item: &[AddressCharacter]) -> Result<Groups, NoMemory>
+fn finish_groups(alloc: Global, work: Work, item: &[AddressCharacter]) -> Result<Groups, NoMemory>
     ensures { IfOk result (λ gs. gs ≡ work.groups
         ++ groups_from work.name work.addresses (last item.now)) }
 {
@@ -140,11 +140,11 @@ fn read_groups(alloc: Global, characters: &[AddressCharacter]) -> Result<Groups,
     let mut in_group = false;
     let mut rest = characters;
     while let Some(piece) = read_piece(rest, in_group) {
-        work = after_piece(alloc, work, piece.item, piece.sign)?;
+        work = take_piece(alloc, work, piece.item, piece.sign)?;
         in_group = is_open_after(in_group, piece.sign);
         rest = piece.rest;
     }
-    at_end(alloc, work, rest)
+    finish_groups(alloc, work, rest)
 }
 
 /// Reads the groups of a value on one line (RFC 8621, section 4.1.2.4). Addresses outside groups

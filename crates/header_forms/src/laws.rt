@@ -66,7 +66,7 @@ pub fn comments_in_dates_change_nothing()
 /// Examples of identifiers, addresses and groups: comments and quote marks within others; what
 /// isn't closed, which extends to the end; quote marks in a bracket, which hide a `>`; and plain
 /// characters, a `;` outside a group and a second `:` in one.
-pub fn forms_of_examples()
+pub fn check_example_forms()
     ensures identifiers { angle_texts (codes " <a b@x> <c@y>") ≡ codes "ab@x" ∷ codes "c@y" ∷ [] }
     ensures addresses { addresses_in (codes "\"A \\\" B\" (c) <a@x>, (x(y)) b@y") ≡ record { email = codes "a@x"; name = Some (codes "A \" B") } ∷ record { email = codes "b@y"; name = Some (codes "x(y)") } ∷ [] }
     ensures groups { groups_in (codes " G: Ed <e@x>, j@y;, z@w") ≡ record { name = Some (codes "G"); addresses = record { email = codes "e@x"; name = Some (codes "Ed") } ∷ record { email = codes "j@y"; name = None } ∷ [] } ∷ record { name = None; addresses = record { email = codes "z@w"; name = None } ∷ [] } ∷ [] }
@@ -79,7 +79,7 @@ pub fn forms_of_examples()
 
 /// Examples of dates: years of two digits, a day that its month hasn't, second 60 and comments
 /// within others, and a missing zone.
-pub fn dates_of_examples()
+pub fn check_example_dates()
     ensures short_year { date_text (codes " Tue, 1 Jul 03 10:52:37 +0200 (x)") ≡ Some (codes "2003-07-01T10:52:37+02:00") }
     ensures no_day { date_text (codes " 31 Feb 2020 00:00 GMT") ≡ None }
     ensures leap { date_text (codes "29 feb 2000 (a(b)\\)) 23:59:60 est") ≡ Some (codes "2000-02-29T23:59:59-05:00") }

@@ -26,7 +26,7 @@ pub use form::Form;
 pub use forms::form_of;
 pub use groups::{parse_addresses, parse_groups};
 pub use laws::{
-    comments_in_dates_change_nothing, dates_of_examples, forms_of_examples,
+    check_example_dates, check_example_forms, comments_in_dates_change_nothing,
     plain_groups_hold_their_items, plain_texts_are_one_address, quoted_names_are_read_back,
 };
 pub use texts::{read_raw, read_text_form, unfold_value};

@@ -63,7 +63,7 @@ pub fn unfold_value(alloc: Global, value: &[u8]) -> Result<Text, NoMemory>
 }
 
 /// Returns a text without the spaces at its beginning.
-fn after_spaces(text: &str) -> &str
+fn skip_spaces(text: &str) -> &str
     ensures { result.now ≡ without_spaces text.now }
 {
     let mut rest = text;
@@ -86,5 +86,5 @@ pub fn read_text_form(alloc: Global, value: &[u8]) -> Result<Text, NoMemory>
     ensures { IfOk result (λ t. t ≡ text_form value.now) }
 {
     let line = unfold_value(alloc, value)?;
-    decode_text(alloc, after_spaces(line.as_str()))
+    decode_text(alloc, skip_spaces(line.as_str()))
 }

@@ -167,7 +167,7 @@ fn accept_link(listener: &Option<TcpListener>) -> Result<TcpLink, Failed> {
 }
 
 // Returns the path of the database of an account in a folder.
-fn path_of(alloc: Global, folder: &str, account: &str) -> Result<Text, AllocError> {
+fn build_database_path(alloc: Global, folder: &str, account: &str) -> Result<Text, AllocError> {
     Ok(Text::from_string(format!(in alloc; "{folder}/{account}.sqlite")?))
 }
 
@@ -208,7 +208,7 @@ impl<M: MakesKeepers> World for HostWorld<M> {
         folder: &Text,
         account: &Text,
     ) -> Result<CountedKeeper<SqliteKeeper<M::Store, M::Opener>>, EdgeFault> {
-        match path_of(alloc, folder.as_str(), account.as_str()) {
+        match build_database_path(alloc, folder.as_str(), account.as_str()) {
             Ok(path) => Ok(CountedKeeper {
                 inner: self.files.make(path),
                 load_faults: 0,

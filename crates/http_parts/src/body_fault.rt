@@ -24,7 +24,7 @@ pub enum BodyFault {
 
 impl BodyFault {
     // Returns the fault of a longer part that has so many bytes before this one.
-    pub(crate) fn after(self, count: usize) -> BodyFault
+    pub(crate) fn add_bytes_before(self, count: usize) -> BodyFault
         requires below { IsCountBelow BUFFER_BYTES_LIMIT self }
         requires small { count < BUFFER_BYTES_LIMIT }
         ensures { result ≡ counted_after count self }

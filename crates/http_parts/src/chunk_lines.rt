@@ -10,7 +10,7 @@ ghost use Rattle.http_parts.specs.Found.{line_as, IsLineWithin, AreHexDigits};
 use crate::limits::{MAX_CHUNK_DIGITS, MAX_CHUNK_LINE_BYTES};
 use httparse::parse_hex_digit;
 use memchr::memchr;
-use mime_lines::text_len;
+use mime_lines::count_text_bytes;
 
 /// The line of a chunk: how many bytes the chunk has, and how many the line.
 #[derive(Clone, Copy, Debug, PartialEq, Eq)]
@@ -68,7 +68,7 @@ fn read_digits(digits: &[u8]) -> u64
 }
 
 // Returns whether spaces and tabs end with the text or before a semicolon.
-fn ends_size(text: &[u8]) -> bool
+fn is_size_end(text: &[u8]) -> bool
     ensures { result ≡ is_extension (skip_ows text.now) }
 {
     let mut rest = text;
@@ -90,7 +90,7 @@ fn read_size(text: &[u8]) -> Option<u64>
         return None;
     }
     let (digits, rest) = text.split_at(count);
-    if !ends_size(rest) {
+    if !is_size_end(rest) {
         return None;
     }
     Some(read_digits(digits))
@@ -119,7 +119,7 @@ pub(crate) fn find_chunk_line(bytes: &[u8]) -> LineFound
         return LineFound::Invalid;
     }
     let (line, _) = bytes.split_at(at + 1);
-    let (text, _) = line.split_at(text_len(line));
+    let (text, _) = line.split_at(count_text_bytes(line));
     match read_size(text) {
         Some(size) => LineFound::Ended(ChunkHead {
             size,

@@ -44,7 +44,7 @@ fn read_chunk<L: Link>(
     if head.size == 0 {
         return match read_trailer(link, room, bytes) {
             Ok(()) => Ok(None),
-            Err(fault) => Err(fault.after(head.bytes)),
+            Err(fault) => Err(fault.add_bytes_before(head.bytes)),
         };
     }
     if head.size > (limit - body.len()) as u64 {
@@ -53,11 +53,11 @@ fn read_chunk<L: Link>(
     let size = head.size as usize;
     match read_sized(link, body, bytes, size) {
         Ok(()) => {}
-        Err(fault) => return Err(fault.after(head.bytes)),
+        Err(fault) => return Err(fault.add_bytes_before(head.bytes)),
     }
     match read_chunk_end(link, room, bytes) {
         Ok(()) => Ok(Some(head.bytes + size + 2)),
-        Err(fault) => Err(fault.after(head.bytes + size)),
+        Err(fault) => Err(fault.add_bytes_before(head.bytes + size)),
     }
 }
 
@@ -89,7 +89,7 @@ pub(crate) fn read_chunked<L: Link>(
         match read_chunk(link, room, limit, &mut body, bytes) {
             Ok(None) => return Ok(body),
             Ok(Some(count)) => passed += count,
-            Err(fault) => return Err(fault.after(passed)),
+            Err(fault) => return Err(fault.add_bytes_before(passed)),
         }
     }
 }

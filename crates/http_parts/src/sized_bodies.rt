@@ -135,6 +135,6 @@ pub(crate) fn read_sized<L: Link>(
     }
     match fill(link, buffer, size - count) {
         Ok(()) => Ok(()),
-        Err(fault) => Err(fault.after(count)),
+        Err(fault) => Err(fault.add_bytes_before(count)),
     }
 }

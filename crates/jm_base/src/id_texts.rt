@@ -8,7 +8,7 @@ use std::alloc::Global;
 
 // Returns whether a text may be a number: it is not empty, and begins with no plus and no leading
 // zero.
-fn begins_well(text: &[u8]) -> bool
+fn is_number_candidate(text: &[u8]) -> bool
     ensures { IsTrue result ↔ ((0 < length text.now) × (slice_index text.now 0 ≢ 43)
         × (slice_index text.now 0 ≡ 48 → length text.now ≡ 1)) }
 {
@@ -41,7 +41,7 @@ fn parse_number(text: &str) -> Option<u64>
 fn read_number(text: &[u8]) -> Option<u64>
     ensures { MatchOption result ((n : ℕ) → ¬ (IsNumberText text.now n)) (IsNumberText text.now) }
 {
-    if !begins_well(text) {
+    if !is_number_candidate(text) {
         return None;
     }
     match str::from_utf8(text) {

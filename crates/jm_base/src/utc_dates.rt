@@ -26,7 +26,7 @@ const DAY_SECONDS: i64 = 86_400;
 const LAYOUT: &str = "0000-00-00T00:00:00";
 
 // Returns `YYYY-MM-DD`.
-fn full_date_text(alloc: Global, year: u64, month: u64, day: u64) -> Result<String, NoMemory>
+fn write_year_month_day(alloc: Global, year: u64, month: u64, day: u64) -> Result<String, NoMemory>
     ensures { IfOk result (λ t. string_bytes t ≡ two_digits (year / 100) ++ two_digits year ++ codes "-" ++ two_digits month ++ codes "-" ++ two_digits day) }
 {
     Ok(format!(in alloc;
@@ -43,7 +43,12 @@ fn full_date_text(alloc: Global, year: u64, month: u64, day: u64) -> Result<Stri
 }
 
 // Returns `HH:MM:SS`.
-fn partial_time_text(alloc: Global, hour: u64, minute: u64, second: u64) -> Result<String, NoMemory>
+fn write_partial_time(
+    alloc: Global,
+    hour: u64,
+    minute: u64,
+    second: u64,
+) -> Result<String, NoMemory>
     ensures { IfOk result (λ t. string_bytes t ≡ two_digits hour ++ codes ":" ++ two_digits minute ++ codes ":" ++ two_digits second) }
 {
     Ok(format!(in alloc;
@@ -64,7 +69,7 @@ fn write_full_date(alloc: Global, day: i64) -> Result<String, NoMemory>
     ensures { IfOk result (λ t. string_bytes t ≡ two_digits (year_of day / 100) ++ two_digits (year_of day) ++ codes "-" ++ two_digits (month_of day) ++ codes "-" ++ two_digits (day_of day)) }
 {
     match Date::from_unix_epoch_day(day) {
-        Ok(shown) => full_date_text(
+        Ok(shown) => write_year_month_day(
             alloc,
             shown.year.unsigned_abs() as u64,
             shown.month as u64,
@@ -82,7 +87,7 @@ fn write_date_time(alloc: Global, day: i64, seconds: u64) -> Result<Text, NoMemo
     ensures { IfOk result (λ t. t ≡ date_time_text (date_time_on day seconds)) }
 {
     let date = write_full_date(alloc, day)?;
-    let time = partial_time_text(alloc, seconds / 3600, seconds / 60 % 60, seconds % 60)?;
+    let time = write_partial_time(alloc, seconds / 3600, seconds / 60 % 60, seconds % 60)?;
     Ok(Text::from_string(format!(in alloc; "{date}T{time}Z")?))
 }
 
@@ -159,7 +164,7 @@ fn is_end(text: &[u8]) -> bool
 }
 
 // Returns the number of the two digits at a byte offset.
-fn two_at(offset: usize, text: &[u8]) -> u64
+fn read_two_digits(offset: usize, text: &[u8]) -> u64
     requires { offset + 1 < length text.now }
     ensures value { result ≡ two_at offset text.now }
     ensures bound { result ≤ 2277 }
@@ -202,11 +207,15 @@ fn find_seconds(text: &[u8]) -> Option<i64>
         (λ n. IsDateTime (date_time_in text.now)
         × (n ≡ date_time_seconds (date_time_in text.now))) }
 {
-    let year = two_at(0, text) * 100 + two_at(2, text);
-    let Some(day) = find_day(year, two_at(5, text), two_at(8, text)) else {
+    let year = read_two_digits(0, text) * 100 + read_two_digits(2, text);
+    let Some(day) = find_day(year, read_two_digits(5, text), read_two_digits(8, text)) else {
         return None;
     };
-    let Some(second) = find_second(two_at(11, text), two_at(14, text), two_at(17, text)) else {
+    let Some(second) = find_second(
+        read_two_digits(11, text),
+        read_two_digits(14, text),
+        read_two_digits(17, text),
+    ) else {
         return None;
     };
     Some(day * DAY_SECONDS + second)

@@ -48,12 +48,12 @@ impl MemorySource {
         ensures fails { result.fails ≡ [] }
         ensures faults { result.faults ≡ 0 }
     {
-        MemorySource::in_pieces(bytes, usize::MAX, Numbers::new(alloc))
+        MemorySource::build_in_pieces(bytes, usize::MAX, Numbers::new(alloc))
     }
 
     /// Returns a source of these bytes of which each call reads at most so many, at least one. The
     /// source fails at the listed calls.
-    pub fn in_pieces(bytes: Vec<u8>, most: usize, fails: Numbers) -> MemorySource
+    pub fn build_in_pieces(bytes: Vec<u8>, most: usize, fails: Numbers) -> MemorySource
         ensures { result ≡ record {
           left = bytes.items;
           sizes = [];
@@ -64,13 +64,18 @@ impl MemorySource {
         } }
     {
         let sizes = Numbers::new(*bytes.allocator());
-        MemorySource::in_sizes(bytes, sizes, most, fails)
+        MemorySource::build_in_sizes(bytes, sizes, most, fails)
     }
 
     /// Returns a source of these bytes of which each call reads at most as many as its size says,
     /// at least one. The sizes are those of the calls in turn, failed ones too; after these the
     /// size is `most`. The source fails at the listed calls.
-    pub fn in_sizes(bytes: Vec<u8>, sizes: Numbers, most: usize, fails: Numbers) -> MemorySource
+    pub fn build_in_sizes(
+        bytes: Vec<u8>,
+        sizes: Numbers,
+        most: usize,
+        fails: Numbers,
+    ) -> MemorySource
         ensures { result ≡ record {
           left = bytes.items;
           sizes = sizes;
@@ -165,11 +170,11 @@ impl MemorySink {
     pub fn new(alloc: Global) -> MemorySink
         ensures { result ≡ record { held = []; calls = 0; faults = 0; fails = [] } }
     {
-        MemorySink::failing(alloc, Numbers::new(alloc))
+        MemorySink::build_failing(alloc, Numbers::new(alloc))
     }
 
     /// Returns a sink that fails at the listed calls, and if an allocation fails.
-    pub fn failing(alloc: Global, fails: Numbers) -> MemorySink
+    pub fn build_failing(alloc: Global, fails: Numbers) -> MemorySink
         ensures { result ≡ record { held = []; calls = 0; faults = 0; fails = fails } }
     {
         MemorySink {

@@ -44,7 +44,7 @@ impl TcpSocket {
         }
     }
 
-    fn after_read_error(&mut self, error: Error) -> Result<Arrival, EdgeFault>
+    fn handle_read_error(&mut self, error: Error) -> Result<Arrival, EdgeFault>
         ensures cause { IsCounted self.old.read_faults self.new.read_faults result }
         ensures send_faults { self.new.send_faults ≡ self.old.send_faults }
     {
@@ -62,7 +62,7 @@ impl TcpSocket {
         }
     }
 
-    fn after_send(&mut self, sent: Result<(), Error>) -> Result<(), EdgeFault>
+    fn handle_send_result(&mut self, sent: Result<(), Error>) -> Result<(), EdgeFault>
         ensures cause { IsCounted self.old.send_faults self.new.send_faults result }
         ensures read_faults { self.new.read_faults ≡ self.old.read_faults }
     {
@@ -135,17 +135,17 @@ impl MessageLink for TcpSocket {
     fn next(&mut self, alloc: Global) -> Result<Arrival, EdgeFault> {
         let time = Duration::from_millis(LOOK_MILLISECONDS);
         if let Err(cause) = self.socket.get_ref().set_read_timeout(Some(time)) {
-            return self.after_read_error(Error::Io(cause));
+            return self.handle_read_error(Error::Io(cause));
         }
         match look(alloc, &mut self.socket) {
             Ok(arrival) => Ok(arrival),
-            Err(error) => self.after_read_error(error),
+            Err(error) => self.handle_read_error(error),
         }
     }
 
     fn send(&mut self, alloc: Global, text: &[u8]) -> Result<(), EdgeFault> {
         let sent = send_text(alloc, &mut self.socket, text);
-        self.after_send(sent)
+        self.handle_send_result(sent)
     }
 
     fn close(&mut self, _alloc: Global, code: u16) -> Result<(), EdgeFault> {
@@ -154,6 +154,6 @@ impl MessageLink for TcpSocket {
             reason: Utf8Bytes::from_static(""),
         };
         let sent = self.socket.close(Some(frame));
-        self.after_send(sent)
+        self.handle_send_result(sent)
     }
 }

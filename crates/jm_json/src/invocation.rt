@@ -60,7 +60,7 @@ impl Model for Invocations {
 impl Invocation {
     /// Returns the response that reports an error of this type, to the call with this id (RFC 8620,
     /// section 3.6.2).
-    pub fn error(alloc: Global, kind: &str, id: Text) -> Result<Invocation, NoMemory>
+    pub fn build_error_response(alloc: Global, kind: &str, id: Text) -> Result<Invocation, NoMemory>
         ensures { IfOk result (λ c. call_of c ≡ error_of kind.now id) }
     {
         let mut args = Members::new(alloc);

@@ -57,14 +57,14 @@ impl MemberRuns {
     {
         let MemberRuns { merged, run } = self;
         if run.is_past(name.as_str()) {
-            return MemberRuns::pushed(merged, run, name, value);
+            return MemberRuns::extend_run(merged, run, name, value);
         }
         let merged = merge(alloc, merged, run)?;
-        MemberRuns::pushed(merged, Members::new(alloc), name, value)
+        MemberRuns::extend_run(merged, Members::new(alloc), name, value)
     }
 
     // Returns the members with one more at the end of the run.
-    fn pushed(
+    fn extend_run(
         merged: Members,
         run: Members,
         name: Text,
@@ -117,7 +117,7 @@ fn take_first(lower: &mut VecDeque<Member>, upper: &mut VecDeque<Member>) -> Opt
     ensures fewer { IfSome result (λ _. length lower.new.items + length upper.new.items
         < length lower.old.items + length upper.old.items) }
 {
-    match first_order(lower, upper) {
+    match compare_first_keys(lower, upper) {
         Some(Ordering::Less) => upper.pop_front(),
         Some(Ordering::Equal) => {
             drop(lower.pop_front());
@@ -130,7 +130,7 @@ fn take_first(lower: &mut VecDeque<Member>, upper: &mut VecDeque<Member>) -> Opt
 
 // Returns how the first key of the second list compares with the first key of the first list. A
 // list without members comes last.
-fn first_order(lower: &VecDeque<Member>, upper: &VecDeque<Member>) -> Option<Ordering>
+fn compare_first_keys(lower: &VecDeque<Member>, upper: &VecDeque<Member>) -> Option<Ordering>
     ensures { result ≡ first_order (map member_of lower.now.items) (map member_of upper.now.items) }
 {
     match upper.front() {

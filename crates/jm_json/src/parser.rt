@@ -206,7 +206,7 @@ fn parse_integer(text: &str) -> Option<i64>
 {
     let bytes = text.as_bytes();
     if has_minus(bytes) {
-        below_zero(&Numeral::scan(&bytes[1..]))
+        read_negative(&Numeral::scan(&bytes[1..]))
     } else {
         from_zero(&Numeral::scan(bytes))
     }
@@ -237,7 +237,7 @@ fn from_zero(numeral: &Numeral<'_>) -> Option<i64>
 }
 
 #[inline(always)]
-fn below_zero(numeral: &Numeral<'_>) -> Option<i64>
+fn read_negative(numeral: &Numeral<'_>) -> Option<i64>
     ensures { IfSome result
         (λ z. (number_from true numeral.now ≡ Some (of_integer z))
         × (is_whole (of_integer z) ≡ true)) }

@@ -9,7 +9,7 @@ ghost use Rattle.jm_json.specs.Patch.{at_member, goes_on, is_prefix, is_placed a
 ghost use Rattle.jm_json.specs.Patching.{ExplainsPatch};
 
 use crate::copies::copy;
-use crate::paths::{after_byte, member_at, part_end};
+use crate::paths::{find_member, part_end, skip_byte};
 use crate::tree::{Json, KeyIndex, Member, Members, place_of};
 use jm_base::{NoMemory, Text};
 use std::alloc::Global;
@@ -56,13 +56,13 @@ fn patch_members(alloc: Global, tree: Json, changes: &[Member]) -> Result<Json, 
         (λ t. patching_by (map member_of changes.now) (tree_of tree) ≡ patched (tree_of t))
         (λ e. ExplainsPatch e (patching_by (map member_of changes.now) (tree_of tree))) }
 {
-    match first_invalid(alloc, &tree, changes)? {
+    match find_invalid_path(alloc, &tree, changes)? {
         Some(path) => Err(PatchFault::BadPatch(path.copy()?)),
         None => Ok(change_all(alloc, tree, changes)?),
     }
 }
 
-fn first_invalid<'a>(
+fn find_invalid_path<'a>(
     alloc: Global,
     tree: &Json,
     changes: &'a [Member],
@@ -112,7 +112,7 @@ fn has_longer_at(changes: &[Member], path: &[u8], place: KeyIndex) -> bool
     match place {
         KeyIndex::Held(_) => true,
         KeyIndex::New(at) => if at < changes.len() {
-            continues(path, changes[at].name.as_bytes())
+            is_path_prefix(path, changes[at].name.as_bytes())
         } else {
             false
         },
@@ -120,12 +120,12 @@ fn has_longer_at(changes: &[Member], path: &[u8], place: KeyIndex) -> bool
 }
 
 // Returns whether the longer path is the path, a slash and more.
-fn continues(path: &[u8], longer: &[u8]) -> bool
+fn is_path_prefix(path: &[u8], longer: &[u8]) -> bool
     ensures { result ≡ goes_on path.now longer.now }
 {
     let mut rest = longer;
     for b in path {
-        match after_byte(rest, *b) {
+        match skip_byte(rest, *b) {
             Some(more) => rest = more,
             None => return false,
         }
@@ -163,7 +163,7 @@ fn member<'a>(tree: &'a Json, part: &[u8]) -> Option<&'a Json>
     ensures { option_map (λ j. tree_of j.now) result ≡ member_named part.now (tree_of tree.now) }
 {
     match tree.as_object() {
-        Some(members) => member_at(members.as_slice(), part),
+        Some(members) => find_member(members.as_slice(), part),
         None => None,
     }
 }
@@ -226,7 +226,7 @@ fn is_name(part: &[u8]) -> bool
 }
 
 // Returns the name that is escaped as a part, if there is one.
-fn name_in(alloc: Global, part: &[u8]) -> Result<Option<Text>, NoMemory>
+fn unescape_part(alloc: Global, part: &[u8]) -> Result<Option<Text>, NoMemory>
     ensures { IfOk result (λ o. o ≡ name_of part.now) }
 {
     let mut name = Vec::with_capacity(alloc, part.len())?;
@@ -264,7 +264,7 @@ fn change(alloc: Global, tree: Json, path: &[u8], value: &Json) -> Result<Json, 
 {
     let (part, more) = path.split_at(part_end(path));
     match tree {
-        Json::Object(members) => match name_in(alloc, part)? {
+        Json::Object(members) => match unescape_part(alloc, part)? {
             Some(name) => Ok(Json::Object(change_member(alloc, members, name, more, value)?)),
             None => Ok(Json::Object(members)),
         },

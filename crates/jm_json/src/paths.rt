@@ -6,7 +6,7 @@ ghost use Rattle.jm_json.specs.Order.{KeysRise};
 ghost use Rattle.jm_json.specs.Integers.{pointer_byte, pointer_part};
 ghost use Rattle.jm_json.specs.Pointer.{cut, name_of, item_named, child as child_of, followed, pointed, stripped};
 
-use crate::tree::{Json, Member, value_at};
+use crate::tree::{Json, Member, find_value};
 
 /// Returns the value that a JSON Pointer names in a tree, if it names one (RFC 6901). An index of a
 /// list is decimal, with no leading zero. It takes no memory.
@@ -59,13 +59,13 @@ pub fn find_child<'a>(tree: &'a Json, part: &[u8]) -> Option<&'a Json>
     ensures { option_map (λ j. tree_of j.now) result ≡ child_of part.now (tree_of tree.now) }
 {
     match tree {
-        Json::List(items) => item_at(items.as_slice(), part),
-        Json::Object(members) => member_at(members.as_slice(), part),
+        Json::List(items) => find_item(items.as_slice(), part),
+        Json::Object(members) => find_member(members.as_slice(), part),
         _ => None,
     }
 }
 
-fn item_at<'a>(items: &'a [Json], part: &[u8]) -> Option<&'a Json>
+fn find_item<'a>(items: &'a [Json], part: &[u8]) -> Option<&'a Json>
     ensures { option_map (λ j. tree_of j.now) result
         ≡ item_named 0 part.now (map tree_of items.now) }
 {
@@ -97,15 +97,15 @@ fn index_of(part: &[u8]) -> Option<usize>
 }
 
 // Returns the value of the member that a part names. A part without escapes is itself the name.
-pub(crate) fn member_at<'a>(members: &'a [Member], part: &[u8]) -> Option<&'a Json>
+pub(crate) fn find_member<'a>(members: &'a [Member], part: &[u8]) -> Option<&'a Json>
     requires { KeysRise (map member_of members.now) }
     ensures { option_map (λ j. tree_of j.now) result
         ≡ option_and_then (λ k. find k (map member_of members.now)) (name_of part.now) }
 {
     if is_plain(part) {
-        return value_at(members, part);
+        return find_value(members, part);
     }
-    written_member(members, part)
+    find_escaped_member(members, part)
 }
 
 fn is_plain(part: &[u8]) -> bool
@@ -119,7 +119,7 @@ fn is_plain(part: &[u8]) -> bool
     true
 }
 
-fn written_member<'a>(members: &'a [Member], part: &[u8]) -> Option<&'a Json>
+fn find_escaped_member<'a>(members: &'a [Member], part: &[u8]) -> Option<&'a Json>
     ensures { option_map (λ j. tree_of j.now) result
         ≡ option_and_then (λ k. find k (map member_of members.now)) (name_of part.now) }
 {
@@ -150,13 +150,13 @@ fn strip<'a>(part: &'a [u8], byte: u8) -> Option<&'a [u8]>
     ensures { option_map (λ m. m.now) result ≡ stripped (pointer_byte byte) part.now }
 {
     match byte {
-        b'~' => after_byte(after_byte(part, b'~')?, b'0'),
-        b'/' => after_byte(after_byte(part, b'~')?, b'1'),
-        _ => after_byte(part, byte),
+        b'~' => skip_byte(skip_byte(part, b'~')?, b'0'),
+        b'/' => skip_byte(skip_byte(part, b'~')?, b'1'),
+        _ => skip_byte(part, byte),
     }
 }
 
-pub(crate) fn after_byte<'a>(part: &'a [u8], byte: u8) -> Option<&'a [u8]>
+pub(crate) fn skip_byte<'a>(part: &'a [u8], byte: u8) -> Option<&'a [u8]>
     ensures { option_map (λ m. m.now) result ≡ stripped (byte ∷ []) part.now }
 {
     if part.is_empty() || part[0] != byte {

@@ -96,7 +96,7 @@ fn read_exactly(alloc: Global, bytes: &[u8]) -> Result<Json, ReadFault>
             return Err(ReadFault::NotJson);
         }
     };
-    match tree_from(alloc, &value) {
+    match build_tree(alloc, &value) {
         Ok(tree) => Ok(tree),
         Err(Misfit::NotWhole(path)) => Err(ReadFault::NotWhole(path)),
         Err(Misfit::NoMemory) => Err(ReadFault::NoMemory),
@@ -104,7 +104,7 @@ fn read_exactly(alloc: Global, bytes: &[u8]) -> Result<Json, ReadFault>
 }
 
 #[cycle(tree)]
-fn tree_from(alloc: Global, value: &Value) -> Result<Json, Misfit>
+fn build_tree(alloc: Global, value: &Value) -> Result<Json, Misfit>
     ensures ok { IfOk result (λ t. data_of (tree_of t) ≡ view value.now) }
     ensures whole { IfOk result (λ t. first_invalid (view value.now) ≡ None) }
     ensures err { IfErr result (λ e. Refuses e (view value.now)) }
@@ -112,17 +112,17 @@ fn tree_from(alloc: Global, value: &Value) -> Result<Json, Misfit>
     match value {
         Value::Null => Ok(Json::Null),
         Value::Bool(b) => Ok(Json::Bool(*b)),
-        Value::Number(number) => match integer_of(number) {
+        Value::Number(number) => match read_integer(number) {
             Some(z) => Ok(Json::Int(z)),
             None => Err(Misfit::NotWhole(Text::from_str(alloc, "")?)),
         },
         Value::String(text) => Ok(Json::Text(Text::from_str(alloc, text.as_str())?)),
-        Value::Array(values) => Ok(Json::List(items_from(alloc, values)?)),
-        Value::Object(values) => Ok(Json::Object(members_from(alloc, values)?)),
+        Value::Array(values) => Ok(Json::List(build_items(alloc, values)?)),
+        Value::Object(values) => Ok(Json::Object(build_members(alloc, values)?)),
     }
 }
 
-fn integer_of(number: &Number) -> Option<i64>
+fn read_integer(number: &Number) -> Option<i64>
     ensures { MatchOption result (is_whole (number_view number.now) ≡ false)
         (λ z. (is_whole (number_view number.now) ≡ true)
         × (number_view number.now ≡ of_integer z)) }
@@ -140,23 +140,23 @@ fn integer_of(number: &Number) -> Option<i64>
 }
 
 #[cycle(tree)]
-fn items_from(alloc: Global, values: &Vec<Value>) -> Result<Items, Misfit>
+fn build_items(alloc: Global, values: &Vec<Value>) -> Result<Items, Misfit>
     ensures ok { IfOk result (λ ts. items_of (trees_of ts) ≡ items_view values.now.items) }
     ensures whole { IfOk result (λ ts. first_invalid_item 0 (items_view values.now.items) ≡ None) }
     ensures err { IfErr result (λ e. Refuses e (array (items_view values.now.items))) }
 {
     let mut items = Items::new(alloc);
     for i in 0..values.len() {
-        match tree_from(alloc, &values[i]) {
+        match build_tree(alloc, &values[i]) {
             Ok(tree) => items.push(tree)?,
-            Err(fault) => return Err(fault_at_index(alloc, i, fault)),
+            Err(fault) => return Err(move_fault_to_list(alloc, i, fault)),
         }
     }
     Ok(items)
 }
 
 #[cycle(tree)]
-fn members_from(alloc: Global, values: &Map<String, Value>) -> Result<Members, Misfit>
+fn build_members(alloc: Global, values: &Map<String, Value>) -> Result<Members, Misfit>
     ensures ok { IfOk result (λ ms. members_of (fields_of ms) ≡ members_view values.now.entries) }
     ensures whole { IfOk result
         (λ ms. first_invalid_member (members_view values.now.entries) ≡ None) }
@@ -164,9 +164,9 @@ fn members_from(alloc: Global, values: &Map<String, Value>) -> Result<Members, M
 {
     let mut members = Members::new(alloc);
     for (name, value) in values.iter() {
-        match tree_from(alloc, value) {
+        match build_tree(alloc, value) {
             Ok(tree) => push_named(alloc, &mut members, name.as_str(), tree)?,
-            Err(fault) => return Err(fault_at_key(alloc, name.as_str(), fault)),
+            Err(fault) => return Err(move_fault_to_object(alloc, name.as_str(), fault)),
         }
     }
     Ok(members)
@@ -181,11 +181,11 @@ fn push_named(alloc: Global, members: &mut Members, name: &str, value: Json) -> 
 }
 
 // Makes the fault of an item a fault of its list.
-fn fault_at_index(alloc: Global, index: usize, fault: Misfit) -> Misfit
+fn move_fault_to_list(alloc: Global, index: usize, fault: Misfit) -> Misfit
     ensures { IsUnder (decimal index) fault result }
 {
     match fault {
-        Misfit::NotWhole(path) => match under_index(alloc, index, path) {
+        Misfit::NotWhole(path) => match join_index_and_path(alloc, index, path) {
             Ok(path) => Misfit::NotWhole(path),
             Err(NoMemory) => Misfit::NoMemory,
         },
@@ -194,11 +194,11 @@ fn fault_at_index(alloc: Global, index: usize, fault: Misfit) -> Misfit
 }
 
 // Makes the fault of a member's value a fault of its object.
-fn fault_at_key(alloc: Global, key: &str, fault: Misfit) -> Misfit
+fn move_fault_to_object(alloc: Global, key: &str, fault: Misfit) -> Misfit
     ensures { IsUnder (pointer_part key.now) fault result }
 {
     match fault {
-        Misfit::NotWhole(path) => match under_key(alloc, key, path) {
+        Misfit::NotWhole(path) => match join_key_and_path(alloc, key, path) {
             Ok(path) => Misfit::NotWhole(path),
             Err(NoMemory) => Misfit::NoMemory,
         },
@@ -206,7 +206,7 @@ fn fault_at_key(alloc: Global, key: &str, fault: Misfit) -> Misfit
     }
 }
 
-fn under_index(alloc: Global, index: usize, path: Text) -> Result<Text, NoMemory>
+fn join_index_and_path(alloc: Global, index: usize, path: Text) -> Result<Text, NoMemory>
     ensures { IfOk result (λ t. t ≡ under (decimal index) path) }
 {
     let rest = path.as_str();
@@ -225,7 +225,7 @@ fn push_pointer_byte(pointer: &mut Vec<u8>, byte: u8) -> Result<(), AllocError>
 }
 
 // Returns the part of a JSON Pointer that names this key.
-fn pointer_to(alloc: Global, key: &str) -> Result<Vec<u8>, AllocError>
+fn write_pointer_part(alloc: Global, key: &str) -> Result<Vec<u8>, AllocError>
     ensures { IfOk result (λ bytes. bytes.items ≡ 47 ∷ pointer_part key.now) }
 {
     let mut bytes = vec![in alloc; b'/']?;
@@ -235,10 +235,10 @@ fn pointer_to(alloc: Global, key: &str) -> Result<Vec<u8>, AllocError>
     Ok(bytes)
 }
 
-fn under_key(alloc: Global, key: &str, path: Text) -> Result<Text, NoMemory>
+fn join_key_and_path(alloc: Global, key: &str, path: Text) -> Result<Text, NoMemory>
     ensures { IfOk result (λ t. t ≡ under (pointer_part key.now) path) }
 {
-    let mut bytes = pointer_to(alloc, key)?;
+    let mut bytes = write_pointer_part(alloc, key)?;
     bytes.extend_from_slice(path.as_bytes())?;
     match Text::from_utf8(bytes) {
         Some(text) => Ok(text),

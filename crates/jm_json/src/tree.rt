@@ -255,7 +255,7 @@ impl Members {
     pub fn get(&self, name: &str) -> Option<&Json>
         ensures { option_map (λ j. tree_of j.now) result ≡ find name.now self.now }
     {
-        value_at(self.members.as_slice(), name.as_bytes())
+        find_value(self.members.as_slice(), name.as_bytes())
     }
 
     // Returns whether a key comes after all keys of the object.
@@ -314,7 +314,7 @@ impl Members {
 }
 
 // Lends the value at a key.
-pub(crate) fn value_at<'a>(members: &'a [Member], name: &[u8]) -> Option<&'a Json>
+pub(crate) fn find_value<'a>(members: &'a [Member], name: &[u8]) -> Option<&'a Json>
     requires { KeysRise (map member_of members.now) }
     ensures { option_map (λ j. tree_of j.now) result ≡ find name.now (map member_of members.now) }
 {

@@ -28,7 +28,7 @@ impl Command {
         ensures { result ≡ command_of (map string_bytes words.now) }
     {
         match words {
-            [word] => Command::named(word.as_str()),
+            [word] => Command::find_by_name(word.as_str()),
             [word, _, _, port, count] => Command::serving(
                 word.as_str(),
                 port.as_str(),
@@ -38,7 +38,7 @@ impl Command {
         }
     }
 
-    fn named(word: &str) -> Option<Command>
+    fn find_by_name(word: &str) -> Option<Command>
         ensures { result ≡ command_named word.now }
     {
         if word == "batch" {

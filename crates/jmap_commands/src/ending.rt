@@ -13,7 +13,7 @@ impl Status {
     ghost use Rattle.std.specs.Process.{exit_status};
 
     /// Returns the exit code of the process.
-    pub fn exit_code(self) -> ExitCode
+    pub fn build_exit_code(self) -> ExitCode
         ensures { exit_status result ≡ self.0 }
     {
         ExitCode::from(self.0)

@@ -70,7 +70,7 @@ impl Keeper for UnfailingKeeper {
 }
 
 // Returns the fault of an allocation, which is the only one where nothing is kept in memory.
-fn no_memory(fault: StartFault) -> NoMemory
+fn convert_start_fault(fault: StartFault) -> NoMemory
     requires only { fault ≡ TheFault.NoMemory }
 {
     let _fault = fault;
@@ -90,6 +90,6 @@ pub fn begin_book<R: Rules>(alloc: Global, rules: R) -> Result<Book<UnfailingKee
     };
     match Book::start(alloc, UnfailingKeeper::new(alloc, kept), rules) {
         Ok(book) => Ok(book),
-        Err((fault, _)) => Err(no_memory(fault)),
+        Err((fault, _)) => Err(convert_start_fault(fault)),
     }
 }

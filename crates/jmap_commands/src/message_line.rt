@@ -17,11 +17,11 @@ use std::alloc::Global;
 pub(crate) fn message_line(alloc: Global, message: Bytes) -> Result<Bytes, NoMemory>
     ensures { IfOk result (λ b. b ≡ read_out message) }
 {
-    let tree = message_tree(alloc, message)?;
-    json_line(alloc, &tree)
+    let tree = build_message_tree(alloc, message)?;
+    build_json_line(alloc, &tree)
 }
 
-fn json_line(alloc: Global, tree: &Json) -> Result<Bytes, NoMemory>
+fn build_json_line(alloc: Global, tree: &Json) -> Result<Bytes, NoMemory>
     ensures { IfOk result (λ b. b ≡ line_text (json_of tree.now)) }
 {
     let mut line = Bytes::new(alloc);
@@ -30,7 +30,7 @@ fn json_line(alloc: Global, tree: &Json) -> Result<Bytes, NoMemory>
 }
 
 // Returns the value that is shown of a message.
-fn message_tree(alloc: Global, message: Bytes) -> Result<Json, NoMemory>
+fn build_message_tree(alloc: Global, message: Bytes) -> Result<Json, NoMemory>
     ensures { IfOk result (λ t. json_of t ≡ read_tree message) }
 {
     let wanted = build_wanted_for_read(alloc)?;

@@ -12,7 +12,7 @@ const CONFIGURATION: &str =
     r#"{"users":[{"accounts":[{"id":"A1","name":"A1","readOnly":false}],"name":"batch","token":"batch"}]}"#;
 
 // Returns the fault of an allocation, which is the only one where the configuration is of its form.
-fn no_memory(fault: ConfigFault) -> NoMemory
+fn convert_config_fault(fault: ConfigFault) -> NoMemory
     requires only { fault ≡ TheFault.NoMemory }
 {
     let _fault = fault;
@@ -25,6 +25,6 @@ pub(crate) fn build_users(alloc: Global) -> Result<Users, NoMemory>
 {
     match read_users(alloc, CONFIGURATION.as_bytes()) {
         Ok(users) => Ok(users),
-        Err(fault) => Err(no_memory(fault)),
+        Err(fault) => Err(convert_config_fault(fault)),
     }
 }

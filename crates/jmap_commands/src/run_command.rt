@@ -182,7 +182,7 @@ fn answer_batch<W: Wait, S: Source, O: Sink>(
         (seen S.left S.faults source.old source.new O.held O.faults out.old out.new) }
 {
     match open_batch(alloc) {
-        Ok((users, hall, front, passes)) => ending_of(answer_alone(
+        Ok((users, hall, front, passes)) => find_batch_ending(answer_alone(
             rt, alloc, &users, hall, front, passes, source, out,
         )),
         Err(_) => Ending::NoMemory,
@@ -190,7 +190,7 @@ fn answer_batch<W: Wait, S: Source, O: Sink>(
 }
 
 // Returns how a run ends whose lines were answered so.
-fn ending_of(answered: Result<(), LinesFault>) -> Ending
+fn find_batch_ending(answered: Result<(), LinesFault>) -> Ending
     ensures { result ≡ ending_of answered }
 {
     match answered {

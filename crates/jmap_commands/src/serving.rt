@@ -31,7 +31,7 @@ impl RulesSource for MailRulesSource {
 }
 
 // Returns the line that says which row of an account is damaged, and why.
-fn damaged_line(alloc: Global, row: u64, reason: Reason) -> Result<Text, NoMemory>
+fn build_damaged_line(alloc: Global, row: u64, reason: Reason) -> Result<Text, NoMemory>
     ensures { IfOk result (λ line. line ≡ damaged_text row reason) }
 {
     let line = match reason {
@@ -45,30 +45,30 @@ fn damaged_line(alloc: Global, row: u64, reason: Reason) -> Result<Text, NoMemor
 }
 
 // Returns the line that says which place of the configuration is bad.
-fn bad_config_line(alloc: Global, place: &str) -> Result<Text, NoMemory>
+fn build_bad_config_line(alloc: Global, place: &str) -> Result<Text, NoMemory>
     ensures { IfOk result (λ line. line ≡ bad_config_text place.now) }
 {
     Ok(Text::from_string(format!(in alloc; "bad config: {place}\n")?))
 }
 
 // Returns the line that says how many connections were served.
-fn served_line(alloc: Global, count: u64) -> Result<Text, NoMemory>
+fn build_served_line(alloc: Global, count: u64) -> Result<Text, NoMemory>
     ensures { IfOk result (λ line. line ≡ served_text count) }
 {
     Ok(Text::from_string(format!(in alloc; "served {count}\n")?))
 }
 
 // Returns how a run ends whose server ended with this fault.
-fn ending_of(alloc: Global, fault: ServeFault) -> Ending
+fn find_serve_ending(alloc: Global, fault: ServeFault) -> Ending
     ensures { IsFaultEnding fault result }
 {
     match fault {
-        ServeFault::BadConfig(place) => match bad_config_line(alloc, place.as_str()) {
+        ServeFault::BadConfig(place) => match build_bad_config_line(alloc, place.as_str()) {
             Ok(line) => Ending::BadConfig(line),
             Err(_) => Ending::NoMemory,
         },
         ServeFault::KeeperFault => Ending::KeeperFault,
-        ServeFault::Damaged { row, reason } => match damaged_line(alloc, row, reason) {
+        ServeFault::Damaged { row, reason } => match build_damaged_line(alloc, row, reason) {
             Ok(line) => Ending::Damaged(line),
             Err(_) => Ending::NoMemory,
         },
@@ -82,7 +82,7 @@ fn say_served<O: Sink>(alloc: Global, count: u64, out: &mut O) -> Ending
     ensures { Written result (O.held out.old) (O.held out.new) (O.faults out.old)
         (O.faults out.new) (served_text count) }
 {
-    match served_line(alloc, count) {
+    match build_served_line(alloc, count) {
         Ok(line) => match put_all(out, line.as_str().as_bytes()) {
             Ok(()) => Ending::Done,
             Err(_) => Ending::WriteFault,
@@ -114,7 +114,7 @@ fn serve_texts<H: Threads + Wait + Sync, W: World, F: RulesSource, O: Sink>(
 {
     match serve(rt, alloc, world, rules, config, folder, port, count) {
         Ok(()) => say_served(alloc, count, out),
-        Err(fault) => ending_of(alloc, fault),
+        Err(fault) => find_serve_ending(alloc, fault),
     }
 }
 
@@ -141,17 +141,17 @@ pub(crate) fn serve_words<H: Threads + Wait + Sync, W: World, F: RulesSource, O:
     ensures written { WritesServed result count (O.held out.old) (O.held out.new)
         (O.faults out.old) (O.faults out.new) }
 {
-    let Ok(config) = Text::from_str(alloc, word_at(words, 1)) else {
+    let Ok(config) = Text::from_str(alloc, find_argument_at(words, 1)) else {
         return Ending::NoMemory;
     };
-    let Ok(folder) = Text::from_str(alloc, word_at(words, 2)) else {
+    let Ok(folder) = Text::from_str(alloc, find_argument_at(words, 2)) else {
         return Ending::NoMemory;
     };
     serve_texts(rt, alloc, world, rules, &config, &folder, port, count, out)
 }
 
 // Lends the argument at an index.
-fn word_at(words: &[String], place: usize) -> &str
+fn find_argument_at(words: &[String], place: usize) -> &str
     requires { place < length words.now }
     ensures { result.now ≡ slice_index_or (map string_bytes words.now) place [] }
 {

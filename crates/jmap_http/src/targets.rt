@@ -42,7 +42,7 @@ fn find_account<'a>(accounts: &'a [UserAccount], id: &[u8]) -> Option<&'a UserAc
 }
 
 // Returns uploads to an account, unless it is read-only.
-fn upload_to(account: Option<&UserAccount>) -> Resource<'_>
+fn find_account_upload(account: Option<&UserAccount>) -> Resource<'_>
     ensures { resource_as result ≡ upload_to (option_map (λ a. a.now) account.entry) }
 {
     match account {
@@ -61,7 +61,7 @@ fn find_upload<'a>(accounts: &'a [UserAccount], rest: &[u8]) -> Resource<'a>
     ensures { resource_as result ≡ upload_resource accounts.now rest.now }
 {
     match strip_end(b"/", rest) {
-        Some(id) => upload_to(find_account(accounts, id)),
+        Some(id) => find_account_upload(find_account(accounts, id)),
         None => Resource::Missing,
     }
 }

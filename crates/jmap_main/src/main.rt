@@ -12,7 +12,7 @@ use std::{env, io};
 
 fn main(rt: HostRuntime) -> ExitCode {
     let mut err = Writing::new(rt.stderr());
-    match words_of(&rt) {
+    match collect_arguments(&rt) {
         Ok(words) => {
             let mut source = Reading::new(rt.stdin());
             let mut out = Writing::new(rt.stdout());
@@ -25,9 +25,9 @@ fn main(rt: HostRuntime) -> ExitCode {
                 &mut err,
                 HostFiles { rt },
             );
-            status.exit_code()
+            status.build_exit_code()
         }
-        Err(refused) => refused.say(&mut err).exit_code(),
+        Err(refused) => refused.say(&mut err).build_exit_code(),
     }
 }
 
@@ -46,7 +46,7 @@ fn run_on_host<S: Source, O: Sink, E: Sink, M: MakesKeepers>(
 }
 
 // Returns the arguments after the program's name. Arguments that are not UTF-8 name no command.
-fn words_of(rt: &(impl env::Env + AllocGlobal)) -> Result<Vec<String>, Ending> {
+fn collect_arguments(rt: &(impl env::Env + AllocGlobal)) -> Result<Vec<String>, Ending> {
     let all = match env::args(rt) {
         Ok(all) => all,
         Err(refused) => {

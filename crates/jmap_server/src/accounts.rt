@@ -17,7 +17,7 @@ use jm_edge::EdgeFault;
 use std::alloc::Global;
 
 /// Returns how a server ends whose world failed.
-pub(crate) fn fault_of(fault: EdgeFault) -> ServeFault
+pub(crate) fn build_world_fault(fault: EdgeFault) -> ServeFault
     ensures { result ≡ fault_of fault }
 {
     match fault {
@@ -93,7 +93,7 @@ fn open_account<W: World, F: RulesSource>(
     };
     match world.keeper(alloc, folder, id) {
         Ok(keeper) => open_over(alloc, world, source.rules(), name, keeper),
-        Err(fault) => Err(fault_of(fault)),
+        Err(fault) => Err(build_world_fault(fault)),
     }
 }
 

@@ -12,7 +12,7 @@ ghost use Rattle.jmap_server.specs.Lines.{sight_of};
 ghost use Rattle.jmap_server.specs.Openings.{opened_by, openings_of};
 ghost use Rattle.jmap_server.specs.Serving.{HasRun, HasServedHall, HasServedOrNot, HasServedPort, HasServedUsers, IsCaused, config_fault_of, end_of, names_in};
 
-use crate::accounts::{close_accounts, close_hall, fault_of, open_accounts};
+use crate::accounts::{build_world_fault, close_accounts, close_hall, open_accounts};
 use crate::fault::ServeFault;
 use crate::lines::serve_lines;
 use crate::rules_source::RulesSource;
@@ -95,7 +95,7 @@ fn end_of(done: Result<(), EdgeFault>) -> Result<(), ServeFault>
 {
     match done {
         Ok(()) => Ok(()),
-        Err(fault) => Err(fault_of(fault)),
+        Err(fault) => Err(build_world_fault(fault)),
     }
 }
 
@@ -201,14 +201,14 @@ pub fn serve<H: Threads + Wait + Sync, W: World, F: RulesSource>(
     match world.text(alloc, config) {
         Ok(bytes) => match read_users(alloc, bytes.as_slice()) {
             Ok(users) => serve_users(rt, alloc, world, source, &users, folder, port, count),
-            Err(fault) => Err(config_fault_of(fault)),
+            Err(fault) => Err(build_config_fault(fault)),
         },
-        Err(fault) => Err(fault_of(fault)),
+        Err(fault) => Err(build_world_fault(fault)),
     }
 }
 
 // Returns how a server ends whose configuration is not read.
-fn config_fault_of(fault: ConfigFault) -> ServeFault
+fn build_config_fault(fault: ConfigFault) -> ServeFault
     ensures { result ≡ config_fault_of fault }
 {
     match fault {

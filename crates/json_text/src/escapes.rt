@@ -20,7 +20,7 @@ const LETTERS: [u8; 256] = [
 
 /// Returns the entry of a table for a byte.
 #[inline(always)]
-fn entry(table: &[u8; 256], byte: u8) -> u8
+fn find_entry(table: &[u8; 256], byte: u8) -> u8
     ensures { result ≡ slice_index table.now byte }
 {
     table[byte as usize]
@@ -28,14 +28,14 @@ fn entry(table: &[u8; 256], byte: u8) -> u8
 
 /// Returns the letter of the short escape of a byte, or 0 if it has none.
 #[inline(always)]
-fn letter_of(byte: u8) -> u8
+fn find_escape_letter(byte: u8) -> u8
     ensures { result ≡ escape_letter byte }
 {
-    entry(&LETTERS, byte)
+    find_entry(&LETTERS, byte)
 }
 
 /// Returns a hexadecimal digit, in lower case.
-fn digit_of(value: u8) -> u8
+fn find_hex_digit(value: u8) -> u8
     requires { value < 16 }
     ensures { result ≡ digit_char value }
 {
@@ -54,8 +54,8 @@ fn push_code(out: &mut Vec<u8>, byte: u8) -> Result<(), NoMemory>
     requires control { byte < 32 }
     ensures { OnOk result (out.new.items ≡ out.old.items ++ escape_byte byte) }
 {
-    let high = digit_of(byte / 16);
-    let low = digit_of(byte % 16);
+    let high = find_hex_digit(byte / 16);
+    let low = find_hex_digit(byte % 16);
     out.extend_from_slice(&[b'\\', b'u', b'0', b'0', high, low])?;
     Ok(())
 }
@@ -65,7 +65,7 @@ fn push_code(out: &mut Vec<u8>, byte: u8) -> Result<(), NoMemory>
 pub(crate) fn push_byte(out: &mut Vec<u8>, byte: u8) -> Result<(), NoMemory>
     ensures { OnOk result (out.new.items ≡ out.old.items ++ escape_byte byte) }
 {
-    let letter = letter_of(byte);
+    let letter = find_escape_letter(byte);
     if letter > 0 {
         out.extend_from_slice(&[b'\\', letter])?;
         return Ok(());

@@ -38,13 +38,13 @@ impl MemoryKeeper {
         ensures clean { LeavesContent (Some result.kept) (may_be_left result) }
     {
         let none = Numbers::new(alloc);
-        MemoryKeeper::failing(alloc, kept, none, Numbers::new(alloc), Numbers::new(alloc))
+        MemoryKeeper::build_failing(alloc, kept, none, Numbers::new(alloc), Numbers::new(alloc))
     }
 
     #[tactic(auto, using(crate::proofs::Left::nothing_refused, crate::proofs::Left::kept_is_left))]
     /// Returns a keeper of this content that fails at the listed calls of `load`, `append` and
     /// `replace`.
-    pub fn failing(
+    pub fn build_failing(
         alloc: Global,
         kept: Kept,
         loads: Numbers,

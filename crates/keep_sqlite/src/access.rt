@@ -55,7 +55,7 @@ pub enum LazyConnection<S: Alter + Drop, O: Opens<S>> {
 }
 
 impl<S: Alter + Drop, O: Opens<S>> LazyConnection<S, O> {
-    fn connection(&mut self) -> Result<&mut Connection<S>, Error> {
+    fn open_if_needed(&mut self) -> Result<&mut Connection<S>, Error> {
         if let LazyConnection::At(opener) = self {
             let opened = opener.open()?;
             *self = LazyConnection::Open(opened);
@@ -67,15 +67,15 @@ impl<S: Alter + Drop, O: Opens<S>> LazyConnection<S, O> {
     }
 
     fn load(&mut self, alloc: Global) -> Result<Rows, Error> {
-        database::load(alloc, self.connection()?)
+        database::load(alloc, self.open_if_needed()?)
     }
 
     fn append(&mut self, alloc: Global, last: Option<i64>, row: &[u8]) -> Result<i64, Error> {
-        database::append(alloc, self.connection()?, last, row)
+        database::append(alloc, self.open_if_needed()?, last, row)
     }
 
     fn replace(&mut self, alloc: Global, last: Option<i64>, rows: &[Bytes]) -> Result<i64, Error> {
-        database::replace(alloc, self.connection()?, last, rows)
+        database::replace(alloc, self.open_if_needed()?, last, rows)
     }
 }
 

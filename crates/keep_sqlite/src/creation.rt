@@ -55,11 +55,11 @@ fn create<D: Disk + Drop>(
     };
     match unopened.create() {
         Ok(_store) => Ok(()),
-        Err((error, _unopened)) => Err(error_of(error)),
+        Err((error, _unopened)) => Err(convert_create_error(error)),
     }
 }
 
-fn error_of(error: OpenError) -> Error {
+fn convert_create_error(error: OpenError) -> Error {
     match error {
         OpenError::OutOfMemory => NO_MEMORY,
         _ => CANNOT_CREATE,

@@ -58,11 +58,11 @@ fn open_pair<S: Start>(rt: &HostRuntime, path: &str, start: S) -> Result<Files<F
 {
     match sqlite_std_file::open(rt, path, start) {
         Ok(files) => Ok(files),
-        Err(fault) => Err(error_of(fault)),
+        Err(fault) => Err(convert_open_error(fault)),
     }
 }
 
-fn error_of(fault: OpenError) -> Error {
+fn convert_open_error(fault: OpenError) -> Error {
     match fault {
         OpenError::OutOfMemory => NO_MEMORY,
         OpenError::Io(error) if error.kind() == ErrorKind::OutOfMemory => NO_MEMORY,
@@ -77,8 +77,10 @@ fn choose_options(rt: &HostRuntime, path: &str) -> Result<Options, Error> {
     let mut options = Options::new(state.hash_one(&0u8));
     let page_bytes = read_page_bytes(rt, path).unwrap_or(NEW_PAGE_BYTES as u64);
     let cache_bytes = count_cache_bytes(rt, path).unwrap_or(0);
-    options.cache_pages = options.cache_pages.max(pages_of(cache_bytes, page_bytes));
-    options.checkpoint_frames = pages_of(LOG_BYTES, page_bytes);
+    options.cache_pages = options
+        .cache_pages
+        .max(count_pages(cache_bytes, page_bytes));
+    options.checkpoint_frames = count_pages(LOG_BYTES, page_bytes);
     Ok(options)
 }
 
@@ -93,7 +95,7 @@ fn count_cache_bytes(rt: &HostRuntime, path: &str) -> io::Result<u64> {
 }
 
 // Returns how many pages so many bytes are.
-fn pages_of(bytes: u64, page_bytes: u64) -> usize {
+fn count_pages(bytes: u64, page_bytes: u64) -> usize {
     let pages = bytes.checked_div(page_bytes).unwrap_or(0);
     usize::try_from(pages).unwrap_or(0)
 }
@@ -105,12 +107,12 @@ fn read_page_bytes(rt: &HostRuntime, path: &str) -> io::Result<u64> {
     }
     let mut head = [0u8; 18];
     let count = fs::open(rt, path)?.read(&mut head)?;
-    Ok(page_bytes(count, head[16], head[17]))
+    Ok(parse_page_bytes(count, head[16], head[17]))
 }
 
 // Returns how many bytes a page has, as these two bytes of the header say if so many are there. A
 // header that says too few is damaged.
-fn page_bytes(count: usize, high: u8, low: u8) -> u64 {
+fn parse_page_bytes(count: usize, high: u8, low: u8) -> u64 {
     if count < 18 {
         return NEW_PAGE_BYTES as u64;
     }

@@ -81,7 +81,7 @@ pub(crate) fn plan_bytes(alloc: Global, account: &Account, name: &str) -> Result
 }
 
 /// Returns the state of a kind of record.
-pub(crate) fn state_in(account: &Account, kind: Kind) -> u64
+pub(crate) fn find_state(account: &Account, kind: Kind) -> u64
     ensures { result ≡ state_of account.now.history kind }
 {
     account.log().state_of(kind)
@@ -92,9 +92,9 @@ pub(crate) fn plan_states(alloc: Global, account: &Account) -> Plan
     ensures { result ≡ reading (Out.States (state_of account.now.history kind.Mailbox)
         (state_of account.now.history kind.Email) (state_of account.now.history kind.Thread)) }
 {
-    let mailbox = state_in(account, Kind::Mailbox);
-    let email = state_in(account, Kind::Email);
-    let thread = state_in(account, Kind::Thread);
+    let mailbox = find_state(account, Kind::Mailbox);
+    let email = find_state(account, Kind::Email);
+    let thread = find_state(account, Kind::Thread);
     plan_reading(
         alloc,
         Out::States {

@@ -16,7 +16,7 @@ ghost use Rattle.account_book.specs.Accounts.{IsBounded};
 ghost use Rattle.account_book.specs.Plans.{last_moment};
 ghost use Rattle.account_book.specs.declared.plans.Plan.{Plan as ThePlan};
 
-use crate::blobs::state_in;
+use crate::blobs::find_state;
 use crate::methods::{Method, read_method};
 use account_book::{Account, Out, Plan};
 use change_calls::{CallFault, answer_changes};
@@ -69,7 +69,7 @@ fn plan_reply(alloc: Global, response: Invocation) -> Result<Plan, NoMemory>
 pub(crate) fn plan_error(alloc: Global, call: &Invocation, kind: &str) -> Result<Plan, NoMemory>
     ensures { IfOk result (λ p. p ≡ refused (call_of call.now) kind.now) }
 {
-    let response = Invocation::error(alloc, kind, call.id.copy()?)?;
+    let response = Invocation::build_error_response(alloc, kind, call.id.copy()?)?;
     plan_reply(alloc, response)
 }
 
@@ -136,7 +136,7 @@ fn find_changes(
     ensures fault { IfErr result (λ fault. ExplainsCall fault
         (changes_outcome account.now.history kind (tree_of args.now))) }
 {
-    account.edits_fit();
+    account.has_fitting_edits();
     answer_changes(alloc, account.log(), kind, args)
 }
 
@@ -174,7 +174,7 @@ fn find_results(
         alloc,
         blobs: account.blobs(),
     };
-    let state = state_in(account, kind);
+    let state = find_state(account, kind);
     answer_query(alloc, kind, state, account.content(), &texts, args)
 }
 

@@ -20,7 +20,7 @@ use crate::MailboxCounts;
 use crate::members::{Member, Members};
 use crate::overlaid::Overlaid;
 use crate::tally::Tally;
-use crate::touched::{is_one_of, put_in_order, touched_emails, touched_threads};
+use crate::touched::{collect_touched_emails, collect_touched_threads, is_one_of, put_in_order};
 use jm_base::{NoMemory, Numbers};
 use mail_records::{Content, Edit, Edits, Email, Mailbox, Record, Thread};
 use std::alloc::Global;
@@ -46,7 +46,7 @@ fn add_if_of<'a>(
 }
 
 // Returns the emails of these numbers that are of these threads.
-fn emails_among<'a>(
+fn collect_emails_of_threads<'a>(
     alloc: Global,
     content: &Overlaid<'a>,
     numbers: &[u64],
@@ -64,7 +64,10 @@ fn emails_among<'a>(
 }
 
 /// Returns emails as the members of their threads.
-pub(crate) fn thread_members(alloc: Global, emails: &[&Email]) -> Result<Vec<Member>, NoMemory>
+pub(crate) fn collect_thread_members(
+    alloc: Global,
+    emails: &[&Email],
+) -> Result<Vec<Member>, NoMemory>
     ensures { IfOk result (λ v. v.items ≡ thread_members (map (λ r. r.now) emails.now)) }
 {
     let mut members = Vec::new(alloc);
@@ -79,7 +82,7 @@ pub(crate) fn thread_members(alloc: Global, emails: &[&Email]) -> Result<Vec<Mem
 }
 
 /// Returns the numbers of members.
-pub(crate) fn numbers_of(alloc: Global, members: &[Member]) -> Result<Vec<u64>, NoMemory>
+pub(crate) fn collect_numbers(alloc: Global, members: &[Member]) -> Result<Vec<u64>, NoMemory>
     ensures { IfOk result (λ v. v.items ≡ map member_number members.now) }
 {
     let mut numbers = Vec::new(alloc);
@@ -136,7 +139,7 @@ fn add_thread_edits(
         ++ flat_map (listed_edits content.now members.now) threads.now) }
 {
     for thread in threads {
-        let emails = numbers_of(alloc, members.of_group(*thread))?;
+        let emails = collect_numbers(alloc, members.of_group(*thread))?;
         add_edits_of_thread(edits, *thread, emails, content.thread(*thread))?;
     }
     Ok(())
@@ -154,7 +157,11 @@ fn count_after(own: u64, added: u64, taken: u64) -> u64
 }
 
 // Returns a mailbox's counts with what is added and without what is taken.
-fn counts_after(own: &MailboxCounts, added: &MailboxCounts, taken: &MailboxCounts) -> MailboxCounts
+fn compute_counts_after(
+    own: &MailboxCounts,
+    added: &MailboxCounts,
+    taken: &MailboxCounts,
+) -> MailboxCounts
     ensures { result ≡ counts_after own.now added.now taken.now }
 {
     MailboxCounts {
@@ -170,7 +177,7 @@ fn counts_after(own: &MailboxCounts, added: &MailboxCounts, taken: &MailboxCount
 }
 
 /// Returns the counts that a mailbox has.
-pub(crate) fn own_counts(mailbox: &Mailbox) -> MailboxCounts
+pub(crate) fn copy_counts(mailbox: &Mailbox) -> MailboxCounts
     ensures { result ≡ own_counts mailbox.now }
 {
     MailboxCounts {
@@ -217,7 +224,7 @@ fn add_put_of_counts(
     ensures { OnOk result (edits.new.items ≡ edits.old.items
         ++ put_counts counts.now mailbox.now) }
 {
-    if are_equal_counts(&own_counts(mailbox), counts) {
+    if are_equal_counts(&copy_counts(mailbox), counts) {
         return Ok(());
     }
     let item = with_counts(alloc, mailbox, counts)?;
@@ -243,7 +250,7 @@ fn add_count_edit(
     };
     let added = are.counts(mailbox.number);
     let taken = were.counts(mailbox.number);
-    let counts = counts_after(&own_counts(mailbox), &added, &taken);
+    let counts = compute_counts_after(&copy_counts(mailbox), &added, &taken);
     add_put_of_counts(alloc, edits, mailbox, &counts)?;
     Ok(())
 }
@@ -268,7 +275,7 @@ fn add_count_edits(
 }
 
 // Returns the numbers of the mailboxes whose counts may change.
-fn counted_mailboxes(alloc: Global, were: &Tally, are: &Tally) -> Result<Vec<u64>, NoMemory>
+fn collect_counted_mailboxes(alloc: Global, were: &Tally, are: &Tally) -> Result<Vec<u64>, NoMemory>
     ensures is { IfOk result (λ v. v.items ≡ rising (map member_group were.now.total_emails
         ++ map member_group are.now.total_emails)) }
     ensures rise { IfOk result (λ v. NumbersRise v.items) }
@@ -292,7 +299,7 @@ fn add_listed_edits(
         ++ flat_map (listed_edits content.now (sorted_once member_cmp
         (thread_members (map (λ r. r.now) emails.now)))) threads.now) }
 {
-    let members = Members::new(thread_members(alloc, emails)?);
+    let members = Members::new(collect_thread_members(alloc, emails)?);
     add_thread_edits(alloc, edits, content, &members, threads)?;
     Ok(())
 }
@@ -310,7 +317,7 @@ fn add_counted_edits(
         (rising (map member_group were.now.total_emails
         ++ map member_group are.now.total_emails))) }
 {
-    let mailboxes = counted_mailboxes(alloc, were, are)?;
+    let mailboxes = collect_counted_mailboxes(alloc, were, are)?;
     add_count_edits(alloc, edits, content, were, are, &mailboxes)
 }
 
@@ -335,15 +342,19 @@ fn add_recounted(
 }
 
 // Returns the edits that follow from edits of a content.
-fn found_edits(alloc: Global, before: &Content, edits: &[Edit]) -> Result<Vec<Edit>, NoMemory>
+fn build_derived_edits(
+    alloc: Global,
+    before: &Content,
+    edits: &[Edit],
+) -> Result<Vec<Edit>, NoMemory>
     ensures { IfOk result (λ v. v.items ≡ derived_edits before.now.content edits.now) }
 {
-    let threads = touched_threads(alloc, edits)?;
-    let numbers = touched_emails(alloc, before, edits, &threads)?;
+    let threads = collect_touched_threads(alloc, edits)?;
+    let numbers = collect_touched_emails(alloc, before, edits, &threads)?;
     let old = Overlaid::new(alloc, before, &[])?;
     let new = Overlaid::new(alloc, before, edits)?;
-    let emails_before = emails_among(alloc, &old, &numbers, &threads)?;
-    let emails_after = emails_among(alloc, &new, &numbers, &threads)?;
+    let emails_before = collect_emails_of_threads(alloc, &old, &numbers, &threads)?;
+    let emails_after = collect_emails_of_threads(alloc, &new, &numbers, &threads)?;
     let mut all = Vec::new(alloc);
     add_listed_edits(alloc, &mut all, &new, &emails_after, &threads)?;
     add_recounted(alloc, &mut all, &new, &emails_before, &emails_after)?;
@@ -384,6 +395,6 @@ pub fn derived(alloc: Global, before: &Content, edits: &[Edit]) -> Result<Edits,
     let _mailboxes = before.mailboxes();
     let _emails = before.emails();
     let _threads = before.threads();
-    let more = found_edits(alloc, before, edits)?;
+    let more = build_derived_edits(alloc, before, edits)?;
     Ok(Edits::from_vec(more))
 }

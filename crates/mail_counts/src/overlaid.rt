@@ -14,7 +14,7 @@ use std::collections::BTreeMap;
 use std::marker::Model;
 
 // Returns the number of the record that an edit puts or drops.
-fn number_of(edit: &Edit) -> u64
+fn find_record_number(edit: &Edit) -> u64
     ensures { result ≡ (id_of edit.now).number }
 {
     match edit {
@@ -28,7 +28,7 @@ fn number_of(edit: &Edit) -> u64
 }
 
 // Returns the mailbox that an edit puts.
-fn mailbox_put(edit: &Edit) -> Option<&Mailbox>
+fn find_put_mailbox(edit: &Edit) -> Option<&Mailbox>
     ensures { option_map (λ r. r.now) result ≡ mailbox_put edit.now }
 {
     match edit {
@@ -38,7 +38,7 @@ fn mailbox_put(edit: &Edit) -> Option<&Mailbox>
 }
 
 // Returns the email that an edit puts.
-fn email_put(edit: &Edit) -> Option<&Email>
+fn find_put_email(edit: &Edit) -> Option<&Email>
     ensures { option_map (λ r. r.now) result ≡ email_put edit.now }
 {
     match edit {
@@ -48,7 +48,7 @@ fn email_put(edit: &Edit) -> Option<&Email>
 }
 
 // Returns the thread that an edit puts.
-fn thread_put(edit: &Edit) -> Option<&Thread>
+fn find_put_thread(edit: &Edit) -> Option<&Thread>
     ensures { option_map (λ r. r.now) result ≡ thread_put edit.now }
 {
     match edit {
@@ -58,7 +58,7 @@ fn thread_put(edit: &Edit) -> Option<&Thread>
 }
 
 // Returns the last edit of each record of a kind.
-fn last_edits<'a>(
+fn collect_last_edits<'a>(
     alloc: Global,
     edits: &'a [Edit],
     kind: Kind,
@@ -69,7 +69,7 @@ fn last_edits<'a>(
     let mut last = BTreeMap::new(alloc);
     for edit in edits {
         if edit.kind() == kind {
-            last.insert(number_of(edit), edit)?;
+            last.insert(find_record_number(edit), edit)?;
         }
     }
     Ok(last)
@@ -120,9 +120,9 @@ impl<'a> Overlaid<'a> {
         let _mailboxes = content.mailboxes();
         let _emails = content.emails();
         let _threads = content.threads();
-        let mailboxes = last_edits(alloc, edits, Kind::Mailbox)?;
-        let emails = last_edits(alloc, edits, Kind::Email)?;
-        let threads = last_edits(alloc, edits, Kind::Thread)?;
+        let mailboxes = collect_last_edits(alloc, edits, Kind::Mailbox)?;
+        let emails = collect_last_edits(alloc, edits, Kind::Email)?;
+        let threads = collect_last_edits(alloc, edits, Kind::Thread)?;
         Ok(Overlaid {
             content,
             edits,
@@ -138,7 +138,7 @@ impl<'a> Overlaid<'a> {
     {
         let _mailboxes = self.content.mailboxes();
         match self.mailboxes.get(&number) {
-            Some(edit) => mailbox_put(edit),
+            Some(edit) => find_put_mailbox(edit),
             None => self.content.mailbox(number),
         }
     }
@@ -149,7 +149,7 @@ impl<'a> Overlaid<'a> {
     {
         let _emails = self.content.emails();
         match self.emails.get(&number) {
-            Some(edit) => email_put(edit),
+            Some(edit) => find_put_email(edit),
             None => self.content.email(number),
         }
     }
@@ -160,7 +160,7 @@ impl<'a> Overlaid<'a> {
     {
         let _threads = self.content.threads();
         match self.threads.get(&number) {
-            Some(edit) => thread_put(edit),
+            Some(edit) => find_put_thread(edit),
             None => self.content.thread(number),
         }
     }

@@ -8,7 +8,7 @@ use jm_base::Kind;
 use mail_records::Edit;
 
 // Returns the position of an edit if the edit is of the kind, else the state before it.
-fn state_after_edit(kind: Kind, before: u64, position: u64, edit: &Edit) -> u64
+fn compute_state_after_edit(kind: Kind, before: u64, position: u64, edit: &Edit) -> u64
     ensures { result ≡ (if is_kind_of kind (id_of edit.now) then position else before) }
 {
     if edit.kind() == kind {
@@ -28,7 +28,7 @@ pub fn find_state_after(kind: Kind, before: u64, last: u64, edits: &[Edit]) -> u
 {
     let mut after = before;
     for i in 0..edits.len() {
-        after = state_after_edit(kind, after, last + i as u64 + 1, &edits[i]);
+        after = compute_state_after_edit(kind, after, last + i as u64 + 1, &edits[i]);
     }
     after
 }

@@ -10,7 +10,7 @@ ghost use Rattle.mail_counts.specs.Members.{mailbox_member, mailbox_members, mem
 ghost use Rattle.mail_counts.specs.Touched.{emails_of, is_one_of};
 
 use crate::MailboxCounts;
-use crate::following::{are_equal_counts, own_counts};
+use crate::following::{are_equal_counts, copy_counts};
 use crate::members::{Member, Members};
 use crate::touched::{is_one_of, put_in_order};
 use jm_base::{NoMemory, Text};
@@ -45,7 +45,7 @@ fn is_unread(email: &Email) -> bool
 }
 
 // Returns the unread ones of emails.
-fn unread_of<'a>(alloc: Global, emails: &[&'a Email]) -> Result<Vec<&'a Email>, NoMemory>
+fn collect_unread<'a>(alloc: Global, emails: &[&'a Email]) -> Result<Vec<&'a Email>, NoMemory>
     ensures { IfOk result (λ v. map (λ r. r.now) v.items
         ≡ filter is_unread (map (λ r. r.now) emails.now)) }
 {
@@ -78,7 +78,7 @@ fn of_threads<'a>(
 }
 
 // Returns the threads of emails.
-fn threads_of(alloc: Global, emails: &[&Email]) -> Result<Vec<u64>, NoMemory>
+fn collect_threads(alloc: Global, emails: &[&Email]) -> Result<Vec<u64>, NoMemory>
     ensures { IfOk result (λ v. v.items ≡ map email_thread (map (λ r. r.now) emails.now)) }
 {
     let mut threads = Vec::new(alloc);
@@ -104,7 +104,7 @@ fn add_to_groups(members: &mut Vec<Member>, number: u64, mailboxes: &[u64]) -> R
 }
 
 // Returns the emails in the groups of their mailboxes.
-fn emails_by_mailbox(alloc: Global, emails: &[&Email]) -> Result<Vec<Member>, NoMemory>
+fn group_emails_by_mailbox(alloc: Global, emails: &[&Email]) -> Result<Vec<Member>, NoMemory>
     ensures { IfOk result (λ v. v.items
         ≡ mailbox_members email_number (map (λ r. r.now) emails.now)) }
 {
@@ -116,7 +116,7 @@ fn emails_by_mailbox(alloc: Global, emails: &[&Email]) -> Result<Vec<Member>, No
 }
 
 // Returns the threads of emails in the groups of the emails' mailboxes.
-fn threads_by_mailbox(alloc: Global, emails: &[&Email]) -> Result<Vec<Member>, NoMemory>
+fn group_threads_by_mailbox(alloc: Global, emails: &[&Email]) -> Result<Vec<Member>, NoMemory>
     ensures { IfOk result (λ v. v.items
         ≡ mailbox_members email_thread (map (λ r. r.now) emails.now)) }
 {
@@ -168,14 +168,14 @@ impl Tally {
         ensures { IfOk result (λ t. (m : ℕ) → tallied_counts t m
             ≡ counts_over (map (λ r. r.now) emails.now) m) }
     {
-        let unread = unread_of(alloc, emails)?;
-        let mut threads = threads_of(alloc, &unread)?;
+        let unread = collect_unread(alloc, emails)?;
+        let mut threads = collect_threads(alloc, &unread)?;
         put_in_order(&mut threads);
         let of_unread = of_threads(alloc, emails, &threads)?;
-        let total_emails = Members::new(emails_by_mailbox(alloc, emails)?);
-        let unread_emails = Members::new(emails_by_mailbox(alloc, &unread)?);
-        let total_threads = Members::new(threads_by_mailbox(alloc, emails)?);
-        let unread_threads = Members::new(threads_by_mailbox(alloc, &of_unread)?);
+        let total_emails = Members::new(group_emails_by_mailbox(alloc, emails)?);
+        let unread_emails = Members::new(group_emails_by_mailbox(alloc, &unread)?);
+        let total_threads = Members::new(group_threads_by_mailbox(alloc, emails)?);
+        let unread_threads = Members::new(group_threads_by_mailbox(alloc, &of_unread)?);
         Ok(Tally {
             total_emails,
             unread_emails,
@@ -201,7 +201,7 @@ impl Tally {
         ensures { result ≡ are_equal_counts (own_counts mailbox.now)
             (tallied_counts self.now mailbox.now.number) }
     {
-        are_equal_counts(&own_counts(mailbox), &self.counts(mailbox.number))
+        are_equal_counts(&copy_counts(mailbox), &self.counts(mailbox.number))
     }
 
     /// Adds the numbers of the mailboxes that emails are in.

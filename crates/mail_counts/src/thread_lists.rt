@@ -4,7 +4,7 @@ ghost use Rattle.mail_counts.specs.DerivedEdits.{same_numbers};
 ghost use Rattle.mail_counts.specs.Members.{listed_in};
 ghost use Rattle.mail_counts.specs.Touched.{list_of_thread};
 
-use crate::following::{are_same_numbers, numbers_of, thread_members};
+use crate::following::{are_same_numbers, collect_numbers, collect_thread_members};
 use crate::members::Members;
 use jm_base::NoMemory;
 use mail_records::Email;
@@ -34,7 +34,7 @@ impl ThreadLists {
             ≡ list_of_thread (map (λ r. r.now) emails.now) t) }
     {
         Ok(ThreadLists {
-            members: Members::new(thread_members(alloc, emails)?),
+            members: Members::new(collect_thread_members(alloc, emails)?),
         })
     }
 
@@ -42,7 +42,7 @@ impl ThreadLists {
     pub fn are_listed(&self, alloc: Global, thread: u64, emails: &[u64]) -> Result<bool, NoMemory>
         ensures { IfOk result (λ b. b ≡ same_numbers emails.now (listed_in self.now thread)) }
     {
-        let listed = numbers_of(alloc, self.members.of_group(thread))?;
+        let listed = collect_numbers(alloc, self.members.of_group(thread))?;
         Ok(are_same_numbers(emails, &listed))
     }
 }

@@ -30,7 +30,7 @@ pub(crate) fn is_one_of(numbers: &[u64], number: u64) -> bool
 }
 
 // Returns the thread that an edit names for its email.
-fn thread_named(edit: &Edit) -> Option<u64>
+fn find_named_thread(edit: &Edit) -> Option<u64>
     ensures { result ≡ named_thread edit.now }
 {
     match edit {
@@ -44,12 +44,12 @@ fn thread_named(edit: &Edit) -> Option<u64>
 }
 
 // Returns the threads that the edits name for their emails.
-fn threads_named(alloc: Global, edits: &[Edit]) -> Result<Vec<u64>, NoMemory>
+fn collect_named_threads(alloc: Global, edits: &[Edit]) -> Result<Vec<u64>, NoMemory>
     ensures { IfOk result (λ v. v.items ≡ threads_named edits.now) }
 {
     let mut threads = Vec::new(alloc);
     for edit in edits {
-        if let Some(thread) = thread_named(edit) {
+        if let Some(thread) = find_named_thread(edit) {
             threads.push(thread)?;
         }
     }
@@ -57,17 +57,17 @@ fn threads_named(alloc: Global, edits: &[Edit]) -> Result<Vec<u64>, NoMemory>
 }
 
 /// Returns the threads that edits of emails name, in order, each once.
-pub(crate) fn touched_threads(alloc: Global, edits: &[Edit]) -> Result<Vec<u64>, NoMemory>
+pub(crate) fn collect_touched_threads(alloc: Global, edits: &[Edit]) -> Result<Vec<u64>, NoMemory>
     ensures is { IfOk result (λ v. v.items ≡ touched_threads edits.now) }
     ensures rise { IfOk result (λ v. NumbersRise v.items) }
 {
-    let mut threads = threads_named(alloc, edits)?;
+    let mut threads = collect_named_threads(alloc, edits)?;
     put_in_order(&mut threads);
     Ok(threads)
 }
 
 // Returns the emails that the edits name.
-fn emails_named(alloc: Global, edits: &[Edit]) -> Result<Vec<u64>, NoMemory>
+fn collect_named_emails(alloc: Global, edits: &[Edit]) -> Result<Vec<u64>, NoMemory>
     ensures { IfOk result (λ v. v.items ≡ emails_named edits.now) }
 {
     let mut emails = Vec::new(alloc);
@@ -103,14 +103,14 @@ fn add_emails_of(numbers: &mut Vec<u64>, content: &Content, threads: &[u64]) -> 
         → is_one_of threads.now e.thread ≡ true → is_one_of numbers.new.items e.number ≡ true) }
 {
     for thread in threads {
-        add_entries(numbers, content.in_thread(*thread))?;
+        add_entries(numbers, content.find_in_thread(*thread))?;
     }
     Ok(())
 }
 
 /// Returns the numbers, in order, each once, of the emails that the edits name and of those that
 /// are of these threads.
-pub(crate) fn touched_emails(
+pub(crate) fn collect_touched_emails(
     alloc: Global,
     content: &Content,
     edits: &[Edit],
@@ -123,7 +123,7 @@ pub(crate) fn touched_emails(
         → email_at content.now.content e.number ≡ Some e
         → is_one_of threads.now e.thread ≡ true → is_one_of v.items e.number ≡ true) }
 {
-    let mut numbers = emails_named(alloc, edits)?;
+    let mut numbers = collect_named_emails(alloc, edits)?;
     add_emails_of(&mut numbers, content, threads)?;
     put_in_order(&mut numbers);
     Ok(numbers)

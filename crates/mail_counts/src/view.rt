@@ -17,23 +17,23 @@ fn count(number: u64) -> Json
     Json::Int(number.min(MAX_JSON_INTEGER) as i64)
 }
 
-fn identifier(alloc: Global, number: u64) -> Result<Json, NoMemory>
+fn build_id(alloc: Global, number: u64) -> Result<Json, NoMemory>
     ensures { IfOk result (λ t. tree_of t ≡ parent_tree (Some number)) }
 {
     let kind = Kind::Mailbox;
     Ok(Json::Text(id_text(alloc, &Id { kind, number })?))
 }
 
-fn parent(alloc: Global, parent: Option<u64>) -> Result<Json, NoMemory>
+fn build_parent(alloc: Global, parent: Option<u64>) -> Result<Json, NoMemory>
     ensures { IfOk result (λ t. tree_of t ≡ parent_tree parent) }
 {
     match parent {
-        Some(number) => identifier(alloc, number),
+        Some(number) => build_id(alloc, number),
         None => Ok(Json::Null),
     }
 }
 
-fn role(role: &Option<Text>) -> Result<Json, NoMemory>
+fn build_role(role: &Option<Text>) -> Result<Json, NoMemory>
     ensures { IfOk result (λ t. tree_of t ≡ role_tree role.now) }
 {
     match role {
@@ -42,7 +42,7 @@ fn role(role: &Option<Text>) -> Result<Json, NoMemory>
     }
 }
 
-fn rights(alloc: Global, read_only: bool) -> Result<Members, NoMemory>
+fn build_rights_members(alloc: Global, read_only: bool) -> Result<Members, NoMemory>
     ensures { IfOk result (λ ms. ms ≡ rights_members read_only) }
 {
     let mut rights = Members::with_room(alloc, 9)?;
@@ -63,7 +63,7 @@ fn rights(alloc: Global, read_only: bool) -> Result<Members, NoMemory>
 pub fn build_rights(alloc: Global, read_only: bool) -> Result<Json, NoMemory>
     ensures { IfOk result (λ t. tree_of t ≡ rights_tree read_only) }
 {
-    Ok(Json::Object(rights(alloc, read_only)?))
+    Ok(Json::Object(build_rights_members(alloc, read_only)?))
 }
 
 // Sets what says which mailbox it is, and what may be done with it.
@@ -79,7 +79,7 @@ fn set_identity(
         (put (codes "isSubscribed") (boolean mailbox.now.subscribed)
         (put (codes "id") (parent_tree (Some mailbox.now.number)) view.old)))) }
 {
-    view.set(alloc, "id", identifier(alloc, mailbox.number)?)?;
+    view.set(alloc, "id", build_id(alloc, mailbox.number)?)?;
     view.set(alloc, "isSubscribed", Json::Bool(mailbox.subscribed))?;
     view.set(alloc, "myRights", build_rights(alloc, read_only)?)?;
     view.set(alloc, "name", Json::Text(mailbox.name.copy()?))
@@ -92,8 +92,8 @@ fn set_place(alloc: Global, view: &mut Members, mailbox: &Mailbox) -> Result<(),
         (put (codes "role") (role_tree mailbox.now.role)
         (put (codes "parentId") (parent_tree mailbox.now.parent) view.old))) }
 {
-    view.set(alloc, "parentId", parent(alloc, mailbox.parent)?)?;
-    view.set(alloc, "role", role(&mailbox.role)?)?;
+    view.set(alloc, "parentId", build_parent(alloc, mailbox.parent)?)?;
+    view.set(alloc, "role", build_role(&mailbox.role)?)?;
     view.set(alloc, "sortOrder", count(mailbox.sort_order))
 }
 

@@ -188,7 +188,7 @@ pub fn create_email<'a>(
     enter_email(alloc, planner, creation, email, brought)
 }
 
-fn blob_or_none<'a>(blob: Option<NamedBlob<'a>>) -> NamedBlob<'a>
+fn take_blob_or_none<'a>(blob: Option<NamedBlob<'a>>) -> NamedBlob<'a>
     ensures { blob_of result ≡ unwrap_or (option_map blob_of blob.entry) no_blob }
 {
     match blob {
@@ -219,7 +219,7 @@ fn import_email<'a>(
     ensures numbers { OnOk result
         ((n : ℕ) → HasNumbersFor (n + 1) planner.old → HasNumbersFor n planner.new) }
 {
-    let message = blob_or_none(sent.blob);
+    let message = take_blob_or_none(sent.blob);
     create_email(alloc, setting, planner, creation, sent, message, None)
 }
 

@@ -149,10 +149,10 @@ impl Content {
 
     /// Lends the mailboxes with a parent, or those without one, and with a name, in the order of
     /// number.
-    pub fn children_named(&self, parent: Option<u64>, name: &[u8]) -> &[Named]
+    pub fn find_children_named(&self, parent: Option<u64>, name: &[u8]) -> &[Named]
         ensures { AreChildrenNamed self.now.content parent name.now result.now }
     {
-        self.mailboxes.children_named(parent, name)
+        self.mailboxes.find_children_named(parent, name)
     }
 
     /// Lends the mailboxes with a role, in the order of number.
@@ -171,17 +171,17 @@ impl Content {
 
     /// Lends the emails of a thread in the order of the time received, then number (RFC 8621,
     /// section 3).
-    pub fn in_thread(&self, thread: u64) -> &[Threaded]
+    pub fn find_in_thread(&self, thread: u64) -> &[Threaded]
         ensures { AreInThread self.now.content thread result.now }
     {
-        self.emails.in_thread(thread)
+        self.emails.find_in_thread(thread)
     }
 
     /// Lends the emails in a mailbox in the order of the time received, then number.
-    pub fn in_mailbox(&self, mailbox: u64) -> &[Placed]
+    pub fn find_in_mailbox(&self, mailbox: u64) -> &[Placed]
         ensures { AreInMailbox self.now.content mailbox result.now }
     {
-        self.emails.in_mailbox(mailbox)
+        self.emails.find_in_mailbox(mailbox)
     }
 
     /// Lends the emails with a link in their summary, in the order of number, then the index of the
@@ -207,8 +207,8 @@ impl Content {
         ensures spare { OnOk result (edits ≤ self.new.spare) }
         ensures no_less { self.old.spare ≤ self.new.spare }
     {
-        let placed = product(edits, MAX_MAILBOXES_PER_EMAIL as usize)?;
-        let linked = product(edits, MAX_LINKS_PER_EMAIL as usize)?;
+        let placed = multiply_counts(edits, MAX_MAILBOXES_PER_EMAIL as usize)?;
+        let linked = multiply_counts(edits, MAX_LINKS_PER_EMAIL as usize)?;
         self.mailboxes.reserve(edits)?;
         self.emails.reserve(edits, placed, linked)?;
         self.threads.reserve(edits)?;
@@ -311,7 +311,7 @@ impl Content {
 }
 
 // Multiplies two numbers; a product that is too large is out of memory.
-fn product(count: usize, each: usize) -> Result<usize, NoMemory>
+fn multiply_counts(count: usize, each: usize) -> Result<usize, NoMemory>
     ensures { IfOk result (λ n. n ≡ count * each) }
 {
     match count.checked_mul(each) {

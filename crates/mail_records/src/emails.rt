@@ -6,7 +6,7 @@ ghost use Rattle.mail_records.specs.Orders.{AreKeys, any_key, has_text, is_in_gr
 ghost use Rattle.mail_records.specs.Tables.{put, without};
 
 use crate::entries::{Dated, Linked, Placed, Threaded};
-use crate::orders::{copy_entries, forget, in_group, leave, settle, with_text};
+use crate::orders::{copy_entries, find_group_entries, forget, leave, settle, with_text};
 use crate::{Email, Record, Table};
 use jm_base::NoMemory;
 use std::alloc::Global;
@@ -156,19 +156,19 @@ impl Emails {
     }
 
     /// Lends the emails of a thread in the order of the time received, then number.
-    pub(crate) fn in_thread(&self, thread: u64) -> &[Threaded]
+    pub(crate) fn find_in_thread(&self, thread: u64) -> &[Threaded]
         ensures { AreKeys (is_in_group (Some thread)) email_number thread_keys self.now.rows
             (keys_of email_number threaded_owner threaded_key self.now.rows result.now) }
     {
-        in_group(&self.table, self.by_thread.as_slice(), Some(thread))
+        find_group_entries(&self.table, self.by_thread.as_slice(), Some(thread))
     }
 
     /// Lends the emails in a mailbox in the order of the time received, then number.
-    pub(crate) fn in_mailbox(&self, mailbox: u64) -> &[Placed]
+    pub(crate) fn find_in_mailbox(&self, mailbox: u64) -> &[Placed]
         ensures { AreKeys (is_in_group (Some mailbox)) email_number mailbox_keys self.now.rows
             (keys_of email_number placed_owner placed_key self.now.rows result.now) }
     {
-        in_group(&self.table, self.by_mailbox.as_slice(), Some(mailbox))
+        find_group_entries(&self.table, self.by_mailbox.as_slice(), Some(mailbox))
     }
 
     /// Lends the emails with a link in the order of number, then the index of the link.

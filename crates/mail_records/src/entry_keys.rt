@@ -10,7 +10,7 @@ use crate::{Email, Mailbox, Table};
 use jm_base::Text;
 
 // Returns a key without group and text.
-fn bare_key(received: i64, number: u64, place: u64) -> SortKey<'static>
+fn build_bare_key(received: i64, number: u64, place: u64) -> SortKey<'static>
     ensures { result
         ≡ record {
           group = None;
@@ -30,7 +30,7 @@ fn bare_key(received: i64, number: u64, place: u64) -> SortKey<'static>
 }
 
 // Returns a key of a text.
-fn text_key(text: &[u8], number: u64, place: u64) -> SortKey<'_>
+fn build_text_key(text: &[u8], number: u64, place: u64) -> SortKey<'_>
     ensures { result
         ≡ record {
           group = None;
@@ -50,7 +50,7 @@ fn text_key(text: &[u8], number: u64, place: u64) -> SortKey<'_>
 }
 
 // Returns a key in a group, without text.
-fn group_key(group: u64, received: i64, number: u64) -> SortKey<'static>
+fn build_group_key(group: u64, received: i64, number: u64) -> SortKey<'static>
     ensures { result
         ≡ record {
           group = Some group;
@@ -86,7 +86,7 @@ impl Entry<Mailbox> for Named {
                 place: 0,
             };
         }
-        bare_key(0, self.mailbox, 0)
+        build_bare_key(0, self.mailbox, 0)
     }
 
     fn count(_row: &Mailbox) -> usize {
@@ -109,7 +109,7 @@ impl Entry<Mailbox> for Named {
 }
 
 // Returns the text of a mailbox's role, which is empty if it has none.
-fn role_text(mailbox: &Mailbox) -> &[u8]
+fn find_role_text(mailbox: &Mailbox) -> &[u8]
     ensures { result.now ≡ unwrap_or mailbox.now.role [] }
 {
     match &mailbox.role {
@@ -127,9 +127,9 @@ impl Entry<Mailbox> for Roled {
 
     fn key_in<'a>(&self, table: &'a Table<Mailbox>) -> SortKey<'a> {
         if let Some(mailbox) = table.get(self.mailbox) {
-            return text_key(role_text(mailbox), self.mailbox, 0);
+            return build_text_key(find_role_text(mailbox), self.mailbox, 0);
         }
-        bare_key(0, self.mailbox, 0)
+        build_bare_key(0, self.mailbox, 0)
     }
 
     fn count(row: &Mailbox) -> usize {
@@ -162,7 +162,7 @@ impl Entry<Email> for Dated {
     ghost keys = { received_keys };
 
     fn key_in<'a>(&self, _table: &'a Table<Email>) -> SortKey<'a> {
-        bare_key(self.received, self.email, 0)
+        build_bare_key(self.received, self.email, 0)
     }
 
     fn count(_row: &Email) -> usize {
@@ -193,7 +193,7 @@ impl Entry<Email> for Threaded {
     ghost keys = { thread_keys };
 
     fn key_in<'a>(&self, _table: &'a Table<Email>) -> SortKey<'a> {
-        group_key(self.thread, self.received, self.email)
+        build_group_key(self.thread, self.received, self.email)
     }
 
     fn count(_row: &Email) -> usize {
@@ -225,7 +225,7 @@ impl Entry<Email> for Placed {
     ghost keys = { mailbox_keys };
 
     fn key_in<'a>(&self, _table: &'a Table<Email>) -> SortKey<'a> {
-        group_key(self.mailbox, self.received, self.email)
+        build_group_key(self.mailbox, self.received, self.email)
     }
 
     fn count(row: &Email) -> usize {
@@ -251,7 +251,7 @@ impl Entry<Email> for Placed {
 }
 
 // Returns the text of an email's link, which is empty if no link has the index.
-fn link_text(email: &Email, place: u64) -> &[u8]
+fn find_link_text(email: &Email, place: u64) -> &[u8]
     ensures { result.now ≡ slice_index_or email.now.summary.links place [] }
 {
     let links = email.summary.links.as_slice();
@@ -293,9 +293,9 @@ impl Entry<Email> for Linked {
 
     fn key_in<'a>(&self, table: &'a Table<Email>) -> SortKey<'a> {
         if let Some(email) = table.get(self.email) {
-            return text_key(link_text(email, self.place), self.email, self.place);
+            return build_text_key(find_link_text(email, self.place), self.email, self.place);
         }
-        bare_key(0, self.email, self.place)
+        build_bare_key(0, self.email, self.place)
     }
 
     fn count(row: &Email) -> usize {

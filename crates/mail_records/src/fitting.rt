@@ -124,7 +124,7 @@ pub struct Applied {
 }
 
 // Returns whether the edits up to one kept the threads of their emails, and this one does.
-fn still_keeps(before: bool, content: &Content, edit: &Edit) -> bool
+fn has_kept_threads(before: bool, content: &Content, edit: &Edit) -> bool
     ensures { IsTrue result ↔ (IsTrue before × KeepsThread content.now.content edit.now) }
 {
     before && keeps_thread(content, edit)
@@ -151,7 +151,7 @@ pub fn apply_fitting(
         if !fits(&made, edit) {
             return Ok(None);
         }
-        keeps_threads = still_keeps(keeps_threads, &made, edit);
+        keeps_threads = has_kept_threads(keeps_threads, &made, edit);
         apply(alloc, &mut made, edit)?;
     }
     Ok(Some(Applied {

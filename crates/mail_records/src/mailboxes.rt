@@ -5,7 +5,7 @@ ghost use Rattle.mail_records.specs.Orders.{AreKeys, has_text, is_in_group, keys
 ghost use Rattle.mail_records.specs.Tables.{put, without};
 
 use crate::entries::{Named, Roled};
-use crate::orders::{copy_entries, forget, in_group, leave, settle, with_text};
+use crate::orders::{copy_entries, find_group_entries, forget, leave, settle, with_text};
 use crate::{Mailbox, Record, Table};
 use jm_base::NoMemory;
 use std::alloc::Global;
@@ -115,11 +115,11 @@ impl Mailboxes {
         ensures { AreKeys (is_in_group parent) mailbox_number name_keys self.now.rows
             (keys_of mailbox_number named_owner named_key self.now.rows result.now) }
     {
-        in_group(&self.table, self.by_name.as_slice(), parent)
+        find_group_entries(&self.table, self.by_name.as_slice(), parent)
     }
 
     /// Lends the mailboxes with a parent and a name, in the order of number.
-    pub(crate) fn children_named(&self, parent: Option<u64>, name: &[u8]) -> &[Named]
+    pub(crate) fn find_children_named(&self, parent: Option<u64>, name: &[u8]) -> &[Named]
         ensures { AreKeys (λ k. is_in_group parent k
             && has_text name.now k) mailbox_number name_keys self.now.rows
             (keys_of mailbox_number named_owner named_key self.now.rows result.now) }

@@ -331,7 +331,7 @@ fn is_upto_prefix(key: &SortKey, group: Option<u64>, text: &[u8]) -> bool
 }
 
 /// Lends the entries of a group.
-pub(crate) fn in_group<'a, R: Record, E: Entry<R>>(
+pub(crate) fn find_group_entries<'a, R: Record, E: Entry<R>>(
     table: &Table<R>,
     entries: &'a [E],
     group: Option<u64>,

@@ -41,7 +41,7 @@ fn is_unknown(coding: Coding) -> bool
 }
 
 /// Returns the charset of a part; a part without one has us-ascii.
-fn charset_name(part: &Part) -> &[u8]
+fn find_charset_name(part: &Part) -> &[u8]
     ensures { result.now ≡ Texts.charset_name (node_of part.now) }
 {
     match &part.charset {
@@ -80,14 +80,14 @@ pub(crate) fn read_body_text(alloc: Global, bytes: &[u8], part: &Part) -> Result
         (body_bytes bytes.now (node_of part.now))) }
 {
     let body = &bytes[part.body as usize..part.end as usize];
-    read_text(alloc, part.coding, charset_name(part), body)
+    read_text(alloc, part.coding, find_charset_name(part), body)
 }
 
 /// How many bytes are looked at together: the most that a `u8` counts.
 const BLOCK_BYTES: usize = 255;
 
 /// Returns one for a byte above 127, and else none.
-fn highs_of(byte: u8) -> u8
+fn count_high_byte(byte: u8) -> u8
     ensures value { result ≡ 0 → byte < 128 }
     ensures within { result ≤ 1 }
 {
@@ -102,7 +102,7 @@ fn count_highs(block: &[u8]) -> u8
 {
     let mut count = 0;
     for byte in block {
-        count += highs_of(*byte);
+        count += count_high_byte(*byte);
     }
     count
 }
@@ -136,7 +136,7 @@ fn is_ascii(bytes: &[u8]) -> bool
 
 /// Returns ASCII bytes as the text that they are in every charset, with LF for each CRLF. None if a
 /// byte is above 127.
-fn ascii_lines(alloc: Global, bytes: &[u8]) -> Result<Option<String>, NoMemory>
+fn read_ascii_lines(alloc: Global, bytes: &[u8]) -> Result<Option<String>, NoMemory>
     ensures text { IfOk result (λ o. IfSome o (λ t. (charset : Option Charset)
         → string_bytes t ≡ with_line_feeds (decoded_text charset bytes.now))) }
     ensures problem { IfOk result (λ o. IfSome o (λ _. (charset : Option Charset)
@@ -167,7 +167,7 @@ fn read_lines(alloc: Global, charset: &[u8], bytes: &[u8]) -> Result<(String, bo
     ensures problem { IfOk result
         (λ r. r.1 ≡ has_problem (charset_named charset.now) bytes.now) }
 {
-    if let Some(lines) = ascii_lines(alloc, bytes)? {
+    if let Some(lines) = read_ascii_lines(alloc, bytes)? {
         return Ok((lines, is_unknown_charset(alloc, charset)?));
     }
     let Decoded { text, problem } = decode_charset(alloc, charset, bytes)?;
@@ -225,7 +225,7 @@ pub fn read_body_value(
     ensures { IfOk result (λ v. value_of v ≡ body_value bytes.now most (node_of part.now)) }
 {
     let body = &bytes[part.body as usize..part.end as usize];
-    let (mut text, problem) = read_text_lines(alloc, part.coding, charset_name(part), body)?;
+    let (mut text, problem) = read_text_lines(alloc, part.coding, find_charset_name(part), body)?;
     let truncated = is_cut(most, text.as_str());
     cut(most, &mut text);
     Ok(BodyValue {

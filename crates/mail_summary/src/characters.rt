@@ -97,7 +97,7 @@ pub fn space_out(alloc: Global, text: &[char]) -> Result<Vec<char>, NoMemory>
 }
 
 /// Returns some characters without a space at the beginning.
-fn after_space(text: &[char]) -> &[char]
+fn skip_space(text: &[char]) -> &[char]
     ensures { result.now ≡ Texts.without_space text.now }
 {
     match text.split_first() {
@@ -108,7 +108,7 @@ fn after_space(text: &[char]) -> &[char]
 
 /// Returns the first `MAX_SHOWN_CHARACTERS` + 1 characters of a text with one space for each run of
 /// white space and none at the end, and perhaps more of them.
-fn spaced_prefix(alloc: Global, text: &str) -> Result<Vec<char>, NoMemory>
+fn collect_spaced_prefix(alloc: Global, text: &str) -> Result<Vec<char>, NoMemory>
     ensures text { IfOk result (λ cs. take (MAX_SHOWN_CHARACTERS + 1) cs.items
         ≡ take (MAX_SHOWN_CHARACTERS + 1) (spaced (chars text.now))) }
     ensures settled { IfOk result (λ cs. MAX_SHOWN_CHARACTERS < length cs.items → (later : List ℕ)
@@ -131,8 +131,8 @@ fn spaced_prefix(alloc: Global, text: &str) -> Result<Vec<char>, NoMemory>
 pub fn shorten_spaced(alloc: Global, text: &str) -> Result<Text, NoMemory>
     ensures { IfOk result (λ t. t ≡ brief (Texts.one_spaced (chars text.now))) }
 {
-    let out = spaced_prefix(alloc, text)?;
-    shorten(alloc, after_space(out.as_slice()))
+    let out = collect_spaced_prefix(alloc, text)?;
+    shorten(alloc, skip_space(out.as_slice()))
 }
 
 /// Returns what `shorten_spaced` returns for every text that begins with this one; none if what
@@ -141,9 +141,9 @@ pub fn find_settled_brief(alloc: Global, text: &str) -> Result<Option<Text>, NoM
     ensures { IfOk result (λ found. IfSome found (λ t. (later : List ℕ)
         → t ≡ brief (Texts.one_spaced (chars text.now ++ later)))) }
 {
-    let out = spaced_prefix(alloc, text)?;
+    let out = collect_spaced_prefix(alloc, text)?;
     if out.len() <= MAX_SHOWN_CHARACTERS {
         return Ok(None);
     }
-    Ok(Some(shorten(alloc, after_space(out.as_slice()))?))
+    Ok(Some(shorten(alloc, skip_space(out.as_slice()))?))
 }

@@ -12,7 +12,7 @@ ghost use Rattle.header_forms.specs.Texts.{on_one_line};
 ghost use Rattle.mail_summary.specs.Received.{after_last, first_value_of, received, timestamp_after};
 
 /// Examples of the texts that a summary and a body are made of.
-pub fn examples_of_texts()
+pub fn check_example_texts()
     ensures subject { stripped (codes " Re:FWD: re :  Some  Text ") ≡ codes "re : some text" }
     ensures tags { without_tags (codes "<p>a<b c>d</p> 1 < 2") ≡ codes " a d  1 < 2" }
     ensures spaces { one_spaced (codes "\t a  b\r\n\r\nc ") ≡ codes "a b c" }

@@ -33,11 +33,11 @@ pub fn find_leaf(part: &Part, number: u64) -> Option<&Part>
     if has_number(part, number) {
         return Some(part);
     }
-    leaf_within(part.parts.as_slice(), number)
+    find_leaf_within(part.parts.as_slice(), number)
 }
 
 #[cycle(find_leaf)]
-fn leaf_within(parts: &[Part], number: u64) -> Option<&Part>
+fn find_leaf_within(parts: &[Part], number: u64) -> Option<&Part>
     ensures { option_map node_in result ≡ leaf_numbered number (joined parts.now none) }
 {
     for part in parts {
@@ -91,27 +91,28 @@ fn is_among(numbers: &[u64], number: Option<u64>) -> bool
 }
 
 /// Returns whether a part is one of these attachments and isn't inline.
-fn shows(attachments: &[u64], part: &Part) -> bool
+fn is_shown_attachment(attachments: &[u64], part: &Part) -> bool
     ensures { result ≡ shows_attachment attachments.now (node_of part.now) }
 {
     !is_inline(part) && is_among(attachments, part.number)
 }
 
 #[cycle(attached)]
-fn any_shows(attachments: &[u64], part: &Part) -> bool
+fn has_shown_attachment(attachments: &[u64], part: &Part) -> bool
     ensures { result
         ≡ list_any (shows_attachment attachments.now) (walked (part_before part.now none)) }
 {
-    shows(attachments, part) || any_shows_within(attachments, part.parts.as_slice())
+    is_shown_attachment(attachments, part)
+        || has_shown_attachment_within(attachments, part.parts.as_slice())
 }
 
 #[cycle(attached)]
-fn any_shows_within(attachments: &[u64], parts: &[Part]) -> bool
+fn has_shown_attachment_within(attachments: &[u64], parts: &[Part]) -> bool
     ensures { result
         ≡ list_any (shows_attachment attachments.now) (walked (joined parts.now none)) }
 {
     for part in parts {
-        if any_shows(attachments, part) {
+        if has_shown_attachment(attachments, part) {
             return true;
         }
     }
@@ -124,5 +125,5 @@ pub fn has_attachment(alloc: Global, root: &Part) -> Result<bool, NoMemory>
     ensures { IfOk result (λ b. b ≡ has_attachment_in (part_before root.now none)) }
 {
     let found = lists(alloc, root)?;
-    Ok(any_shows(found.attachments.as_slice(), root))
+    Ok(has_shown_attachment(found.attachments.as_slice(), root))
 }

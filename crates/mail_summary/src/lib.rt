@@ -15,7 +15,7 @@ mod texts_lines;
 mod texts_tags;
 
 pub use body_value::{BodyValue, read_body_value};
-pub use laws::{date_of_received_follows_the_last_semicolon, examples_of_texts};
+pub use laws::{check_example_texts, date_of_received_follows_the_last_semicolon};
 pub use leaves::{find_leaf, has_attachment, part_bytes, read_body};
 pub use preview::{build_preview, find_first_text};
 pub use received::received_of;

@@ -58,7 +58,12 @@ fn put_all(kept: Vec<Text>, ids: Texts) -> Result<Vec<Text>, NoMemory>
 }
 
 /// Reads the identifiers of the last field that has this name.
-fn ids_of(alloc: Global, bytes: &[u8], fields: &FieldSpans, name: &[u8]) -> Result<Texts, NoMemory>
+fn read_identifiers(
+    alloc: Global,
+    bytes: &[u8],
+    fields: &FieldSpans,
+    name: &[u8],
+) -> Result<Texts, NoMemory>
     requires { All (IsWithin bytes.now) fields.now }
     ensures { IfOk result (λ ids. ids ≡ if_value (last_value_of bytes.now name.now fields.now)) }
 {
@@ -70,15 +75,19 @@ fn ids_of(alloc: Global, bytes: &[u8], fields: &FieldSpans, name: &[u8]) -> Resu
 }
 
 /// Reads the identifiers that link a message whose header has these fields (RFC 8621, section 3).
-pub(crate) fn links_of(alloc: Global, bytes: &[u8], fields: &FieldSpans) -> Result<Texts, NoMemory>
+pub(crate) fn read_links(
+    alloc: Global,
+    bytes: &[u8],
+    fields: &FieldSpans,
+) -> Result<Texts, NoMemory>
     requires within { All (IsWithin bytes.now) fields.now }
     requires fields { fields.now ≡ fields_of bytes.now }
     ensures value { IfOk result (λ ids. ids ≡ links bytes.now) }
 {
-    let own = ids_of(alloc, bytes, fields, b"Message-ID")?;
+    let own = read_identifiers(alloc, bytes, fields, b"Message-ID")?;
     let kept = put_all(Vec::new(alloc), own)?;
-    let parent = ids_of(alloc, bytes, fields, b"In-Reply-To")?;
+    let parent = read_identifiers(alloc, bytes, fields, b"In-Reply-To")?;
     let kept = put_all(kept, parent)?;
-    let others = ids_of(alloc, bytes, fields, b"References")?;
+    let others = read_identifiers(alloc, bytes, fields, b"References")?;
     Ok(Texts::from_vec(put_all(kept, others)?))
 }

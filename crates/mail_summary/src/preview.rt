@@ -33,7 +33,7 @@ fn is_text(part: &Part) -> bool
 }
 
 /// Returns the leaf with this number, if it is plain text or HTML.
-fn text_numbered(root: &Part, number: u64) -> Option<&Part>
+fn find_text_leaf(root: &Part, number: u64) -> Option<&Part>
     ensures { option_map node_in result ≡ if_text (leaf_numbered number (part_before root.now none))
         None }
 {
@@ -47,7 +47,7 @@ pub fn find_first_text<'a>(root: &'a Part, numbers: &[u64]) -> Option<&'a Part>
     ensures { option_map node_in result ≡ first_text (part_before root.now none) numbers.now }
 {
     for number in numbers {
-        if let Some(found) = text_numbered(root, *number) {
+        if let Some(found) = find_text_leaf(root, *number) {
             return Some(found);
         }
     }
@@ -69,7 +69,7 @@ fn show(alloc: Global, part: &Part, text: Text) -> Result<Text, NoMemory>
 /// characters in every transfer encoding, but for white space.
 const FRONT_BYTES: usize = 4096;
 
-fn first_bytes(body: &[u8]) -> &[u8]
+fn take_first_bytes(body: &[u8]) -> &[u8]
     ensures { Begins result.now body.now }
 {
     if body.len() > FRONT_BYTES {
@@ -79,10 +79,10 @@ fn first_bytes(body: &[u8]) -> &[u8]
 }
 
 /// Returns the whole lines among the first bytes of a body in quoted-printable.
-fn first_lines(body: &[u8]) -> &[u8]
+fn take_first_lines(body: &[u8]) -> &[u8]
     ensures { Begins (quoted_printable result.now) (quoted_printable body.now) }
 {
-    let first = first_bytes(body);
+    let first = take_first_bytes(body);
     match memrchr(b'\n', first) {
         Some(i) => first.split_at(i + 1).0,
         None => first.split_at(0).0,
@@ -94,16 +94,16 @@ fn front(coding: Coding, body: &[u8]) -> &[u8]
     ensures { Begins (decoded coding result.now) (decoded coding body.now) }
 {
     match coding {
-        Coding::Plain => first_bytes(body),
-        Coding::Quoted => first_lines(body),
-        Coding::Base64 => first_bytes(body),
-        Coding::Unknown => first_bytes(body),
+        Coding::Plain => take_first_bytes(body),
+        Coding::Quoted => take_first_lines(body),
+        Coding::Base64 => take_first_bytes(body),
+        Coding::Unknown => take_first_bytes(body),
     }
 }
 
 /// Returns the preview of plain text with this body in any charset, if its first bytes are ASCII
 /// and decide it.
-fn early_preview(alloc: Global, coding: Coding, body: &[u8]) -> Result<Option<Text>, NoMemory>
+fn build_early_preview(alloc: Global, coding: Coding, body: &[u8]) -> Result<Option<Text>, NoMemory>
     ensures { IfOk result (λ found. IfSome found (λ t. (charset : Option Charset)
         → t ≡ brief (one_spaced (chars (decoded_text charset (decoded coding body.now)))))) }
 {
@@ -118,7 +118,7 @@ fn early_preview(alloc: Global, coding: Coding, body: &[u8]) -> Result<Option<Te
 }
 
 /// Reads the whole text of a part for its preview.
-fn whole_preview(alloc: Global, bytes: &[u8], part: &Part) -> Result<Text, NoMemory>
+fn build_full_preview(alloc: Global, bytes: &[u8], part: &Part) -> Result<Text, NoMemory>
     requires { IsPlaced (length bytes.now) (node_of part.now) }
     ensures { IfOk result (λ t. t ≡ preview_by bytes.now (Some (node_of part.now))) }
 {
@@ -133,11 +133,11 @@ fn part_preview(alloc: Global, bytes: &[u8], part: &Part) -> Result<Text, NoMemo
 {
     if !is_html(part) {
         let body = &bytes[part.body as usize..part.end as usize];
-        if let Some(preview) = early_preview(alloc, part.coding, body)? {
+        if let Some(preview) = build_early_preview(alloc, part.coding, body)? {
             return Ok(preview);
         }
     }
-    whole_preview(alloc, bytes, part)
+    build_full_preview(alloc, bytes, part)
 }
 
 /// Returns the preview of a message with this tree of parts, whose text is the leaves of these

@@ -15,7 +15,7 @@ use mime_lines::{Field, FieldSpans, fields};
 use std::alloc::Global;
 
 /// Returns the value of the first field that has this name.
-fn first_value<'a>(bytes: &'a [u8], fields: &[Field], name: &[u8]) -> Option<&'a [u8]>
+fn find_first_value<'a>(bytes: &'a [u8], fields: &[Field], name: &[u8]) -> Option<&'a [u8]>
     requires { All (IsWithin bytes.now) fields.now }
     ensures { option_map bytes_in result ≡ option_map (value_in bytes.now)
         (find (is_named bytes.now name.now) fields.now) }
@@ -38,7 +38,12 @@ fn is_mark(state: State, byte: u8) -> bool
 }
 
 /// Returns what follows the last semicolon up to here.
-fn latest<'a>(last: Option<&'a [u8]>, state: State, byte: u8, after: &'a [u8]) -> Option<&'a [u8]>
+fn choose_latest<'a>(
+    last: Option<&'a [u8]>,
+    state: State,
+    byte: u8,
+    after: &'a [u8],
+) -> Option<&'a [u8]>
     ensures { option_map bytes_in result ≡ (if Received.is_mark state byte then Some after.now
         else option_map bytes_in last.entry) }
 {
@@ -50,14 +55,14 @@ fn latest<'a>(last: Option<&'a [u8]>, state: State, byte: u8, after: &'a [u8]) -
 }
 
 /// Returns what follows the last semicolon outside comments.
-fn after_last(text: &[u8]) -> Option<&[u8]>
+fn find_after_last_semicolon(text: &[u8]) -> Option<&[u8]>
     ensures { option_map bytes_in result ≡ Received.after_last State.Outside text.now }
 {
     let mut state = State::Outside;
     let mut last = None;
     let mut rest = text;
     while let Some((byte, after)) = rest.split_first() {
-        last = latest(last, state, *byte, after);
+        last = choose_latest(last, state, *byte, after);
         state = advance_state(state, *byte as u32);
         rest = after;
     }
@@ -70,14 +75,14 @@ fn read_timestamp(alloc: Global, value: &[u8]) -> Result<Option<UtcDate>, NoMemo
     ensures kept { IfOk result (λ d. ForSome d IsUtcDate) }
 {
     let line = unfold_value(alloc, value)?;
-    match after_last(line.as_bytes()) {
+    match find_after_last_semicolon(line.as_bytes()) {
         Some(text) => Ok(find_timestamp(text)),
         None => Ok(None),
     }
 }
 
 /// Reads the timestamp at which a message whose header has these fields was received.
-pub(crate) fn received_in(
+pub(crate) fn read_received(
     alloc: Global,
     bytes: &[u8],
     fields: &FieldSpans,
@@ -87,7 +92,7 @@ pub(crate) fn received_in(
     ensures value { IfOk result (λ d. d ≡ received bytes.now) }
     ensures kept { IfOk result (λ d. ForSome d IsUtcDate) }
 {
-    match first_value(bytes, fields.as_slice(), b"Received") {
+    match find_first_value(bytes, fields.as_slice(), b"Received") {
         Some(value) => read_timestamp(alloc, value),
         None => Ok(None),
     }
@@ -101,5 +106,5 @@ pub fn received_of(alloc: Global, bytes: &[u8]) -> Result<Option<UtcDate>, NoMem
     ensures kept { IfOk result (λ d. ForSome d IsUtcDate) }
 {
     let head = fields(alloc, bytes)?;
-    received_in(alloc, bytes, &head.fields)
+    read_received(alloc, bytes, &head.fields)
 }

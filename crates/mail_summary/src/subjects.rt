@@ -26,7 +26,7 @@ fn prefix_size(text: &[char]) -> usize
 }
 
 /// Returns the text without its first `size` characters.
-fn after_characters(text: &[char], size: usize) -> &[char]
+fn skip_characters(text: &[char], size: usize) -> &[char]
     ensures { result.now ≡ drop size text.now }
 {
     if size < text.len() {
@@ -37,7 +37,7 @@ fn after_characters(text: &[char], size: usize) -> &[char]
 }
 
 /// Returns what follows the white space or the prefix at the beginning; none if there is neither.
-fn after_first_prefix(text: &[char]) -> Option<&[char]>
+fn skip_first_prefix(text: &[char]) -> Option<&[char]>
     ensures value { MatchOption result (without_prefixes text.now 0 ≡ text.now)
         (λ a. without_prefixes text.now 0 ≡ without_prefixes a.now 0) }
     ensures shorter { IfSome result (λ a. length a.now < length text.now) }
@@ -52,16 +52,16 @@ fn after_first_prefix(text: &[char]) -> Option<&[char]>
     if size == 0 {
         return None;
     }
-    Some(after_characters(after, size - 1))
+    Some(skip_characters(after, size - 1))
 }
 
 /// Returns a text in lower case without the prefixes at its beginning and the white space around
 /// each.
-fn after_prefixes(text: &[char]) -> &[char]
+fn skip_prefixes(text: &[char]) -> &[char]
     ensures { result.now ≡ without_prefixes text.now 0 }
 {
     let mut rest = text;
-    while let Some(after) = after_first_prefix(rest) {
+    while let Some(after) = skip_first_prefix(rest) {
         rest = after;
     }
     rest
@@ -75,6 +75,6 @@ pub fn read_subject(alloc: Global, value: &[u8]) -> Result<Text, NoMemory>
     let text = read_text_form(alloc, value)?;
     let all = collect_characters(alloc, text.as_str())?;
     let low = lower(alloc, all.as_slice())?;
-    let out = space_out(alloc, after_prefixes(low.as_slice()))?;
+    let out = space_out(alloc, skip_prefixes(low.as_slice()))?;
     shorten(alloc, out.as_slice())
 }

@@ -14,8 +14,8 @@ ghost use Rattle.mail_summary.specs.Summaries;
 
 use crate::characters::shorten_text;
 use crate::leaves::has_attachment;
-use crate::links::links_of;
-use crate::received::received_in;
+use crate::links::read_links;
+use crate::received::read_received;
 use crate::subjects::read_subject;
 use header_forms::{Address, find_timestamp, parse_addresses, unfold_value};
 use jm_base::{NoMemory, Text, UtcDate};
@@ -24,7 +24,7 @@ use mime_lines::{FieldSpans, fields, find_last_value};
 use mime_tree::parts;
 use std::alloc::Global;
 
-fn subject_in(alloc: Global, bytes: &[u8], fields: &FieldSpans) -> Result<Text, NoMemory>
+fn read_subject_field(alloc: Global, bytes: &[u8], fields: &FieldSpans) -> Result<Text, NoMemory>
     requires { All (IsWithin bytes.now) fields.now }
     ensures { IfOk result (λ t. t ≡ subject_by (last_value_of bytes.now (codes "Subject") fields.now)) }
 {
@@ -35,7 +35,7 @@ fn subject_in(alloc: Global, bytes: &[u8], fields: &FieldSpans) -> Result<Text, 
 }
 
 /// Returns the name of an address; an address without one has its email.
-fn name_of(alloc: Global, address: &Address) -> Result<Text, NoMemory>
+fn choose_name(alloc: Global, address: &Address) -> Result<Text, NoMemory>
     ensures { IfOk result (λ t. t ≡ brief (chars (unwrap_or address.now.name address.now.email))) }
 {
     match &address.name {
@@ -44,17 +44,22 @@ fn name_of(alloc: Global, address: &Address) -> Result<Text, NoMemory>
     }
 }
 
-fn first_name_in(alloc: Global, addresses: &[Address]) -> Result<Text, NoMemory>
+fn choose_first_name(alloc: Global, addresses: &[Address]) -> Result<Text, NoMemory>
     ensures { IfOk result (λ t. t ≡ first_name addresses.now) }
 {
     match addresses.first() {
-        Some(address) => name_of(alloc, address),
+        Some(address) => choose_name(alloc, address),
         None => Text::from_str(alloc, ""),
     }
 }
 
 /// Reads the name of the first address of the last field that has this name.
-fn name_in(alloc: Global, bytes: &[u8], fields: &FieldSpans, name: &[u8]) -> Result<Text, NoMemory>
+fn read_first_name(
+    alloc: Global,
+    bytes: &[u8],
+    fields: &FieldSpans,
+    name: &[u8],
+) -> Result<Text, NoMemory>
     requires { All (IsWithin bytes.now) fields.now }
     ensures { IfOk result (λ t. t ≡ name_by (last_value_of bytes.now name.now fields.now)) }
 {
@@ -63,10 +68,10 @@ fn name_in(alloc: Global, bytes: &[u8], fields: &FieldSpans, name: &[u8]) -> Res
     };
     let line = unfold_value(alloc, value)?;
     let all = parse_addresses(alloc, line.as_str())?;
-    first_name_in(alloc, all.as_slice())
+    choose_first_name(alloc, all.as_slice())
 }
 
-fn sent_in(alloc: Global, bytes: &[u8], fields: &FieldSpans) -> Result<Option<UtcDate>, NoMemory>
+fn read_sent(alloc: Global, bytes: &[u8], fields: &FieldSpans) -> Result<Option<UtcDate>, NoMemory>
     requires { All (IsWithin bytes.now) fields.now }
     ensures value { IfOk result (λ d. d ≡ option_and_then sent_by (last_value_of bytes.now (codes "Date") fields.now)) }
     ensures kept { IfOk result (λ d. ForSome d IsUtcDate) }
@@ -81,7 +86,7 @@ fn sent_in(alloc: Global, bytes: &[u8], fields: &FieldSpans) -> Result<Option<Ut
 }
 
 // Returns whether a message has an attachment.
-fn attachment_in(alloc: Global, bytes: &[u8]) -> Result<bool, NoMemory>
+fn has_attachment_in_message(alloc: Global, bytes: &[u8]) -> Result<bool, NoMemory>
     ensures { IfOk result (λ a. a ≡ has_attachment_in (parts_of bytes.now)) }
 {
     let root = parts(alloc, bytes)?;
@@ -96,29 +101,33 @@ struct SummaryTexts {
     to: Text,
 }
 
-fn texts_in(alloc: Global, bytes: &[u8], fields: &FieldSpans) -> Result<SummaryTexts, NoMemory>
+fn read_summary_texts(
+    alloc: Global,
+    bytes: &[u8],
+    fields: &FieldSpans,
+) -> Result<SummaryTexts, NoMemory>
     requires { All (IsWithin bytes.now) fields.now }
     ensures subject { IfOk result (λ t. t.subject ≡ subject_by (last_value_of bytes.now (codes "Subject") fields.now)) }
     ensures from { IfOk result (λ t. t.from ≡ name_by (last_value_of bytes.now (codes "From") fields.now)) }
     ensures to { IfOk result (λ t. t.to ≡ name_by (last_value_of bytes.now (codes "To") fields.now)) }
 {
-    let subject = subject_in(alloc, bytes, fields)?;
-    let from = name_in(alloc, bytes, fields, b"From")?;
-    let to = name_in(alloc, bytes, fields, b"To")?;
+    let subject = read_subject_field(alloc, bytes, fields)?;
+    let from = read_first_name(alloc, bytes, fields, b"From")?;
+    let to = read_first_name(alloc, bytes, fields, b"To")?;
     Ok(SummaryTexts { subject, from, to })
 }
 
 // Reads the summary of a message whose header has these fields.
-fn summary_in(alloc: Global, bytes: &[u8], fields: &FieldSpans) -> Result<Summary, NoMemory>
+fn read_summary(alloc: Global, bytes: &[u8], fields: &FieldSpans) -> Result<Summary, NoMemory>
     requires within { All (IsWithin bytes.now) fields.now }
     requires fields { fields.now ≡ fields_of bytes.now }
     ensures value { IfOk result (λ s. s ≡ Summaries.summary bytes.now) }
     ensures kept { IfOk result (λ s. ForSome s.sent IsUtcDate) }
 {
-    let attachment = attachment_in(alloc, bytes)?;
-    let sent = sent_in(alloc, bytes, fields)?;
-    let links = links_of(alloc, bytes, fields)?;
-    let texts = texts_in(alloc, bytes, fields)?;
+    let attachment = has_attachment_in_message(alloc, bytes)?;
+    let sent = read_sent(alloc, bytes, fields)?;
+    let links = read_links(alloc, bytes, fields)?;
+    let texts = read_summary_texts(alloc, bytes, fields)?;
     Ok(Summary {
         links,
         subject: texts.subject,
@@ -135,7 +144,7 @@ pub fn summary_of(alloc: Global, bytes: &[u8]) -> Result<Summary, NoMemory>
     ensures kept { IfOk result (λ s. ForSome s.sent IsUtcDate) }
 {
     let head = fields(alloc, bytes)?;
-    summary_in(alloc, bytes, &head.fields)
+    read_summary(alloc, bytes, &head.fields)
 }
 
 /// The summary of a message, and the timestamp at which it was received.
@@ -155,7 +164,7 @@ pub fn read_summary_and_receipt(alloc: Global, bytes: &[u8]) -> Result<SummaryAn
     ensures received { IfOk result (λ r. r.received ≡ received bytes.now) }
 {
     let head = fields(alloc, bytes)?;
-    let summary = summary_in(alloc, bytes, &head.fields)?;
-    let received = received_in(alloc, bytes, &head.fields)?;
+    let summary = read_summary(alloc, bytes, &head.fields)?;
+    let received = read_received(alloc, bytes, &head.fields)?;
     Ok(SummaryAndReceipt { summary, received })
 }

@@ -32,7 +32,7 @@ fn mark_returns(bytes: u8x32) -> u8x32
 
 /// Returns the bits of the places that are marked.
 #[inline(always)]
-fn marked_bits(marks: u8x32) -> u64
+fn collect_marked_bits(marks: u8x32) -> u64
     ensures { (k : ℕ) → (bit_at result k ≡ 1) ↔ (128 ≤ slice_index marks k) }
 {
     marks.simd_ge(u8x32::splat(128)).to_bitmask()
@@ -40,7 +40,7 @@ fn marked_bits(marks: u8x32) -> u64
 
 /// Returns the place of the lowest bit that is 1.
 #[inline(always)]
-fn lowest(bits: u64) -> usize
+fn find_lowest_bit(bits: u64) -> usize
     requires { bits ≢ 0 }
     ensures set { bit_at bits result ≡ 1 }
     ensures below { (k : ℕ) → k < result → bit_at bits k ≡ 0 }
@@ -50,18 +50,18 @@ fn lowest(bits: u64) -> usize
 
 /// Returns the place of the first CR of a block.
 #[inline(always)]
-fn first_return(block: &[u8]) -> Option<usize>
+fn find_first_return(block: &[u8]) -> Option<usize>
     requires { BLOCK_BYTES ≤ length block.now }
     ensures none { IfNone result ((k : ℕ) → k < BLOCK_BYTES → slice_index block.now k ≢ 13) }
     ensures within { IfSome result (λ i. i < BLOCK_BYTES) }
     ensures some { IfSome result (λ i. slice_index block.now i ≡ 13) }
     ensures before { IfSome result (λ i. (k : ℕ) → k < i → slice_index block.now k ≢ 13) }
 {
-    let bits = marked_bits(mark_returns(load(block)));
+    let bits = collect_marked_bits(mark_returns(load(block)));
     if bits == 0 {
         return None;
     }
-    Some(lowest(bits))
+    Some(find_lowest_bit(bits))
 }
 
 /// Returns whether a text begins with an LF.
@@ -97,7 +97,7 @@ fn push_block<'a>(out: &mut Vec<u8>, text: &'a [u8]) -> Result<&'a [u8], NoMemor
     let len = out.as_slice().len();
     let (block, rest) = text.split_at(BLOCK_BYTES);
     out.extend_from_slice(block)?;
-    let Some(i) = first_return(block) else {
+    let Some(i) = find_first_return(block) else {
         return Ok(rest);
     };
     out.truncate(len + i);

@@ -15,7 +15,7 @@ use crate::message::{
 use crate::metadata::write_metadata;
 use crate::part::Showing;
 use crate::part_list::list_parts;
-use crate::sizes::sizes_for;
+use crate::sizes::collect_shown_sizes;
 use crate::values::write_body_values;
 use body_lists::lists;
 use get_args::{NamedProperty, Property, Wanted};
@@ -177,7 +177,7 @@ fn write_message_members(
     let root = parts(alloc, bytes)?;
     let lists = lists(alloc, &root)?;
     let parts = list_parts(alloc, &root)?;
-    let sizes = sizes_for(alloc, bytes, parts.as_slice(), wanted)?;
+    let sizes = collect_shown_sizes(alloc, bytes, parts.as_slice(), wanted)?;
     let message = Message {
         showing: Showing {
             bytes,
@@ -201,7 +201,7 @@ fn needs_parts(property: &Property) -> bool {
     )
 }
 
-fn any_needs_parts(properties: &[NamedProperty]) -> bool {
+fn needs_parts_for_any(properties: &[NamedProperty]) -> bool {
     for asked in properties {
         if needs_parts(&asked.property) {
             return true;
@@ -228,7 +228,7 @@ pub fn view(
 {
     let blob = String::from_utf8_lossy(alloc, blob)?;
     let blob = blob.as_str();
-    if any_needs_parts(wanted.properties.as_slice()) {
+    if needs_parts_for_any(wanted.properties.as_slice()) {
         let members = write_message_members(alloc, bytes, blob, email, wanted)?;
         return Ok(Json::Object(members));
     }

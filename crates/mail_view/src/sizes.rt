@@ -22,7 +22,7 @@ pub(crate) struct BodySize {
 }
 
 // Returns the size of a part's body.
-fn size_of_part(bytes: &[u8], part: &Part) -> BodySize
+fn build_body_size(bytes: &[u8], part: &Part) -> BodySize
     requires { IsPlaced (length bytes.now) (node_of part.now) }
     ensures { IsSizeOf bytes.now result }
 {
@@ -45,7 +45,7 @@ fn list_sizes(alloc: Global, bytes: &[u8], parts: &[&Part]) -> Result<Vec<BodySi
         if part.number.is_none() {
             continue;
         }
-        sizes.push(size_of_part(bytes, part))?;
+        sizes.push(build_body_size(bytes, part))?;
     }
     Ok(sizes)
 }
@@ -70,7 +70,7 @@ fn shows_size(properties: &[NamedPartProperty]) -> bool {
 
 /// Returns the sizes of the leaves of a message if all of them are shown, and none if perhaps only
 /// some are.
-pub(crate) fn sizes_for(
+pub(crate) fn collect_shown_sizes(
     alloc: Global,
     bytes: &[u8],
     parts: &[&Part],
@@ -97,7 +97,7 @@ fn is_same(a: Coding, b: Coding) -> bool
 }
 
 // Returns the size if it is that of this part's body.
-fn size_if_of(_bytes: &[u8], known: &BodySize, part: &Part) -> Option<u64>
+fn find_known_size(_bytes: &[u8], known: &BodySize, part: &Part) -> Option<u64>
     requires { IsSizeOf _bytes.now known.now }
     ensures value { IfSome result (λ n. n ≡ length (body_bytes _bytes.now (node_of part.now))) }
     ensures within { IfSome result (λ n. n ≤ length _bytes.now) }
@@ -118,5 +118,5 @@ pub(crate) fn find_size(bytes: &[u8], sizes: &[BodySize], part: &Part) -> Option
     if number == 0 || number > sizes.len() as u64 {
         return None;
     }
-    size_if_of(bytes, &sizes[(number - 1) as usize], part)
+    find_known_size(bytes, &sizes[(number - 1) as usize], part)
 }

@@ -123,7 +123,7 @@ fn has_sibling_named<'a>(planner: &Planner<'a>, parent: Option<u64>, name: &'a s
         return true;
     }
     let first = planner.content.next(Kind::Mailbox);
-    let siblings = planner.content.children_named(parent, name.as_bytes());
+    let siblings = planner.content.find_children_named(parent, name.as_bytes());
     has_other_sibling(siblings, first, planner.next)
 }
 

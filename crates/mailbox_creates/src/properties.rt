@@ -146,15 +146,15 @@ pub fn choose_values<'a>(properties: &SentProperties<'a>) -> NewValues<'a>
         ≡ unwrap_or (properties_of properties.now).subscribed true }
 {
     NewValues {
-        name: name_or_empty(properties.name),
+        name: choose_name(properties.name),
         parent: properties.parent.unwrap_or(None),
-        role: role_or_none(properties.role),
+        role: choose_role(properties.role),
         sort_order: properties.sort_order.unwrap_or(0),
         subscribed: properties.subscribed.unwrap_or(true),
     }
 }
 
-fn name_or_empty<'a>(name: Option<&'a Text>) -> &'a str
+fn choose_name<'a>(name: Option<&'a Text>) -> &'a str
     ensures { result.now ≡ unwrap_or (option_map (λ t. t.now) name.entry) [] }
 {
     match name {
@@ -163,7 +163,7 @@ fn name_or_empty<'a>(name: Option<&'a Text>) -> &'a str
     }
 }
 
-fn role_or_none<'a>(role: Option<Option<&'a Text>>) -> Option<&'a Text>
+fn choose_role<'a>(role: Option<Option<&'a Text>>) -> Option<&'a Text>
     ensures { option_map (λ t. t.now) result
         ≡ unwrap_or (option_map (λ r. option_map (λ t. t.now) r) role.entry) None }
 {

@@ -78,7 +78,7 @@ fn has_email(current: &Current, number: u64) -> bool
     ensures { (c : TheContent) → Shows current.now c
         → is_one_of current.now.destroyed.items number ≡ false → result ≡ has_email c number }
 {
-    !current.content.in_mailbox(number).is_empty()
+    !current.content.find_in_mailbox(number).is_empty()
 }
 
 // ---- the emails of a mailbox lose it
@@ -109,7 +109,7 @@ fn find_emails(alloc: Global, content: &Content, mailbox: u64) -> Result<Vec<u64
         ≡ map email_number (emails_in mailbox content.now.content.emails)) }
 {
     let _in_order = content.emails();
-    Ok(put_in_order(collect_numbers(alloc, content.in_mailbox(mailbox))?))
+    Ok(put_in_order(collect_numbers(alloc, content.find_in_mailbox(mailbox))?))
 }
 
 // Returns the mailboxes that are neither this one nor among the destroyed ones.

@@ -79,7 +79,7 @@ fn is_name_shared(current: &Current, mailbox: &Mailbox) -> bool
     }
     let siblings = current
         .content
-        .children_named(mailbox.parent, mailbox.name.as_bytes());
+        .find_children_named(mailbox.parent, mailbox.name.as_bytes());
     has_untouched_sibling(current, siblings, mailbox.number)
 }
 
@@ -249,7 +249,7 @@ fn breaks_none(current: &Current, mailbox: &Mailbox) -> bool
 }
 
 // Returns whether all mailboxes that edits put break no rule.
-fn all_keep(current: &Current, edits: &[Edit]) -> bool
+fn are_rules_kept_by(current: &Current, edits: &[Edit]) -> bool
     ensures { (c : TheContent) → Shows current.now c → Counts current.now c
         → result ≡ list_all (keeps_rules c) edits.now }
 {
@@ -262,9 +262,9 @@ fn all_keep(current: &Current, edits: &[Edit]) -> bool
 }
 
 /// Returns whether all mailboxes that the updates up to here put break no rule.
-pub fn all_keep_rules(current: &Current) -> bool
+pub fn are_rules_kept(current: &Current) -> bool
     ensures { (s : Progress) → Tracks current.now s → Counts current.now s.content
         → result ≡ all_keep_rules s }
 {
-    all_keep(current, &current.edits)
+    are_rules_kept_by(current, &current.edits)
 }

@@ -17,7 +17,7 @@ ghost use Rattle.set_parts.specs.declared.steps.Step.{Step};
 
 use crate::current::{Current, put_mailbox, start_current};
 use crate::patches::{Changed, change_mailbox};
-use crate::rules::{all_keep_rules, find_broken, is_same_parent};
+use crate::rules::{are_rules_kept, find_broken, is_same_parent};
 use crate::setting::{Setting, find_meant};
 use jm_base::{NoMemory, Text};
 use jm_json::Member;
@@ -272,7 +272,7 @@ pub fn perform_updates<'a, 'b>(
 {
     let mut together = start_current(alloc, content, creates)?;
     perform_each(alloc, &mut together, setting, false, updates)?;
-    if all_keep_rules(&together) {
+    if are_rules_kept(&together) {
         return Ok(together);
     }
     let mut current = start_current(alloc, content, creates)?;

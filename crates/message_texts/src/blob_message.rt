@@ -7,10 +7,10 @@ ghost use Rattle.filter_terms.specs.Texts.{has_text};
 ghost use Rattle.filter_terms.specs.declared.texts.Place.TheVariants as at;
 ghost use Rattle.message_texts.specs.Texts.{field_texts, main_texts, message_texts, part_texts};
 
-use crate::bodies::{read_bodies, some_contains};
+use crate::bodies::{has_in_texts, read_bodies};
 use crate::header_field::HeaderField;
 use crate::header_scan::scan_header;
-use crate::headers::{header_fields, is_any_named, named_fields_contain};
+use crate::headers::{has_in_named_fields, is_any_named, read_header_fields};
 use filter_terms::{OpenedMessage, Place};
 use jm_base::{NoMemory, Texts};
 use std::alloc::Global;
@@ -56,16 +56,16 @@ pub(crate) fn open_message<'a>(alloc: Global, bytes: &'a [u8]) -> BlobMessage<'a
 
 impl<'a> BlobMessage<'a> {
     // Returns whether a header field of one of these names contains the needle. No body is read.
-    fn header_contains(&mut self, names: &[&[u8]], needle: &[u8]) -> Result<bool, NoMemory>
+    fn has_in_header(&mut self, names: &[&[u8]], needle: &[u8]) -> Result<bool, NoMemory>
         ensures value { IfOk result (λ b. b ≡ list_any
             (λ name. some_contains needle.now (field_texts self.old name.now)) names.now) }
         ensures same { self.new ≡ self.old }
     {
         if let Some(fields) = &mut self.fields {
-            return named_fields_contain(self.alloc, fields.as_mut_slice(), names, needle);
+            return has_in_named_fields(self.alloc, fields.as_mut_slice(), names, needle);
         }
-        let mut fields = header_fields(self.alloc, self.bytes)?;
-        let found = named_fields_contain(self.alloc, fields.as_mut_slice(), names, needle)?;
+        let mut fields = read_header_fields(self.alloc, self.bytes)?;
+        let found = has_in_named_fields(self.alloc, fields.as_mut_slice(), names, needle)?;
         self.fields = Some(fields);
         Ok(found)
     }
@@ -73,7 +73,7 @@ impl<'a> BlobMessage<'a> {
     // Returns whether a header field of this name contains the needle. Unless the fields were found
     // before, the lines of the header are looked through first.
     #[tactic(auto, using(crate::proofs::Found::or_false))]
-    fn field_contains(&mut self, name: &[u8], needle: &[u8]) -> Result<bool, NoMemory>
+    fn has_in_field(&mut self, name: &[u8], needle: &[u8]) -> Result<bool, NoMemory>
         ensures value { IfOk result (λ b. b
             ≡ some_contains needle.now (field_texts self.old name.now)) }
         ensures same { self.new ≡ self.old }
@@ -83,7 +83,7 @@ impl<'a> BlobMessage<'a> {
                 return Ok(found);
             }
         }
-        self.header_contains(&[name], needle)
+        self.has_in_header(&[name], needle)
     }
 
     // Returns whether there is a header field of this name. No value is decoded.
@@ -94,21 +94,21 @@ impl<'a> BlobMessage<'a> {
         if let Some(fields) = &self.fields {
             return Ok(is_any_named(fields.as_slice(), name));
         }
-        let fields = header_fields(self.alloc, self.bytes)?;
+        let fields = read_header_fields(self.alloc, self.bytes)?;
         Ok(is_any_named(fields.as_slice(), name))
     }
 
     // Returns whether a text part contains the needle. The bodies are decoded the first time.
-    fn body_contains(&mut self, needle: &[u8]) -> Result<bool, NoMemory>
+    fn has_in_body(&mut self, needle: &[u8]) -> Result<bool, NoMemory>
         ensures value { IfOk result (λ b. b ≡ some_contains needle.now
             (part_texts self.old (walked (parts_of self.old)))) }
         ensures same { self.new ≡ self.old }
     {
         if let Some(texts) = &self.bodies {
-            return Ok(some_contains(texts.as_slice(), needle));
+            return Ok(has_in_texts(texts.as_slice(), needle));
         }
         let texts = read_bodies(self.alloc, self.bytes)?;
-        let found = some_contains(texts.as_slice(), needle);
+        let found = has_in_texts(texts.as_slice(), needle);
         self.bodies = Some(texts);
         Ok(found)
     }
@@ -126,12 +126,12 @@ impl<'a> BlobMessage<'a> {
             b"Bcc".as_slice(),
             b"Subject".as_slice(),
         ];
-        self.header_contains(&names, needle)
+        self.has_in_header(&names, needle)
     }
 
     // Returns whether one of the texts of all places contains the needle. The bodies are read only
     // if no header field contains it.
-    fn text_contains(&mut self, needle: &[u8]) -> Result<bool, NoMemory>
+    fn has_in_text(&mut self, needle: &[u8]) -> Result<bool, NoMemory>
         ensures value { IfOk result (λ b. b ≡ has_text (message_texts self.old) at.Text
             needle.now) }
         ensures same { self.new ≡ self.old }
@@ -139,7 +139,7 @@ impl<'a> BlobMessage<'a> {
         if self.main_fields_contain(needle)? {
             return Ok(true);
         }
-        self.body_contains(needle)
+        self.has_in_body(needle)
     }
 }
 
@@ -150,19 +150,19 @@ impl OpenedMessage for BlobMessage<'_> {
 
     fn has(&mut self, place: Place, needle: &[u8]) -> Result<bool, NoMemory> {
         match place {
-            Place::From => self.field_contains(b"From", needle),
-            Place::To => self.field_contains(b"To", needle),
-            Place::Cc => self.field_contains(b"Cc", needle),
-            Place::Bcc => self.field_contains(b"Bcc", needle),
-            Place::Subject => self.field_contains(b"Subject", needle),
-            Place::Body => self.body_contains(needle),
-            Place::Text => self.text_contains(needle),
+            Place::From => self.has_in_field(b"From", needle),
+            Place::To => self.has_in_field(b"To", needle),
+            Place::Cc => self.has_in_field(b"Cc", needle),
+            Place::Bcc => self.has_in_field(b"Bcc", needle),
+            Place::Subject => self.has_in_field(b"Subject", needle),
+            Place::Body => self.has_in_body(needle),
+            Place::Text => self.has_in_text(needle),
         }
     }
 
     fn field(&mut self, name: &[u8], needle: Option<&[u8]>) -> Result<bool, NoMemory> {
         match needle {
-            Some(needle) => self.field_contains(name, needle),
+            Some(needle) => self.has_in_field(name, needle),
             None => self.has_field(name),
         }
     }

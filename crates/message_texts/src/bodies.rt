@@ -19,7 +19,7 @@ use mime_words::decode_charset;
 use std::alloc::Global;
 
 // Returns the charset of a part; a part without one has us-ascii.
-fn charset_name(part: &Part) -> &[u8]
+fn find_charset_name(part: &Part) -> &[u8]
     ensures { result.now ≡ Bodies.charset_name (node_of part.now) }
 {
     match &part.charset {
@@ -40,7 +40,7 @@ fn read_text(alloc: Global, bytes: &[u8], part: &Part) -> Result<Text, NoMemory>
     ensures { IfOk result (λ t. t ≡ body_text bytes.now (node_of part.now)) }
 {
     let body = read_body(alloc, bytes, part)?;
-    let decoded = decode_charset(alloc, charset_name(part), body.as_slice())?;
+    let decoded = decode_charset(alloc, find_charset_name(part), body.as_slice())?;
     Ok(decoded.text)
 }
 
@@ -103,7 +103,7 @@ pub(crate) fn read_bodies(alloc: Global, bytes: &[u8]) -> Result<Texts, NoMemory
 }
 
 /// Returns whether one of these texts contains the needle.
-pub(crate) fn some_contains(texts: &[Text], needle: &[u8]) -> bool
+pub(crate) fn has_in_texts(texts: &[Text], needle: &[u8]) -> bool
     ensures { result ≡ some_contains needle.now texts.now }
 {
     for text in texts {

@@ -9,7 +9,7 @@ ghost use Rattle.message_texts.specs.Scan.{lines_have};
 
 use crate::plain_value::read_plain_text;
 use filter_terms::contains;
-use mime_lines::{is_line_end, split_line, text_len};
+use mime_lines::{count_text_bytes, is_line_end, split_line};
 
 // Returns whether a byte may be in the name of a field (ftext; RFC 5322, section 3.6.8).
 fn is_in_name(byte: u8) -> bool
@@ -42,18 +42,18 @@ fn is_field_named(line: &[u8], len: usize, name: &[u8]) -> bool
 
 // Returns what follows the colon of a field.
 #[tactic(auto, using(mime_lines::proofs::SpanFacts::colon_of_field))]
-fn value_of(line: &[u8], len: usize) -> &[u8]
+fn find_value(line: &[u8], len: usize) -> &[u8]
     requires len { len ≡ name_len line.now }
     requires field { is_field line.now ≡ true }
     ensures { result.now ≡ drop (name_len line.now + 1) (text line.now) }
 {
-    let text = &line[..text_len(line)];
+    let text = &line[..count_text_bytes(line)];
     &text[len + 1..]
 }
 
 // Returns whether the Text form of a value contains the needle, or None if the value needs
 // decoding.
-fn value_contains(value: &[u8], needle: &[u8]) -> Option<bool>
+fn find_in_value(value: &[u8], needle: &[u8]) -> Option<bool>
     ensures { IfSome result (λ b. b ≡ contains needle.now (text_form value.now)) }
 {
     match read_plain_text(value) {
@@ -73,7 +73,7 @@ fn is_continuation(rest: &[u8]) -> bool
 }
 
 // Returns whether a line that is a field contains the needle, or None if that is left open.
-fn field_contains(line: &[u8], len: usize, after: &[u8], needle: &[u8]) -> Option<bool>
+fn find_in_field(line: &[u8], len: usize, after: &[u8], needle: &[u8]) -> Option<bool>
     requires len { len ≡ name_len line.now }
     requires field { is_field line.now ≡ true }
     ensures value { IfSome result (λ b. b ≡ contains needle.now
@@ -83,12 +83,12 @@ fn field_contains(line: &[u8], len: usize, after: &[u8], needle: &[u8]) -> Optio
     if is_continuation(after) {
         return None;
     }
-    value_contains(value_of(line, len), needle)
+    find_in_value(find_value(line, len), needle)
 }
 
 // Returns whether a line is a field of a name that contains the needle, or None if that is left
 // open: if the field is continued on the next line, or its value needs decoding.
-fn line_contains(line: &[u8], after: &[u8], name: &[u8], needle: &[u8]) -> Option<bool>
+fn find_in_line(line: &[u8], after: &[u8], name: &[u8], needle: &[u8]) -> Option<bool>
     ensures { IfSome result (λ b. lines_have name.now needle.now
         (line.now ∷ header (lines after.now))
         ≡ (b || lines_have name.now needle.now (header (lines after.now)))) }
@@ -100,7 +100,7 @@ fn line_contains(line: &[u8], after: &[u8], name: &[u8], needle: &[u8]) -> Optio
     if !is_field_named(line, len, name) {
         return Some(false);
     }
-    field_contains(line, len, after, needle)
+    find_in_field(line, len, after, needle)
 }
 
 /// Returns whether a header field of a name contains the needle, or None if that is left open,
@@ -115,7 +115,7 @@ pub(crate) fn scan_header(bytes: &[u8], name: &[u8], needle: &[u8]) -> Option<bo
         if is_line_end(line) {
             return Some(false);
         }
-        let found = line_contains(line, after, name, needle)?;
+        let found = find_in_line(line, after, name, needle)?;
         if found {
             return Some(true);
         }

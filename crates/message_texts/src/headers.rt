@@ -11,7 +11,7 @@ use mime_lines::fields;
 use std::alloc::Global;
 
 /// Returns the fields of the header of the message with these bytes. No value is decoded.
-pub(crate) fn header_fields<'a>(
+pub(crate) fn read_header_fields<'a>(
     alloc: Global,
     bytes: &'a [u8],
 ) -> Result<Vec<HeaderField<'a>>, NoMemory>
@@ -27,7 +27,7 @@ pub(crate) fn header_fields<'a>(
 }
 
 // Returns whether one of these fields has this name and contains the needle.
-fn fields_contain(
+fn has_in_fields(
     alloc: Global,
     fields: &mut [HeaderField<'_>],
     name: &[u8],
@@ -46,7 +46,7 @@ fn fields_contain(
 }
 
 /// Returns whether one of these fields has one of these names and contains the needle.
-pub(crate) fn named_fields_contain(
+pub(crate) fn has_in_named_fields(
     alloc: Global,
     fields: &mut [HeaderField<'_>],
     names: &[&[u8]],
@@ -57,7 +57,7 @@ pub(crate) fn named_fields_contain(
     ensures same { fields.new ≡ fields.old }
 {
     for name in names {
-        if fields_contain(alloc, fields, name, needle)? {
+        if has_in_fields(alloc, fields, name, needle)? {
             return Ok(true);
         }
     }

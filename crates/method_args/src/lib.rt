@@ -14,7 +14,7 @@ mod wrapped;
 pub use form::{Argument, Presence, Shape, find_invalid, has_form};
 pub use ids::make_ids;
 pub use values::{
-    find_given, if_unsigned, lend_strings, read_account, read_count, read_flag, read_integer,
+    check_unsigned, find_given, lend_strings, read_account, read_count, read_flag, read_integer,
     read_object, read_strings, read_text,
 };
 pub use wrapped::{wrap_list, wrap_object};

@@ -40,7 +40,7 @@ pub fn read_object<'a>(members: &'a Members, name: &str) -> Option<&'a Members>
 }
 
 // Returns the strings of a list all of whose items are strings.
-fn strings_from<'a>(alloc: Global, items: &'a [Json]) -> Result<Option<Vec<&'a str>>, NoMemory>
+fn collect_strings<'a>(alloc: Global, items: &'a [Json]) -> Result<Option<Vec<&'a str>>, NoMemory>
     ensures { IfOk result
         (λ o. option_map (λ v. map (λ t. t.now) v.items) o ≡ texts_from (map tree_of items.now)) }
 {
@@ -60,7 +60,7 @@ pub fn lend_strings<'a>(alloc: Global, value: &'a Json) -> Result<Option<Vec<&'a
         (λ o. option_map (λ v. map (λ t. t.now) v.items) o ≡ as_strings (tree_of value.now)) }
 {
     match value.as_list() {
-        Some(items) => strings_from(alloc, items.as_slice()),
+        Some(items) => collect_strings(alloc, items.as_slice()),
         None => Ok(None),
     }
 }
@@ -81,7 +81,7 @@ pub fn read_strings<'a>(
     }
 }
 
-fn flag_by(value: Option<&Json>) -> Option<bool>
+fn read_flag_value(value: Option<&Json>) -> Option<bool>
     ensures { result ≡ flag_by (option_map (λ t. tree_of t.now) value.entry) }
 {
     match value {
@@ -96,11 +96,11 @@ fn flag_by(value: Option<&Json>) -> Option<bool>
 pub fn read_flag(members: &Members, name: &str) -> Option<bool>
     ensures { result ≡ flag_in name.now members.now }
 {
-    flag_by(members.get(name))
+    read_flag_value(members.get(name))
 }
 
 /// Returns the number if it is an UnsignedInt, and else `None` (RFC 8620, section 1.3).
-pub fn if_unsigned(number: i64) -> Option<u64>
+pub fn check_unsigned(number: i64) -> Option<u64>
     ensures { result ≡ if_unsigned number }
 {
     if number < 0 {
@@ -114,7 +114,7 @@ fn count_by(value: Option<&Json>) -> Option<u64>
 {
     match value {
         None => Some(0),
-        Some(Json::Int(number)) => if_unsigned(*number),
+        Some(Json::Int(number)) => check_unsigned(*number),
         Some(_) => None,
     }
 }
@@ -127,7 +127,7 @@ pub fn read_count(members: &Members, name: &str) -> Option<u64>
     count_by(members.get(name))
 }
 
-fn number_of(value: Option<&Json>) -> Option<i64>
+fn read_number(value: Option<&Json>) -> Option<i64>
     ensures { result ≡ option_and_then number_of (option_map (λ t. tree_of t.now) value.entry) }
 {
     match value {
@@ -140,5 +140,5 @@ fn number_of(value: Option<&Json>) -> Option<i64>
 pub fn read_integer(members: &Members, name: &str) -> Option<i64>
     ensures { result ≡ integer_in name.now members.now }
 {
-    number_of(members.get(name))
+    read_number(members.get(name))
 }

@@ -17,7 +17,7 @@ use crate::outcome::{Outcome, Problem};
 use crate::port::Port;
 use crate::progress::Progress;
 use crate::request::Request;
-use crate::using::uses;
+use crate::using::has_capability;
 use jm_base::{Bytes, MAX_REQUEST_BYTES, NoMemory};
 use jm_json::{Json, ReadFault, RequestMembers, Scratch, copy, read_request, read_with};
 use std::alloc::Global;
@@ -239,7 +239,7 @@ fn answer_form<P: Port>(alloc: Global, port: &mut P, request: Request) -> Result
         (λ a. IsOutcomeBy P.answers port.old port.new (Some request) (outcome_of a)) }
     ensures begun { OnErr result (HasBegunBy P.answers P.stops port.old port.new (Some request)) }
 {
-    match request.problem() {
+    match request.find_problem() {
         Some(problem) => Ok(Answered::Rejected(problem)),
         None => answer_calls(alloc, port, request),
     }
@@ -259,11 +259,11 @@ fn answer_calls<P: Port>(
         calls,
         created,
     } = request;
-    let core = uses(using.as_slice(), CORE);
-    let mail = uses(using.as_slice(), MAIL);
+    let core = has_capability(using.as_slice(), CORE);
+    let mail = has_capability(using.as_slice(), MAIL);
     let shows = created.is_some();
     let begun = Progress::begin(alloc, created);
-    match begun.after_calls(alloc, port, core, mail, calls) {
+    match begun.perform_calls(alloc, port, core, mail, calls) {
         Ok(after) => Ok(Answered::Performed(shows, after)),
         Err(refused) => Err(refused),
     }

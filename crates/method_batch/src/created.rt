@@ -41,7 +41,7 @@ fn read_pairs(alloc: Global, members: Members) -> Result<Option<Made>, NoMemory>
 }
 
 // Sorts created records by creation id; records with one creation id stay in the order of creation.
-fn in_order(made: Made) -> Result<Vec<Created>, NoMemory>
+fn sort_created(made: Made) -> Result<Vec<Created>, NoMemory>
     ensures { IfOk result (λ cs. put_ids [] cs.items ≡ put_ids [] made) }
 {
     let mut all = made.into_vec();
@@ -51,11 +51,11 @@ fn in_order(made: Made) -> Result<Vec<Created>, NoMemory>
 
 /// Returns the members for created records: of records with one creation id the last counts. Each
 /// is put at the end, or in place of the last one.
-pub(crate) fn id_members(alloc: Global, made: Made) -> Result<Members, NoMemory>
+pub(crate) fn build_id_members(alloc: Global, made: Made) -> Result<Members, NoMemory>
     ensures { IfOk result (λ ms. ms ≡ put_ids [] made) }
 {
     let mut members = Members::new(alloc);
-    let mut rest = VecDeque::from_vec(in_order(made)?);
+    let mut rest = VecDeque::from_vec(sort_created(made)?);
     while let Some(created) = rest.pop_front() {
         members.put(created.creation, Json::Text(created.id))?;
     }

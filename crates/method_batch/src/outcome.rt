@@ -30,7 +30,7 @@ pub enum Problem {
 impl Problem {
     ghost use Rattle.method_batch.specs.Outcome.{problem_type, problem_limit, problem_status, limit_member};
 
-    fn name(self) -> &'static str
+    fn find_type(self) -> &'static str
         ensures { result.now ≡ problem_type self }
     {
         match self {
@@ -43,7 +43,7 @@ impl Problem {
     }
 
     // Returns the name of the limit that was passed.
-    fn limit(self) -> Option<&'static str>
+    fn find_limit(self) -> Option<&'static str>
         ensures { option_map (λ s. s.now) result ≡ problem_limit self }
     {
         match self {
@@ -67,7 +67,7 @@ impl Problem {
         ensures { IfOk result (λ ms. ms ≡ limit_member (problem_limit self)) }
     {
         let mut members = Members::new(alloc);
-        match self.limit() {
+        match self.find_limit() {
             Some(limit) => {
                 let limit = Text::from_str(alloc, limit)?;
                 members.set(alloc, "limit", Json::Text(limit))?;
@@ -101,7 +101,7 @@ impl Outcome {
         let status = problem.status();
         let mut members = problem.limit_members(alloc)?;
         members.set(alloc, "status", Json::Int(status as i64))?;
-        let name = Text::from_str(alloc, problem.name())?;
+        let name = Text::from_str(alloc, problem.find_type())?;
         members.set(alloc, "type", Json::Text(name))?;
         Ok(Outcome {
             status,

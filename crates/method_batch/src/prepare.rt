@@ -65,12 +65,12 @@ impl Prepared {
             ≤ room.old) }
     {
         if has_reference(&call.args) {
-            return Prepared::resolved(alloc, room, call, responses);
+            return Prepared::resolve_call(alloc, room, call, responses);
         }
         Ok(Prepared::Ready(call))
     }
 
-    fn resolved(
+    fn resolve_call(
         alloc: Global,
         room: &mut u64,
         call: Invocation,
@@ -95,7 +95,7 @@ impl Prepared {
     fn reject(alloc: Global, kind: &str, id: Text) -> Result<Prepared, NoMemory>
         ensures { IfOk result (λ p. preparation_of p ≡ refused (error_of kind.now id)) }
     {
-        Ok(Prepared::Refused(Invocation::error(alloc, kind, id)?))
+        Ok(Prepared::Refused(Invocation::build_error_response(alloc, kind, id)?))
     }
 }
 

@@ -36,7 +36,7 @@ impl Progress {
     /// Performs calls in order. If memory runs out, the first ones were performed, the port stopped
     /// at the next one, and no other was performed. Their references take at most
     /// [`MAX_REFERENCE_BYTES`] together; past that the request ends out of memory.
-    pub(crate) fn after_calls<P: Port>(
+    pub(crate) fn perform_calls<P: Port>(
         self,
         alloc: Global,
         port: &mut P,

@@ -49,7 +49,7 @@ fn reply_prepared<P: Port>(
         (StopsPrepared P.stops port.old port.new (preparation_of prepared) made.now) }
 {
     match prepared {
-        Prepared::Refused(response) => alone(alloc, response),
+        Prepared::Refused(response) => build_single_reply(alloc, response),
         Prepared::Ready(call) => reply_ready(alloc, port, call, made),
     }
 }
@@ -67,7 +67,7 @@ fn reply_ready<P: Port>(
         (StopsPrepared P.stops port.old port.new (ready (call_of call)) made.now) }
 {
     if is_echo(&call) {
-        return alone(alloc, call);
+        return build_single_reply(alloc, call);
     }
     port.call(alloc, &call, made)
 }
@@ -79,7 +79,7 @@ fn is_echo(call: &Invocation) -> bool
 }
 
 // Returns the reply that is one response and created nothing.
-fn alone(alloc: Global, response: Invocation) -> Result<Replied, NoMemory>
+fn build_single_reply(alloc: Global, response: Invocation) -> Result<Replied, NoMemory>
     ensures { IfOk result (λ r. r ≡ record { responses = call_of response ∷ []; made = [] }) }
 {
     let mut responses = Invocations::new(alloc);

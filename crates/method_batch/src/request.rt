@@ -51,7 +51,7 @@ impl Request {
     fn of_members(alloc: Global, members: Members) -> Result<Option<Request>, NoMemory>
         ensures { IfOk result (λ o. o ≡ request_in members) }
     {
-        let parts = parts_of(members);
+        let parts = collect_parts(members);
         let capabilities = read_texts(alloc, parts.using)?;
         let calls = read_calls(alloc, parts.calls)?;
         Request::with_created(alloc, parts.created, capabilities, calls)
@@ -114,7 +114,7 @@ impl Request {
 
     /// Returns why the request is rejected, if it is: a capability is not known, or there are more
     /// than [`MAX_CALLS_PER_REQUEST`] calls.
-    pub(crate) fn problem(&self) -> Option<Problem>
+    pub(crate) fn find_problem(&self) -> Option<Problem>
         ensures { result ≡ problem_in self.now }
     {
         if !are_known(self.using.as_slice()) {
@@ -127,7 +127,7 @@ impl Request {
     }
 }
 
-fn parts_of(members: Members) -> Parts
+fn collect_parts(members: Members) -> Parts
     ensures using { option_map tree_of result.using ≡ find (codes "using") members }
     ensures calls { option_map tree_of result.calls ≡ find (codes "methodCalls") members }
     ensures created { option_map tree_of result.created ≡ find (codes "createdIds") members }

@@ -6,7 +6,7 @@ ghost use Rattle.jm_json.specs.JsonValues.{data_of};
 ghost use Rattle.jm_json.specs.Invocations.{call_of};
 ghost use Rattle.method_batch.specs.Outcome.{call_tree, created_member, response_tree};
 
-use crate::created::id_members;
+use crate::created::build_id_members;
 use crate::progress::Progress;
 use jm_base::{Bytes, NoMemory, Text};
 use jm_json::{
@@ -25,7 +25,7 @@ pub(crate) fn response(alloc: Global, shows: bool, after: Progress) -> Result<Js
 {
     let Progress { responses, made } = after;
     let items = call_lists(alloc, responses)?;
-    let mut members = created_members(alloc, shows, made)?;
+    let mut members = build_created_members(alloc, shows, made)?;
     members.set(alloc, "methodResponses", Json::List(items))?;
     let state = Text::from_str(alloc, SESSION_STATE)?;
     members.set(alloc, "sessionState", Json::Text(state))?;
@@ -58,12 +58,12 @@ pub(crate) fn write_response(
     )
 }
 
-fn created_members(alloc: Global, shows: bool, made: Made) -> Result<Members, NoMemory>
+fn build_created_members(alloc: Global, shows: bool, made: Made) -> Result<Members, NoMemory>
     ensures { IfOk result (λ ms. ms ≡ created_member shows made) }
 {
     let mut members = Members::new(alloc);
     if shows {
-        let ids = id_members(alloc, made)?;
+        let ids = build_id_members(alloc, made)?;
         members.set(alloc, "createdIds", Json::Object(ids))?;
         return Ok(members);
     }

@@ -54,7 +54,7 @@ pub(crate) fn are_known(texts: &[Text]) -> bool
 }
 
 /// Returns whether one of the strings is this capability.
-pub(crate) fn uses(texts: &[Text], capability: &str) -> bool
+pub(crate) fn has_capability(texts: &[Text], capability: &str) -> bool
     ensures { result ≡ uses capability.now texts.now }
 {
     for text in texts {

@@ -7,7 +7,7 @@ ghost use Rattle.mime_codec.specs.Escapes.{starts_escape};
 
 use crate::base64::entry;
 use jm_base::{Bytes, NoMemory};
-use mime_lines::{BLOCK_BYTES, count_before, split_line, text_len};
+use mime_lines::{BLOCK_BYTES, count_before, count_text_bytes, split_line};
 use std::alloc::Global;
 
 /// What `read_digit` returns for a byte that is no hexadecimal digit.
@@ -209,7 +209,7 @@ fn push_line(out: &mut Vec<u8>, text: &[u8], line: &[u8]) -> Result<(), NoMemory
     requires { take (length line.now) text.now ≡ line.now }
     ensures { OnOk result (out.new.items ≡ out.old.items ++ quoted_line line.now) }
 {
-    let (front, end) = line.split_at(text_len(line));
+    let (front, end) = line.split_at(count_text_bytes(line));
     push_text(out, text, trim_end(front).len(), end)
 }
 

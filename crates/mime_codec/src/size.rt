@@ -10,7 +10,7 @@ ghost use Rattle.mime_codec.specs.Escapes.{escapes};
 use crate::coding::Coding;
 use crate::quoted::trim_end;
 use memchr::memchr;
-use mime_lines::{split_line, text_len};
+use mime_lines::{count_text_bytes, split_line};
 
 /// Returns whether a character is of the alphabet. It compares, where `decode_letter` reads a
 /// table: a loop over comparisons becomes vector code.
@@ -25,7 +25,7 @@ fn is_letter(byte: u8) -> bool
 }
 
 /// Returns one for a character of the alphabet, and else none.
-fn letters_of(byte: u8) -> u8
+fn count_if_letter(byte: u8) -> u8
     ensures value { result ≡ cond (Base64.is_letter byte) 1 0 }
     ensures within { result ≤ 1 }
 {
@@ -36,13 +36,13 @@ fn letters_of(byte: u8) -> u8
 const MAX_BLOCK_BYTES: usize = 255;
 
 /// Returns how many characters of a block are of the alphabet.
-fn block_letters(block: &[u8]) -> u8
+fn count_block_letters(block: &[u8]) -> u8
     requires { length block.now ≤ MAX_BLOCK_BYTES }
     ensures { result ≡ count_by Base64.is_letter block.now }
 {
     let mut count = 0;
     for byte in block {
-        count += letters_of(*byte);
+        count += count_if_letter(*byte);
     }
     count
 }
@@ -60,7 +60,7 @@ fn split_block(text: &[u8]) -> (&[u8], &[u8])
 }
 
 /// Returns the bytes before the first equals sign.
-fn before_padding(bytes: &[u8]) -> &[u8]
+fn take_before_padding(bytes: &[u8]) -> &[u8]
     ensures value { length (letters bytes.now) ≡ count_by Base64.is_letter result.now }
     ensures within { length result.now ≤ length bytes.now }
 {
@@ -76,16 +76,16 @@ fn count_letters(bytes: &[u8]) -> usize
     ensures within { result ≤ length bytes.now }
 {
     let mut count = 0;
-    let mut left = before_padding(bytes);
+    let mut left = take_before_padding(bytes);
     while !left.is_empty() {
         let (block, rest) = split_block(left);
-        count += block_letters(block) as usize;
+        count += count_block_letters(block) as usize;
         left = rest;
     }
     count
 }
 
-fn base64_size(bytes: &[u8]) -> usize
+fn compute_base64_size(bytes: &[u8]) -> usize
     ensures value { result ≡ length (base64 bytes.now) }
     ensures within { result ≤ length bytes.now }
 {
@@ -101,14 +101,14 @@ fn is_digit(byte: u8) -> bool
 }
 
 /// Returns one for an equals sign, and else none.
-fn signs_of(byte: u8) -> u8
+fn count_if_equals_sign(byte: u8) -> u8
     ensures { result ≡ cond (byte == 61) 1 0 }
 {
     if byte == b'=' { 1 } else { 0 }
 }
 
 /// Returns one for a hexadecimal digit, and else none.
-fn digits_of(byte: u8) -> u8
+fn count_if_hex_digit(byte: u8) -> u8
     ensures { result ≡ cond (is_hex byte) 1 0 }
 {
     if is_digit(byte) { 1 } else { 0 }
@@ -116,18 +116,18 @@ fn digits_of(byte: u8) -> u8
 
 /// Returns one if these three bytes are an escape, and else none. It has no branch, so that a loop
 /// over it becomes vector code.
-fn escapes_of(byte: u8, high: u8, low: u8) -> u8
+fn count_if_escape(byte: u8, high: u8, low: u8) -> u8
     ensures value { result ≡ cond (is_escape byte high low) 1 0 }
     ensures within { result ≤ 1 }
 {
-    signs_of(byte) & digits_of(high) & digits_of(low)
+    count_if_equals_sign(byte) & count_if_hex_digit(high) & count_if_hex_digit(low)
 }
 
 /// The most bytes whose escapes a `u8` counts: none begins with one of the last two.
 const MAX_WINDOW_BYTES: usize = 257;
 
 /// Returns how many escapes a text has.
-fn window_escapes(text: &[u8]) -> u8
+fn count_window_escapes(text: &[u8]) -> u8
     requires some { 2 ≤ length text.now }
     requires small { length text.now ≤ MAX_WINDOW_BYTES }
     ensures value { result ≡ escapes text.now }
@@ -135,7 +135,7 @@ fn window_escapes(text: &[u8]) -> u8
 {
     let mut count = 0;
     for i in 0..text.len() - 2 {
-        count += escapes_of(text[i], text[i + 1], text[i + 2]);
+        count += count_if_escape(text[i], text[i + 1], text[i + 2]);
     }
     count
 }
@@ -168,7 +168,7 @@ fn count_escapes(text: &[u8]) -> usize
     let mut left = text;
     while left.len() >= 2 {
         let (window, rest) = split_window(left);
-        count += window_escapes(window) as usize;
+        count += count_window_escapes(window) as usize;
         left = rest;
     }
     count
@@ -176,7 +176,7 @@ fn count_escapes(text: &[u8]) -> usize
 
 /// Returns whether a line with this text, without the white space at its end, ends with a soft line
 /// break.
-fn ends_soft(text: &[u8]) -> bool
+fn has_soft_line_break(text: &[u8]) -> bool
     ensures { result ≡ is_soft text.now }
 {
     match text.last() {
@@ -190,9 +190,9 @@ fn ends_soft(text: &[u8]) -> bool
 fn count_cut(line: &[u8]) -> usize
     ensures { length (quoted_line line.now) + 2 * escapes line.now + result ≡ length line.now }
 {
-    let text = line.split_at(text_len(line)).0;
+    let text = line.split_at(count_text_bytes(line)).0;
     let front = trim_end(text);
-    if ends_soft(front) {
+    if has_soft_line_break(front) {
         return line.len() - (front.len() - 1);
     }
     text.len() - front.len()
@@ -213,7 +213,7 @@ fn count_all_cut(bytes: &[u8]) -> usize
     count
 }
 
-fn quoted_size(bytes: &[u8]) -> usize
+fn compute_quoted_printable_size(bytes: &[u8]) -> usize
     ensures value { result ≡ length (quoted_printable bytes.now) }
     ensures within { result ≤ length bytes.now }
 {
@@ -229,8 +229,8 @@ pub fn count_decoded(coding: Coding, bytes: &[u8]) -> u64
 {
     let size = match coding {
         Coding::Plain | Coding::Unknown => bytes.len(),
-        Coding::Quoted => quoted_size(bytes),
-        Coding::Base64 => base64_size(bytes),
+        Coding::Quoted => compute_quoted_printable_size(bytes),
+        Coding::Base64 => compute_base64_size(bytes),
     };
     size as u64
 }

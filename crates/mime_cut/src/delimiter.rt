@@ -7,7 +7,7 @@ ghost use Rattle.mime_cut.specs.UpToDelimiter.{up_to_delimiter, lines_after};
 
 use crate::line_kind::{LineKind, read_line_kind};
 use memchr::memmem::find;
-use mime_lines::{split_line, text_len};
+use mime_lines::{count_text_bytes, split_line};
 
 /// The first delimiter line or close-delimiter in some bytes, or their end if there is none.
 #[derive(Clone, Copy, Debug)]
@@ -63,7 +63,7 @@ fn scan<'a>(boundary: &[u8], bytes: &'a [u8]) -> Delimiter<'a>
         match kind {
             LineKind::Other => {
                 let (plain, later) = split_plain(rest);
-                before = size + text_len(plain);
+                before = size + count_text_bytes(plain);
                 size += plain.len();
                 rest = later;
             }

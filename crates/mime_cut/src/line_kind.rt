@@ -4,7 +4,7 @@ ghost use Rattle.std.specs.List.{list_all};
 ghost use Rattle.mime_lines.specs.Lines.{is_blank};
 ghost use Rattle.mime_cut.specs.DelimiterLines.{after_prefix, dashes, kind_by_rest, line_kind};
 
-use mime_lines::text_len;
+use mime_lines::count_text_bytes;
 
 /// What a line is to a boundary (RFC 2046, section 5.1.1). A delimiter line and a close-delimiter
 /// may end with transport padding: spaces and tabs.
@@ -63,7 +63,7 @@ fn read_kind_by_rest(rest: &[u8]) -> LineKind
 pub fn read_line_kind(boundary: &[u8], line: &[u8]) -> LineKind
     ensures { result ≡ line_kind boundary.now line.now }
 {
-    let (text, _) = line.split_at(text_len(line));
+    let (text, _) = line.split_at(count_text_bytes(line));
     match strip_boundary(boundary, text) {
         Some(rest) => read_kind_by_rest(rest),
         None => LineKind::Other,

@@ -2,7 +2,7 @@
 ghost use Rattle.std.specs.Prelude.{◌≡◌, IfOk};
 ghost use Rattle.mime_lines.specs.Lines.{unfolded};
 
-use crate::scan::{split_line, text_len};
+use crate::scan::{count_text_bytes, split_line};
 use jm_base::{Bytes, NoMemory};
 use std::alloc::Global;
 
@@ -14,7 +14,7 @@ pub fn unfold(alloc: Global, value: &[u8]) -> Result<Bytes, NoMemory>
     let mut rest = value;
     while !rest.is_empty() {
         let (folded, more) = split_line(rest);
-        line.append(&folded[..text_len(folded)])?;
+        line.append(&folded[..count_text_bytes(folded)])?;
         rest = more;
     }
     Ok(line)

@@ -4,7 +4,7 @@ ghost use Rattle.mime_lines.specs.Fields.{fields_of, body_of, spans};
 ghost use Rattle.mime_lines.specs.FieldOffsets.{IsWithin};
 
 use crate::field::{Field, FieldSpans};
-use crate::scan::{find_colon, is_line_end, split_field, split_line, text_len};
+use crate::scan::{count_text_bytes, find_colon, is_line_end, split_field, split_line};
 use jm_base::{NoMemory, Sequence};
 use std::alloc::Global;
 
@@ -25,7 +25,7 @@ fn push_field(fields: &mut FieldSpans, at: usize, lines: &[u8]) -> Result<(), No
         fields.push(Field {
             start: at as u64,
             colon: (at + colon) as u64,
-            end: (at + text_len(lines)) as u64,
+            end: (at + count_text_bytes(lines)) as u64,
         })?;
     }
     Ok(())

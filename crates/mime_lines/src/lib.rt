@@ -15,4 +15,4 @@ pub use blocks::{BLOCK_BYTES, count_before};
 pub use field::{Field, FieldSpans, fields_stand, find_last_value};
 pub use folding::unfold;
 pub use head::{Head, fields};
-pub use scan::{is_line_end, split_line, text_len};
+pub use scan::{count_text_bytes, is_line_end, split_line};

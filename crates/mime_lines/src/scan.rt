@@ -61,7 +61,7 @@ pub fn is_line_end(line: &[u8]) -> bool
 }
 
 /// Returns how many bytes one or more lines have without the line end at their end.
-pub fn text_len(line: &[u8]) -> usize
+pub fn count_text_bytes(line: &[u8]) -> usize
     ensures within { result ≤ length line.now }
     ensures value { text line.now ≡ take result line.now }
 {
@@ -87,7 +87,7 @@ fn is_folded(line: &[u8]) -> bool
 }
 
 /// Returns how many bytes the lines at the start have that continue the line before them.
-fn folded_len(rest: &[u8]) -> usize
+fn count_folded_bytes(rest: &[u8]) -> usize
     ensures within { result ≤ length rest.now }
     ensures front { followers (lines rest.now) ≡ take result rest.now }
     ensures back { lines (drop result rest.now) ≡ others (lines rest.now) }
@@ -112,7 +112,7 @@ pub fn split_field<'a>(rest: &'a [u8], line: &[u8], after: &[u8]) -> (&'a [u8], 
     ensures front { result.0.now ≡ line.now ++ followers (lines after.now) }
     ensures back { lines result.1.now ≡ others (lines after.now) }
 {
-    rest.split_at(line.len() + folded_len(after))
+    rest.split_at(line.len() + count_folded_bytes(after))
 }
 
 /// Returns whether a byte may be in the name of a field (ftext; RFC 5322, section 3.6.8).
@@ -123,7 +123,7 @@ fn is_in_name(byte: u8) -> bool
 }
 
 /// Returns how many bytes of a field's name are at the start.
-fn name_length(line: &[u8]) -> usize
+fn count_name_bytes(line: &[u8]) -> usize
     ensures within { result ≤ length line.now }
     ensures value { result ≡ name_len line.now }
 {
@@ -140,7 +140,7 @@ pub fn find_colon(line: &[u8]) -> Option<usize>
     ensures within { IfSome result (λ colon. colon ≤ length line.now) }
     ensures value { result ≡ cond (is_field line.now) (Some (name_len line.now)) None }
 {
-    let len = name_length(line);
+    let len = count_name_bytes(line);
     if 0 < len && len < line.len() && line[len] == b':' {
         Some(len)
     } else {

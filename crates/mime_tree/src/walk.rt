@@ -59,7 +59,7 @@ fn read_part_tree(
         budget.number += 1;
         return Ok(part);
     }
-    let parts = parts_within(alloc, budget, message, &part, levels)?;
+    let parts = read_parts_within(alloc, budget, message, &part, levels)?;
     part.parts = parts;
     Ok(part)
 }
@@ -67,7 +67,7 @@ fn read_part_tree(
 /// Reads the parts of a multipart's body, as far as the budget goes. The next delimiter line is
 /// looked for only when one more part is kept.
 #[cycle(walk)]
-fn parts_within(
+fn read_parts_within(
     alloc: Global,
     budget: &mut Budget,
     message: &[u8],

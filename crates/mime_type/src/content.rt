@@ -49,7 +49,7 @@ fn is_multipart(kind: &[u8]) -> bool
 }
 
 /// Returns a boundary, if it isn't empty.
-fn if_any(boundary: Option<Text>) -> Option<Text>
+fn keep_if_not_empty(boundary: Option<Text>) -> Option<Text>
     ensures { result ≡ Rattle.mime_type.specs.Content.if_any boundary }
 {
     match boundary {
@@ -72,7 +72,7 @@ pub fn read_boundary(alloc: Global, kind: &Kind<'_>) -> Result<Option<Text>, NoM
     if !is_multipart(kind.kind.as_slice()) {
         return Ok(None);
     }
-    Ok(if_any(read_parameter(alloc, kind.params, b"boundary")?))
+    Ok(keep_if_not_empty(read_parameter(alloc, kind.params, b"boundary")?))
 }
 
 /// Returns the type that a part is read as. A multipart without a boundary is

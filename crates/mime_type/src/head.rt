@@ -23,7 +23,7 @@ use std::alloc::Global;
 
 /// Reads the value of the last field of a name, on one line, if there is one.
 #[tactic(auto, unfolding(crate::specs::Head::field_text))]
-fn field_text(
+fn read_field_text(
     alloc: Global,
     bytes: &[u8],
     fields: &FieldSpans,
@@ -51,7 +51,7 @@ struct Content {
 }
 
 /// Reads what a type says of a part, of which its disposition and its name are known.
-fn content_of(
+fn build_content(
     alloc: Global,
     kind: Kind<'_>,
     disposition: Option<Text>,
@@ -94,7 +94,7 @@ fn read_kinds(
     let kind = read_type(alloc, kind_text, digest)?;
     let shown = read_disposition(alloc, shown_text)?;
     let name = read_name(alloc, &shown, &kind)?;
-    content_of(alloc, kind, read_shown(shown), name)
+    build_content(alloc, kind, read_shown(shown), name)
 }
 
 /// Reads Content-Type and Content-Disposition.
@@ -114,8 +114,8 @@ fn read_content(
     ensures name { IfOk result (λ c. c.name ≡ name_of (shown_in bytes.now)
         (kind_in digest bytes.now)) }
 {
-    let kind_text = field_text(alloc, bytes, fields, b"content-type")?;
-    let shown_text = field_text(alloc, bytes, fields, b"content-disposition")?;
+    let kind_text = read_field_text(alloc, bytes, fields, b"content-type")?;
+    let shown_text = read_field_text(alloc, bytes, fields, b"content-disposition")?;
     read_kinds(alloc, &kind_text, &shown_text, digest)
 }
 
@@ -129,42 +129,58 @@ struct Labels {
 }
 
 /// Reads Content-Id.
-fn id_of(alloc: Global, bytes: &[u8], fields: &FieldSpans) -> Result<Option<Text>, NoMemory>
+fn read_content_id(
+    alloc: Global,
+    bytes: &[u8],
+    fields: &FieldSpans,
+) -> Result<Option<Text>, NoMemory>
     requires within { All (IsWithin bytes.now) fields.now }
     requires whole { fields.now ≡ fields_of bytes.now }
     ensures { IfOk result (λ r. r ≡ option_map id_in (Head.field_text (codes "content-id") bytes.now)) }
 {
-    let text = field_text(alloc, bytes, fields, b"content-id")?;
+    let text = read_field_text(alloc, bytes, fields, b"content-id")?;
     read_id(alloc, &text)
 }
 
 /// Reads Content-Language.
-fn language_of(alloc: Global, bytes: &[u8], fields: &FieldSpans) -> Result<Option<Texts>, NoMemory>
+fn read_content_language(
+    alloc: Global,
+    bytes: &[u8],
+    fields: &FieldSpans,
+) -> Result<Option<Texts>, NoMemory>
     requires within { All (IsWithin bytes.now) fields.now }
     requires whole { fields.now ≡ fields_of bytes.now }
     ensures { IfOk result (λ r. r ≡ option_map languages_in (Head.field_text (codes "content-language") bytes.now)) }
 {
-    let text = field_text(alloc, bytes, fields, b"content-language")?;
+    let text = read_field_text(alloc, bytes, fields, b"content-language")?;
     read_language(alloc, &text)
 }
 
 /// Reads Content-Location.
-fn location_of(alloc: Global, bytes: &[u8], fields: &FieldSpans) -> Result<Option<Text>, NoMemory>
+fn read_content_location(
+    alloc: Global,
+    bytes: &[u8],
+    fields: &FieldSpans,
+) -> Result<Option<Text>, NoMemory>
     requires within { All (IsWithin bytes.now) fields.now }
     requires whole { fields.now ≡ fields_of bytes.now }
     ensures { IfOk result (λ r. r ≡ option_map trimmed (Head.field_text (codes "content-location") bytes.now)) }
 {
-    let text = field_text(alloc, bytes, fields, b"content-location")?;
+    let text = read_field_text(alloc, bytes, fields, b"content-location")?;
     read_location(alloc, &text)
 }
 
 /// Reads Content-Transfer-Encoding.
-fn coding_at(alloc: Global, bytes: &[u8], fields: &FieldSpans) -> Result<Coding, NoMemory>
+fn read_transfer_encoding(
+    alloc: Global,
+    bytes: &[u8],
+    fields: &FieldSpans,
+) -> Result<Coding, NoMemory>
     requires within { All (IsWithin bytes.now) fields.now }
     requires whole { fields.now ≡ fields_of bytes.now }
     ensures { IfOk result (λ r. r ≡ coding_of (Head.field_text (codes "content-transfer-encoding") bytes.now)) }
 {
-    let text = field_text(alloc, bytes, fields, b"content-transfer-encoding")?;
+    let text = read_field_text(alloc, bytes, fields, b"content-transfer-encoding")?;
     read_coding(alloc, &text)
 }
 
@@ -177,10 +193,10 @@ fn read_labels(alloc: Global, bytes: &[u8], fields: &FieldSpans) -> Result<Label
     ensures location { IfOk result (λ l. l.location ≡ option_map trimmed (Head.field_text (codes "content-location") bytes.now)) }
     ensures coding { IfOk result (λ l. l.coding ≡ coding_of (Head.field_text (codes "content-transfer-encoding") bytes.now)) }
 {
-    let cid = id_of(alloc, bytes, fields)?;
-    let language = language_of(alloc, bytes, fields)?;
-    let location = location_of(alloc, bytes, fields)?;
-    let coding = coding_at(alloc, bytes, fields)?;
+    let cid = read_content_id(alloc, bytes, fields)?;
+    let language = read_content_language(alloc, bytes, fields)?;
+    let location = read_content_location(alloc, bytes, fields)?;
+    let coding = read_transfer_encoding(alloc, bytes, fields)?;
     Ok(Labels {
         cid,
         language,

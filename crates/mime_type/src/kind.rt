@@ -77,7 +77,7 @@ fn take_disposition(alloc: Global, text: &[u8]) -> Result<Option<Kind<'_>>, NoMe
 
 /// Returns a type without parameters.
 #[tactic(auto, unfolding(crate::specs::Grammar::params_in))]
-fn plain_type(alloc: Global, kind: &str) -> Result<Kind<'static>, NoMemory>
+fn build_plain_type(alloc: Global, kind: &str) -> Result<Kind<'static>, NoMemory>
     ensures value { IfOk result (λ k. kind_of k
         ≡ Rattle.mime_type.specs.Content.plain_type kind.now) }
     ensures text { IfOk result (λ k. IsText (kind_of k)) }
@@ -99,11 +99,11 @@ pub fn read_type(alloc: Global, field: &Option<Text>, digest: bool) -> Result<Ki
     ensures texts { IfOk result (λ k. IsText (kind_of k)) }
 {
     let Some(text) = field else {
-        return plain_type(alloc, if digest { MESSAGE } else { PLAIN });
+        return build_plain_type(alloc, if digest { MESSAGE } else { PLAIN });
     };
     match take_type(alloc, text.as_bytes())? {
         Some(kind) => Ok(kind),
-        None => plain_type(alloc, PLAIN),
+        None => build_plain_type(alloc, PLAIN),
     }
 }
 

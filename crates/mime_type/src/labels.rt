@@ -12,7 +12,7 @@ use mime_codec::Coding;
 use std::alloc::Global;
 
 /// Returns a text without one angle bracket at each end.
-fn without_brackets(text: &[u8]) -> &[u8]
+fn strip_brackets(text: &[u8]) -> &[u8]
     ensures { result.now ≡ without_close (without_open text.now) }
 {
     let inner = match text {
@@ -38,7 +38,7 @@ pub fn read_id(alloc: Global, field: &Option<Text>) -> Result<Option<Text>, NoMe
     ensures { IfOk result (λ r. r ≡ option_map id_in field.now) }
 {
     match field {
-        Some(text) => Ok(Some(copy_text(alloc, without_brackets(trim(text.as_str()).as_bytes()))?)),
+        Some(text) => Ok(Some(copy_text(alloc, strip_brackets(trim(text.as_str()).as_bytes()))?)),
         None => Ok(None),
     }
 }
@@ -89,7 +89,7 @@ pub fn read_language(alloc: Global, field: &Option<Text>) -> Result<Option<Texts
 }
 
 /// Returns the transfer encoding of a name in lower case (RFC 2045, section 6.1).
-fn named_coding(name: &[u8]) -> Coding
+fn find_coding(name: &[u8]) -> Coding
     ensures { result ≡ coding_named name.now }
 {
     if name == b"quoted-printable".as_slice() {
@@ -113,7 +113,7 @@ pub fn read_coding(alloc: Global, field: &Option<Text>) -> Result<Coding, NoMemo
     match field {
         Some(text) => {
             let name = lower_copy(alloc, trim(text.as_str()).as_bytes())?;
-            Ok(named_coding(name.as_slice()))
+            Ok(find_coding(name.as_slice()))
         }
         None => Ok(Coding::Plain),
     }

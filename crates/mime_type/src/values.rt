@@ -23,7 +23,7 @@ pub struct Value<'a> {
     pub rest: &'a [u8],
 }
 
-fn token_len(text: &[u8]) -> usize
+fn count_token_bytes(text: &[u8]) -> usize
     ensures within { result ≤ length text.now }
     ensures value { result ≡ prefix_len Rattle.mime_type.specs.Characters.is_token text.now }
 {
@@ -35,7 +35,7 @@ fn token_len(text: &[u8]) -> usize
     text.len()
 }
 
-fn bare_len(text: &[u8]) -> usize
+fn count_bare_bytes(text: &[u8]) -> usize
     ensures within { result ≤ length text.now }
     ensures value { result ≡ prefix_len Rattle.mime_type.specs.Characters.is_bare text.now }
 {
@@ -67,16 +67,16 @@ pub fn read_token(text: &[u8]) -> Option<Run<'_>>
         text.now }
     ensures within { IfSome result (λ r. length r.rest.now ≤ length text.now) }
 {
-    cut(text, token_len(text))
+    cut(text, count_token_bytes(text))
 }
 
 /// Reads the value without quote marks at the start.
-fn bare(text: &[u8]) -> Option<Run<'_>>
+fn read_bare_value(text: &[u8]) -> Option<Run<'_>>
     ensures value { option_map run_of result ≡ run_at Rattle.mime_type.specs.Characters.is_bare
         text.now }
     ensures within { IfSome result (λ r. length r.rest.now ≤ length text.now) }
 {
-    cut(text, bare_len(text))
+    cut(text, count_bare_bytes(text))
 }
 
 /// Reads a byte of a quoted-string that isn't its end, and returns whether it quotes the next.
@@ -93,7 +93,7 @@ fn push_quoted(out: &mut Vec<u8>, quoted: bool, byte: u8) -> Result<bool, NoMemo
 }
 
 /// Reads the rest of a quoted-string, after its first quote mark.
-fn quoted_rest(alloc: Global, text: &[u8]) -> Result<Option<Value<'_>>, NoMemory>
+fn read_quoted_rest(alloc: Global, text: &[u8]) -> Result<Option<Value<'_>>, NoMemory>
     ensures value { IfOk result (λ r. option_map value_of r ≡ quoted_from false text.now) }
     ensures within { IfOk result (λ o. IfSome o (λ r. length r.rest.now ≤ length text.now)) }
 {
@@ -114,7 +114,7 @@ fn quoted_rest(alloc: Global, text: &[u8]) -> Result<Option<Value<'_>>, NoMemory
 }
 
 /// Copies a run as a value.
-fn copied(alloc: Global, run: Option<Run<'_>>) -> Result<Option<Value<'_>>, NoMemory>
+fn copy_run(alloc: Global, run: Option<Run<'_>>) -> Result<Option<Value<'_>>, NoMemory>
     ensures value { IfOk result (λ r. option_map value_of r ≡ option_map run_of run.entry) }
     ensures within { (n : ℕ) → IfSome run.entry (λ r. length r.rest.now ≤ n)
         → IfOk result (λ o. IfSome o (λ r. length r.rest.now ≤ n)) }
@@ -134,8 +134,8 @@ pub fn take_value(alloc: Global, text: &[u8]) -> Result<Option<Value<'_>>, NoMem
     ensures within { IfOk result (λ o. IfSome o (λ r. length r.rest.now ≤ length text.now)) }
 {
     match text {
-        [b'"', rest @ ..] => quoted_rest(alloc, rest),
-        [_, ..] => copied(alloc, bare(text)),
+        [b'"', rest @ ..] => read_quoted_rest(alloc, rest),
+        [_, ..] => copy_run(alloc, read_bare_value(text)),
         [] => Ok(None),
     }
 }
@@ -177,7 +177,7 @@ fn skip_quoted(text: &[u8]) -> Option<&[u8]>
 }
 
 /// Returns what is after a run.
-fn after_run(run: Option<Run<'_>>) -> Option<&[u8]>
+fn skip_run(run: Option<Run<'_>>) -> Option<&[u8]>
     ensures value { option_map (λ r. r.now) result ≡ rest_found (option_map run_of run.entry) }
     ensures within { (n : ℕ) → IfSome run.entry (λ r. length r.rest.now ≤ n)
         → IfSome result (λ r. length r.now ≤ n) }
@@ -195,7 +195,7 @@ pub fn skip_value(text: &[u8]) -> Option<&[u8]>
 {
     match text {
         [b'"', rest @ ..] => skip_quoted(rest),
-        [_, ..] => after_run(bare(text)),
+        [_, ..] => skip_run(read_bare_value(text)),
         [] => None,
     }
 }

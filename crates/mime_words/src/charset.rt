@@ -55,7 +55,7 @@ pub fn is_same_charset(a: Charset, b: Charset) -> bool
 }
 
 /// Returns the character of a byte in us-ascii; a byte above 127 is U+FFFD.
-fn ascii_character(byte: u8) -> char
+fn decode_ascii_byte(byte: u8) -> char
     ensures { result ≡ Rattle.mime_words.specs.Charsets.ascii_character byte }
 {
     if byte < 128 { byte as char } else { '\u{FFFD}' }
@@ -63,7 +63,7 @@ fn ascii_character(byte: u8) -> char
 
 /// Returns the text that bytes are by themselves, in us-ascii and in iso-8859-1. None if a byte is
 /// above 127.
-fn own_text(bytes: &[u8]) -> Option<&str>
+fn find_own_text(bytes: &[u8]) -> Option<&str>
     ensures ascii { IfSome result (λ text. text.now ≡ text_in Charset.Ascii bytes.now) }
     ensures latin { IfSome result (λ text. text.now ≡ text_in Charset.Latin1 bytes.now) }
 {
@@ -95,12 +95,12 @@ fn push_ascii(text: &mut String, block: &[u8]) -> Result<(), NoMemory>
     ensures { OnOk result (string_bytes text.new ≡ string_bytes text.old
         ++ text_in Charset.Ascii block.now) }
 {
-    if let Some(own) = own_text(block) {
+    if let Some(own) = find_own_text(block) {
         text.push_str(own)?;
         return Ok(());
     }
     for byte in block {
-        text.push(ascii_character(*byte))?;
+        text.push(decode_ascii_byte(*byte))?;
     }
     Ok(())
 }
@@ -110,7 +110,7 @@ fn push_latin(text: &mut String, block: &[u8]) -> Result<(), NoMemory>
     ensures { OnOk result (string_bytes text.new ≡ string_bytes text.old
         ++ text_in Charset.Latin1 block.now) }
 {
-    if let Some(own) = own_text(block) {
+    if let Some(own) = find_own_text(block) {
         text.push_str(own)?;
         return Ok(());
     }
@@ -121,10 +121,10 @@ fn push_latin(text: &mut String, block: &[u8]) -> Result<(), NoMemory>
 }
 
 /// Returns the text of bytes in us-ascii.
-fn ascii_text(alloc: Global, bytes: &[u8]) -> Result<String, NoMemory>
+fn decode_ascii(alloc: Global, bytes: &[u8]) -> Result<String, NoMemory>
     ensures { IfOk result (λ text. string_bytes text ≡ text_in Charset.Ascii bytes.now) }
 {
-    if let Some(own) = own_text(bytes) {
+    if let Some(own) = find_own_text(bytes) {
         return Ok(String::from_str(alloc, own)?);
     }
     let mut text = String::with_capacity(alloc, bytes.len())?;
@@ -138,10 +138,10 @@ fn ascii_text(alloc: Global, bytes: &[u8]) -> Result<String, NoMemory>
 }
 
 /// Returns the text of bytes in iso-8859-1.
-fn latin_text(alloc: Global, bytes: &[u8]) -> Result<String, NoMemory>
+fn decode_latin(alloc: Global, bytes: &[u8]) -> Result<String, NoMemory>
     ensures { IfOk result (λ text. string_bytes text ≡ text_in Charset.Latin1 bytes.now) }
 {
-    if let Some(own) = own_text(bytes) {
+    if let Some(own) = find_own_text(bytes) {
         return Ok(String::from_str(alloc, own)?);
     }
     let mut text = String::with_capacity(alloc, bytes.len())?;
@@ -164,8 +164,8 @@ pub fn decode_known_charset(
 {
     match charset {
         Charset::Utf8 => Ok(String::from_utf8_lossy(alloc, bytes)?),
-        Charset::Ascii => ascii_text(alloc, bytes),
-        Charset::Latin1 => latin_text(alloc, bytes),
+        Charset::Ascii => decode_ascii(alloc, bytes),
+        Charset::Latin1 => decode_latin(alloc, bytes),
     }
 }
 
@@ -217,7 +217,7 @@ pub fn decode_charset(alloc: Global, charset: &[u8], bytes: &[u8]) -> Result<Dec
             problem: is_broken(known, bytes),
         }),
         None => Ok(Decoded {
-            text: Text::from_string(ascii_text(alloc, bytes)?),
+            text: Text::from_string(decode_ascii(alloc, bytes)?),
             problem: true,
         }),
     }

@@ -33,7 +33,7 @@ pub struct Found<'a> {
 }
 
 /// Returns a space for an underscore; another byte is itself (RFC 2047, section 4.2).
-fn spaced(byte: u8) -> u8
+fn decode_underscore(byte: u8) -> u8
     ensures { result ≡ Words.spaced byte }
 {
     if byte == b'_' { b' ' } else { byte }
@@ -45,7 +45,7 @@ fn decode_q(alloc: Global, encoded: &[u8]) -> Result<Bytes, NoMemory>
 {
     let mut text = Vec::with_capacity(alloc, encoded.len())?;
     for byte in encoded {
-        text.push(spaced(*byte))?;
+        text.push(decode_underscore(*byte))?;
     }
     unescape(alloc, text.as_slice())
 }
@@ -258,7 +258,7 @@ fn push_piece<'a>(
 }
 
 /// Decodes the encoded-words of a text.
-fn text_words(alloc: Global, text: &str) -> Result<Text, NoMemory>
+fn decode_text(alloc: Global, text: &str) -> Result<Text, NoMemory>
     ensures { IfOk result (λ t. t ≡ decoded_words text.now) }
 {
     let mut out = String::new(alloc);
@@ -287,5 +287,5 @@ pub fn decode_words(alloc: Global, bytes: &[u8]) -> Result<Text, NoMemory>
     ensures { IfOk result (λ t. t ≡ decoded_words (utf8_lossy bytes.now)) }
 {
     let text = String::from_utf8_lossy(alloc, bytes)?;
-    text_words(alloc, text.as_str())
+    decode_text(alloc, text.as_str())
 }

@@ -9,12 +9,12 @@ ghost use Rattle.query_changes.specs.Responses.{email_forms, invalid_argument, m
 use jm_base::Kind;
 use jm_json::Members;
 use method_args::{
-    Argument, Presence, Shape, find_invalid, if_unsigned, read_flag, read_integer, read_text,
+    Argument, Presence, Shape, check_unsigned, find_invalid, read_flag, read_integer, read_text,
 };
 
 // Returns the name of the first argument of Email/queryChanges in byte order that is missing or
 // does not have its form; `filter` and `sort` are left out.
-fn invalid_email_argument(members: &Members) -> Option<&'static str>
+fn find_invalid_email_argument(members: &Members) -> Option<&'static str>
     ensures { option_map (λ s. s.now) result ≡ find_invalid email_forms members.now }
 {
     find_invalid(
@@ -49,7 +49,7 @@ fn invalid_email_argument(members: &Members) -> Option<&'static str>
     )
 }
 
-fn invalid_mailbox_argument(members: &Members) -> Option<&'static str>
+fn find_invalid_mailbox_argument(members: &Members) -> Option<&'static str>
     ensures { option_map (λ s. s.now) result ≡ find_invalid mailbox_forms members.now }
 {
     find_invalid(
@@ -80,21 +80,21 @@ fn invalid_mailbox_argument(members: &Members) -> Option<&'static str>
 }
 
 /// Returns the name of the first argument that is missing or does not have its form.
-pub(crate) fn invalid_argument(kind: Kind, members: &Members) -> Option<&'static str>
+pub(crate) fn find_invalid_argument(kind: Kind, members: &Members) -> Option<&'static str>
     ensures { option_map (λ s. s.now) result ≡ invalid_argument kind members.now }
 {
     match kind {
-        Kind::Mailbox => invalid_mailbox_argument(members),
-        Kind::Email | Kind::Thread => invalid_email_argument(members),
+        Kind::Mailbox => find_invalid_mailbox_argument(members),
+        Kind::Email | Kind::Thread => find_invalid_email_argument(members),
     }
 }
 
 /// Returns the maximum that is asked for.
-pub(crate) fn max_in(members: &Members) -> Option<u64>
+pub(crate) fn read_max_changes(members: &Members) -> Option<u64>
     ensures { result ≡ max_in members.now }
 {
     match read_integer(members, "maxChanges") {
-        Some(number) => if_unsigned(number),
+        Some(number) => check_unsigned(number),
         None => None,
     }
 }
@@ -110,7 +110,7 @@ pub(crate) fn is_set(members: &Members, name: &str) -> bool
 }
 
 /// Lends the string of an argument, or an empty one.
-pub(crate) fn string_in<'a>(members: &'a Members, name: &str) -> &'a str
+pub(crate) fn read_string<'a>(members: &'a Members, name: &str) -> &'a str
     ensures { result.now ≡ string_in name.now members.now }
 {
     match read_text(members, name) {

@@ -7,7 +7,7 @@ ghost use Rattle.query_changes.specs.Deltas.{AreOf};
 ghost use Rattle.query_changes.specs.Responses.{ExplainsCall, added_tree, added_trees, delta_members, delta_tree, outcome_of_query, outcome_with, query_changes_outcome, replied};
 ghost use Rattle.query_engine.specs.Responses.{query as the_query};
 
-use crate::arguments::{invalid_argument, is_set, max_in, string_in};
+use crate::arguments::{find_invalid_argument, is_set, read_max_changes, read_string};
 use crate::changes::query_changes;
 use crate::delta::{Delta, DeltaFault};
 use crate::faults::QueryChangesFault;
@@ -105,11 +105,11 @@ fn answer_query<T: Texts2>(
         → ExplainsCall fault (outcome_of_query h (T.texts texts.now) kind members.now
         (the_query query.now))) }
 {
-    let since = string_in(members, "sinceQueryState");
-    let max = max_in(members);
+    let since = read_string(members, "sinceQueryState");
+    let max = read_max_changes(members);
     match query_changes(alloc, log, content, texts, query, since.as_bytes(), max) {
         Ok(delta) => {
-            let account = string_in(members, "accountId");
+            let account = read_string(members, "accountId");
             let counted = is_set(members, "calculateTotal");
             Ok(make_reply(alloc, kind, account, since, counted, &delta)?)
         }
@@ -170,7 +170,7 @@ pub fn answer_query_changes<T: Texts2>(
         (query_changes_outcome h (T.texts texts.now) kind (tree_of args.now))) }
 {
     match args.as_object() {
-        Some(members) => match invalid_argument(kind, members) {
+        Some(members) => match find_invalid_argument(kind, members) {
             Some(name) => Err(QueryChangesFault::Invalid(Text::from_str(alloc, name)?)),
             None => answer_members(alloc, log, content, texts, kind, members),
         },

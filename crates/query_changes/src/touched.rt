@@ -45,7 +45,7 @@ fn push_thread(numbers: &mut Vec<u64>, content: &Content, thread: u64) -> Result
         || passes (λ e. thread == e.thread) (email_at content.now.content n))) }
 {
     let _emails = content.emails();
-    let entries = content.in_thread(thread);
+    let entries = content.find_in_thread(thread);
     for entry in entries {
         numbers.push(entry.email)?;
     }
@@ -107,7 +107,12 @@ pub(crate) fn find_touched(
     let named = log.touched(alloc, query.kind(), from, end)?;
     let mut numbers = named.into_vec();
     if looks_at_threads(query) {
-        add_threads(alloc, &mut numbers, content, log.notes_between(from, end))?;
+        add_threads(
+            alloc,
+            &mut numbers,
+            content,
+            log.find_notes_between(from, end),
+        )?;
         return Ok(numbers);
     }
     Ok(numbers)

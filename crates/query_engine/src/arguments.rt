@@ -15,7 +15,7 @@ use std::alloc::Global;
 
 // Returns the name of the first argument of Email/query in byte order that is missing or does not
 // have its form; `filter` and `sort` are left out.
-fn invalid_email_argument(members: &Members) -> Option<&'static str>
+fn find_invalid_email_argument(members: &Members) -> Option<&'static str>
     ensures { option_map (λ s. s.now) result ≡ find_invalid email_forms members.now }
 {
     find_invalid(
@@ -60,7 +60,7 @@ fn invalid_email_argument(members: &Members) -> Option<&'static str>
     )
 }
 
-fn invalid_mailbox_argument(members: &Members) -> Option<&'static str>
+fn find_invalid_mailbox_argument(members: &Members) -> Option<&'static str>
     ensures { option_map (λ s. s.now) result ≡ find_invalid mailbox_forms members.now }
 {
     find_invalid(
@@ -110,12 +110,12 @@ fn invalid_mailbox_argument(members: &Members) -> Option<&'static str>
     )
 }
 
-pub(crate) fn invalid_argument(kind: Kind, members: &Members) -> Option<&'static str>
+pub(crate) fn find_invalid_argument(kind: Kind, members: &Members) -> Option<&'static str>
     ensures { option_map (λ s. s.now) result ≡ invalid_argument kind members.now }
 {
     match kind {
-        Kind::Mailbox => invalid_mailbox_argument(members),
-        Kind::Email | Kind::Thread => invalid_email_argument(members),
+        Kind::Mailbox => find_invalid_mailbox_argument(members),
+        Kind::Email | Kind::Thread => find_invalid_email_argument(members),
     }
 }
 
@@ -128,7 +128,7 @@ pub(crate) fn is_set(members: &Members, name: &str) -> bool
     }
 }
 
-fn integer_or_zero(members: &Members, name: &str) -> i64
+fn read_integer_or_zero(members: &Members, name: &str) -> i64
     ensures { result ≡ integer_or_zero name.now members.now }
 {
     match read_integer(members, name) {
@@ -137,7 +137,7 @@ fn integer_or_zero(members: &Members, name: &str) -> i64
     }
 }
 
-fn anchor_in(alloc: Global, members: &Members) -> Result<Option<Text>, NoMemory>
+fn read_anchor(alloc: Global, members: &Members) -> Result<Option<Text>, NoMemory>
     ensures { IfOk result (λ o. o ≡ text_in (codes "anchor") members.now) }
 {
     match read_text(members, "anchor") {
@@ -146,14 +146,14 @@ fn anchor_in(alloc: Global, members: &Members) -> Result<Option<Text>, NoMemory>
     }
 }
 
-pub(crate) fn frame_in(alloc: Global, members: &Members) -> Result<Frame, NoMemory>
+pub(crate) fn read_frame(alloc: Global, members: &Members) -> Result<Frame, NoMemory>
     ensures { IfOk result (λ f. f ≡ frame_in members.now) }
 {
-    let anchor = anchor_in(alloc, members)?;
+    let anchor = read_anchor(alloc, members)?;
     Ok(Frame {
-        position: integer_or_zero(members, "position"),
+        position: read_integer_or_zero(members, "position"),
         anchor,
-        offset: integer_or_zero(members, "anchorOffset"),
+        offset: read_integer_or_zero(members, "anchorOffset"),
         limit: read_integer(members, "limit"),
     })
 }
@@ -167,41 +167,41 @@ fn is_tree(kind: Kind, members: &Members, name: &str) -> bool
     }
 }
 
-pub(crate) fn name_of(alloc: Global, name: &str) -> Result<Text, NoMemory>
+pub(crate) fn copy_name(alloc: Global, name: &str) -> Result<Text, NoMemory>
     ensures { IfOk result (λ t. t ≡ name.now) }
 {
     Text::from_str(alloc, name)
 }
 
-fn unsupported_filter(alloc: Global, name: &str) -> QueryFault
+fn build_unsupported_filter(alloc: Global, name: &str) -> QueryFault
     ensures { (r : Reading) → r ≡ unsupported_filter name.now → ExplainsQuery result r }
 {
-    match name_of(alloc, name) {
+    match copy_name(alloc, name) {
         Ok(name) => QueryFault::UnsupportedFilter(name),
         Err(_) => QueryFault::NoMemory,
     }
 }
 
-fn unsupported_sort(alloc: Global, name: &str) -> QueryFault
+fn build_unsupported_sort(alloc: Global, name: &str) -> QueryFault
     ensures { (r : Reading) → r ≡ unsupported_sort name.now → ExplainsQuery result r }
 {
-    match name_of(alloc, name) {
+    match copy_name(alloc, name) {
         Ok(name) => QueryFault::UnsupportedSort(name),
         Err(_) => QueryFault::NoMemory,
     }
 }
 
 // Returns the fault of a query that asks for a tree, if it does.
-fn tree_fault(alloc: Global, filtered: bool, sorted: bool) -> Option<QueryFault>
+fn find_tree_fault(alloc: Global, filtered: bool, sorted: bool) -> Option<QueryFault>
     ensures some { IfSome result (λ e. (r : Reading)
         → ExplainsQuery e (tree_faults filtered sorted r)) }
     ensures none { IfNone result ((r : Reading) → tree_faults filtered sorted r ≡ r) }
 {
     if filtered {
-        return Some(unsupported_filter(alloc, "filterAsTree"));
+        return Some(build_unsupported_filter(alloc, "filterAsTree"));
     }
     if sorted {
-        return Some(unsupported_sort(alloc, "sortAsTree"));
+        return Some(build_unsupported_sort(alloc, "sortAsTree"));
     }
     None
 }
@@ -214,11 +214,11 @@ pub(crate) fn call_query(alloc: Global, kind: Kind, members: &Members) -> Result
     let filtered = is_tree(kind, members, "filterAsTree");
     let sorted = is_tree(kind, members, "sortAsTree");
     match read_query_in(alloc, kind, members) {
-        Ok(query) => match tree_fault(alloc, filtered, sorted) {
+        Ok(query) => match find_tree_fault(alloc, filtered, sorted) {
             Some(fault) => Err(fault),
             None => Ok(query),
         },
-        Err(QueryFault::UnsupportedSort(name)) => match tree_fault(alloc, filtered, sorted) {
+        Err(QueryFault::UnsupportedSort(name)) => match find_tree_fault(alloc, filtered, sorted) {
             Some(fault) => Err(fault),
             None => Err(QueryFault::UnsupportedSort(name)),
         },
@@ -228,7 +228,7 @@ pub(crate) fn call_query(alloc: Global, kind: Kind, members: &Members) -> Result
     }
 }
 
-pub(crate) fn account_of<'a>(members: &'a Members) -> &'a str
+pub(crate) fn read_account_id<'a>(members: &'a Members) -> &'a str
     ensures { result.now ≡ unwrap_or (text_in (codes "accountId") members.now) [] }
 {
     match read_text(members, "accountId") {

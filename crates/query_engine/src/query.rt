@@ -102,7 +102,7 @@ impl Query {
 }
 
 // Returns the value of an argument, null if it is absent.
-fn tree_in<'a>(members: &'a Members, name: &str, absent: &'a Json) -> &'a Json
+fn find_tree_or<'a>(members: &'a Members, name: &str, absent: &'a Json) -> &'a Json
     requires { tree_of absent.now ≡ null }
     ensures { tree_of result.now ≡ tree_in name.now members.now }
 {
@@ -112,7 +112,7 @@ fn tree_in<'a>(members: &'a Members, name: &str, absent: &'a Json) -> &'a Json
     }
 }
 
-fn collapse_in(kind: Kind, members: &Members) -> Option<bool>
+fn read_collapse(kind: Kind, members: &Members) -> Option<bool>
     ensures { result ≡ collapse_in kind members.now }
 {
     match kind {
@@ -123,7 +123,7 @@ fn collapse_in(kind: Kind, members: &Members) -> Option<bool>
 
 // Returns the fault of a query whose filter has an unknown condition: an invalid value of the sort
 // comes first.
-fn unsupported_filter(alloc: Global, kind: Kind, sort: &Json, name: Text) -> QueryFault
+fn find_filter_fault(alloc: Global, kind: Kind, sort: &Json, name: Text) -> QueryFault
     ensures { (unknown : Option (List ℕ)) (q : TheQuery) → ExplainsQuery result
         (read_by None (Orders.invalid kind (tree_of sort.now)) (Some name) unknown q) }
 {
@@ -176,7 +176,7 @@ fn read_sorted(
 }
 
 // Reads the query of a filter, a sort and whether threads are collapsed.
-fn query_with(
+fn read_filter_and_sort(
     alloc: Global,
     kind: Kind,
     tree: &Json,
@@ -191,7 +191,7 @@ fn query_with(
     match read_filter(alloc, kind, tree) {
         Ok(filter) => read_sorted(alloc, filter, kind, tree, sort, collapse),
         Err(TermFault::Invalid(name)) => Err(QueryFault::Invalid(name)),
-        Err(TermFault::Unsupported(name)) => Err(unsupported_filter(alloc, kind, sort, name)),
+        Err(TermFault::Unsupported(name)) => Err(find_filter_fault(alloc, kind, sort, name)),
         Err(TermFault::NoMemory) => Err(QueryFault::NoMemory),
     }
 }
@@ -207,11 +207,11 @@ pub fn read_query_in(alloc: Global, kind: Kind, members: &Members) -> Result<Que
     ensures err { IfErr result (λ e. ExplainsQuery e (query_in kind members.now)) }
 {
     let absent = Json::Null;
-    match collapse_in(kind, members) {
+    match read_collapse(kind, members) {
         Some(collapse) => {
-            let filter = tree_in(members, "filter", &absent);
-            let sort = tree_in(members, "sort", &absent);
-            query_with(alloc, kind, filter, sort, collapse)
+            let filter = find_tree_or(members, "filter", &absent);
+            let sort = find_tree_or(members, "sort", &absent);
+            read_filter_and_sort(alloc, kind, filter, sort, collapse)
         }
         None => Err(QueryFault::Invalid(Text::from_str(alloc, "collapseThreads")?)),
     }

@@ -8,12 +8,14 @@ ghost use Rattle.query_engine.specs.Queries.{result_list};
 ghost use Rattle.query_engine.specs.Replies.{Decides, plain_members, with_limit, with_total};
 ghost use Rattle.query_engine.specs.Responses.{ExplainsCall, outcome_of_list, outcome_with, query_outcome, replied, response_members};
 
-use crate::arguments::{account_of, call_query, frame_in, invalid_argument, is_set, name_of};
+use crate::arguments::{
+    call_query, copy_name, find_invalid_argument, is_set, read_account_id, read_frame,
+};
 use crate::faults::{QueryCallFault, QueryFault};
 use crate::frame::{Frame, Shown, WindowFault};
 use crate::query::Query;
 use crate::run::run_query_upto;
-use crate::windows::{greatest_count, limit_of, window};
+use crate::windows::{find_greatest_count, limit_of, window};
 use filter_terms::Texts2;
 use jm_base::{Kind, NoMemory, Text, state_text};
 use jm_json::{Json, Members};
@@ -94,7 +96,7 @@ fn make_reply(
 }
 
 // Returns the position of a frame, or None if it is below 0.
-fn position_of(frame: &Frame) -> Option<u64>
+fn find_frame_position(frame: &Frame) -> Option<u64>
     ensures { IfSome result (λ n. frame.now.position ≡ pos n) }
 {
     if frame.position < 0 {
@@ -117,19 +119,19 @@ fn count_from(frame: &Frame, position: u64) -> Option<u64>
     ensures { Decides frame.now result }
 {
     match limit_of(frame.limit) {
-        Some(limit) => add_counts(position, greatest_count(limit)),
+        Some(limit) => add_counts(position, find_greatest_count(limit)),
         None => Some(0),
     }
 }
 
 // Returns how many numbers from the beginning of a result list decide the part that a frame names
 // from a position, or None if all do.
-fn forward_count(frame: &Frame) -> Option<u64>
+fn count_forward(frame: &Frame) -> Option<u64>
     ensures { Decides frame.now result }
 {
     match &frame.anchor {
         Some(_) => None,
-        None => match position_of(frame) {
+        None => match find_frame_position(frame) {
             Some(position) => count_from(frame, position),
             None => None,
         },
@@ -138,12 +140,12 @@ fn forward_count(frame: &Frame) -> Option<u64>
 
 // Returns how many numbers from the beginning of a result list decide a response, or None if all
 // do.
-fn needed_count(frame: &Frame, counted: bool) -> Option<u64>
+fn count_needed(frame: &Frame, counted: bool) -> Option<u64>
     ensures part { Decides frame.now result }
     ensures total { counted ≡ true → result ≡ None }
 {
     if !counted {
-        return forward_count(frame);
+        return count_forward(frame);
     }
     None
 }
@@ -163,18 +165,18 @@ fn answer_query_of<T: Texts2>(
     ensures fault { IfErr result (λ e. ExplainsCall e (outcome_of_list kind state
         members.now (result_list query.now content.now.content (T.texts texts.now)))) }
 {
-    let frame = frame_in(alloc, members)?;
+    let frame = read_frame(alloc, members)?;
     let counted = is_set(members, "calculateTotal");
-    let max = needed_count(&frame, counted);
+    let max = count_needed(&frame, counted);
     let numbers = run_query_upto(alloc, content, texts, query, max)?;
     match window(alloc, kind, numbers.as_slice(), &frame) {
         Ok(shown) => {
-            let account = account_of(members);
+            let account = read_account_id(members);
             let total = numbers.len() as u64;
             Ok(make_reply(alloc, kind, account, state, &shown, counted, total)?)
         }
         Err(WindowFault::AnchorNotFound) => Err(QueryCallFault::AnchorNotFound),
-        Err(WindowFault::BadLimit) => Err(QueryCallFault::Invalid(name_of(alloc, "limit")?)),
+        Err(WindowFault::BadLimit) => Err(QueryCallFault::Invalid(copy_name(alloc, "limit")?)),
         Err(WindowFault::NoMemory) => Err(QueryCallFault::NoMemory),
     }
 }
@@ -230,10 +232,10 @@ pub fn answer_query<T: Texts2>(
         content.now.content (T.texts texts.now) (tree_of args.now))) }
 {
     match args.as_object() {
-        Some(members) => match invalid_argument(kind, members) {
-            Some(name) => Err(QueryCallFault::Invalid(name_of(alloc, name)?)),
+        Some(members) => match find_invalid_argument(kind, members) {
+            Some(name) => Err(QueryCallFault::Invalid(copy_name(alloc, name)?)),
             None => answer_members(alloc, kind, state, content, texts, members),
         },
-        None => Err(QueryCallFault::Invalid(name_of(alloc, "")?)),
+        None => Err(QueryCallFault::Invalid(copy_name(alloc, "")?)),
     }
 }

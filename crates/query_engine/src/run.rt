@@ -21,7 +21,7 @@ use sort_terms::{Order, compare_numbers};
 use std::alloc::Global;
 
 // Returns the numbers of the emails that the filter matches, in number order.
-fn matching_emails<T: Texts2>(
+fn collect_matching_emails<T: Texts2>(
     alloc: Global,
     query: &Query,
     content: &Content,
@@ -43,7 +43,11 @@ fn matching_emails<T: Texts2>(
 }
 
 // Returns the numbers of the mailboxes that the filter matches, in number order.
-fn matching_mailboxes(alloc: Global, query: &Query, content: &Content) -> Result<Vec<u64>, NoMemory>
+fn collect_matching_mailboxes(
+    alloc: Global,
+    query: &Query,
+    content: &Content,
+) -> Result<Vec<u64>, NoMemory>
     requires { query.now.kind ≡ OfMailboxes }
     ensures numbers { IfOk result (λ v. v.items ≡ kept_mailboxes query.now
         content.now.content.mailboxes) }
@@ -60,7 +64,7 @@ fn matching_mailboxes(alloc: Global, query: &Query, content: &Content) -> Result
 }
 
 // Returns the numbers of the records that the filter matches, in number order.
-fn matching_numbers<T: Texts2>(
+fn collect_matching_numbers<T: Texts2>(
     alloc: Global,
     query: &Query,
     content: &Content,
@@ -71,8 +75,8 @@ fn matching_numbers<T: Texts2>(
         (numbers_of query.now.kind content.now.content)) }
 {
     match query.kind() {
-        Kind::Email => matching_emails(alloc, query, content, texts),
-        Kind::Mailbox => matching_mailboxes(alloc, query, content),
+        Kind::Email => collect_matching_emails(alloc, query, content, texts),
+        Kind::Mailbox => collect_matching_mailboxes(alloc, query, content),
         Kind::Thread => Ok(Vec::new(alloc)),
     }
 }
@@ -85,7 +89,7 @@ fn sort_numbers(order: &Order, content: &Content, numbers: &mut Vec<u64>)
     numbers.sort_unstable_by(|a, b| compare_numbers(order, content, *a, *b));
 }
 
-pub(crate) fn thread_of(content: &Content, number: u64) -> u64
+pub(crate) fn find_thread_number(content: &Content, number: u64) -> u64
     ensures { result ≡ thread_of content.now.content number }
 {
     match content.email(number) {
@@ -105,7 +109,7 @@ pub(crate) fn put_numbers(
         if is_full(page) {
             return Ok(());
         }
-        put_number(page, thread_of(content, *number), *number)?;
+        put_number(page, find_thread_number(content, *number), *number)?;
     }
     Ok(())
 }
@@ -123,7 +127,7 @@ fn walk_sorted<T: Texts2>(
 {
     let _mailboxes = content.mailboxes();
     let _emails = content.emails();
-    let mut numbers = matching_numbers(alloc, query, content, texts)?;
+    let mut numbers = collect_matching_numbers(alloc, query, content, texts)?;
     sort_numbers(query.order(), content, &mut numbers);
     put_numbers(page, content, &numbers)
 }
@@ -178,7 +182,7 @@ fn walk_query<T: Texts2>(
             query,
             content,
             texts,
-            content.in_mailbox(mailbox),
+            content.find_in_mailbox(mailbox),
             ascending,
         ),
     }

@@ -4,7 +4,7 @@ ghost use Rattle.jm_json.specs.Find.{as_object};
 ghost use Rattle.jm_json.specs.Json.{tree_of};
 ghost use Rattle.query_engine.specs.Walks.{IsAmong, IsInMailbox, IsSortedByReceived, JoinsMailbox, NamesMailbox, Serves, is_conjunction, received_by};
 
-use crate::windows::number_of_id;
+use crate::windows::read_number_of_id;
 use jm_base::Kind;
 use jm_json::{Json, Members};
 use method_args::read_text;
@@ -22,7 +22,7 @@ pub(crate) enum Walk {
 }
 
 // Returns whether a comparator is ascending if it is by the time received.
-fn received_by(members: &Members) -> Option<bool>
+fn read_received_direction(members: &Members) -> Option<bool>
     ensures { result ≡ received_by members.now }
 {
     match read_text(members, "property") {
@@ -37,23 +37,23 @@ fn received_by(members: &Members) -> Option<bool>
     }
 }
 
-fn received_comparator(comparator: &Json) -> Option<bool>
+fn read_received_comparator(comparator: &Json) -> Option<bool>
     ensures { result ≡ option_and_then received_by (as_object (tree_of comparator.now)) }
 {
     match comparator.as_object() {
-        Some(members) => received_by(members),
+        Some(members) => read_received_direction(members),
         None => None,
     }
 }
 
 // Returns whether a sort is ascending if it has one comparator, by the time received.
 #[tactic(auto, using(crate::proofs::Within::sorted_by_received))]
-fn received_order(sort: &Json) -> Option<bool>
+fn read_received_order(sort: &Json) -> Option<bool>
     ensures { IfSome result (λ ascending. IsSortedByReceived (tree_of sort.now) ascending) }
 {
     match sort.as_list() {
         Some(items) => match items.as_slice() {
-            [only] => received_comparator(only),
+            [only] => read_received_comparator(only),
             _ => None,
         },
         None => None,
@@ -61,35 +61,35 @@ fn received_order(sort: &Json) -> Option<bool>
 }
 
 // Returns the mailbox that a condition object names, if it names one.
-fn mailbox_in(members: &Members) -> Option<u64>
+fn find_mailbox_in_members(members: &Members) -> Option<u64>
     ensures { IfSome result (λ mailbox. NamesMailbox members.now mailbox) }
 {
     if members.get("operator").is_some() {
         return None;
     }
     match read_text(members, "inMailbox") {
-        Some(id) => number_of_id(Kind::Mailbox, id.as_bytes()),
+        Some(id) => read_number_of_id(Kind::Mailbox, id.as_bytes()),
         None => None,
     }
 }
 
 // Returns the mailbox that a filter names as a condition object, if it names one.
 #[tactic(auto, using(crate::proofs::Within::within_condition))]
-fn mailbox_by_condition(filter: &Json) -> Option<u64>
+fn find_mailbox_in_condition(filter: &Json) -> Option<u64>
     ensures { IfSome result (λ mailbox. IsInMailbox (tree_of filter.now) mailbox) }
 {
     match filter.as_object() {
-        Some(members) => mailbox_in(members),
+        Some(members) => find_mailbox_in_members(members),
         None => None,
     }
 }
 
 // Returns the first mailbox that one of the filters names as a condition object.
-fn mailbox_among(filters: &[Json]) -> Option<u64>
+fn find_mailbox_among(filters: &[Json]) -> Option<u64>
     ensures { IfSome result (λ mailbox. IsAmong mailbox (map tree_of filters.now)) }
 {
     for filter in filters {
-        if let Some(mailbox) = mailbox_by_condition(filter) {
+        if let Some(mailbox) = find_mailbox_in_condition(filter) {
             return Some(mailbox);
         }
     }
@@ -97,12 +97,12 @@ fn mailbox_among(filters: &[Json]) -> Option<u64>
 }
 
 // Returns the first mailbox that one of the filters which an AND joins names.
-fn mailbox_joined(members: &Members) -> Option<u64>
+fn find_mailbox_in_conjunction(members: &Members) -> Option<u64>
     ensures { IfSome result (λ mailbox. JoinsMailbox members.now mailbox) }
 {
     match members.get("conditions") {
         Some(conditions) => match conditions.as_list() {
-            Some(filters) => mailbox_among(filters.as_slice()),
+            Some(filters) => find_mailbox_among(filters.as_slice()),
             None => None,
         },
         None => None,
@@ -121,16 +121,16 @@ fn is_conjunction(members: &Members) -> bool
 // Returns a mailbox that each email is in that a filter matches, if the filter says so: by a
 // condition, or by one of those that it joins with AND.
 #[tactic(auto, using(crate::proofs::Within::within_conjunction))]
-fn mailbox_of(filter: &Json) -> Option<u64>
+fn find_mailbox_in_filter(filter: &Json) -> Option<u64>
     ensures { IfSome result (λ mailbox. IsInMailbox (tree_of filter.now) mailbox) }
 {
     let Some(members) = filter.as_object() else {
         return None;
     };
     if is_conjunction(members) {
-        return mailbox_joined(members);
+        return find_mailbox_in_conjunction(members);
     }
-    mailbox_by_condition(filter)
+    find_mailbox_in_condition(filter)
 }
 
 /// Returns which list serves a query with this filter and this sort.
@@ -145,10 +145,10 @@ pub(crate) fn find_walk(kind: Kind, filter: &Json, sort: &Json) -> Walk
     if kind != Kind::Email {
         return Walk::Sorted;
     }
-    let Some(ascending) = received_order(sort) else {
+    let Some(ascending) = read_received_order(sort) else {
         return Walk::Sorted;
     };
-    match mailbox_of(filter) {
+    match find_mailbox_in_filter(filter) {
         Some(mailbox) => Walk::InMailbox(mailbox, ascending),
         None => Walk::ByReceived(ascending),
     }

@@ -15,7 +15,7 @@ fn is_kind(one: Kind, other: Kind) -> bool
 }
 
 // Returns the number of the record of the kind whose id a text is, or None if it is no such id.
-pub(crate) fn number_of_id(kind: Kind, id: &[u8]) -> Option<u64>
+pub(crate) fn read_number_of_id(kind: Kind, id: &[u8]) -> Option<u64>
     ensures some { IfSome result (λ n. (m : ℕ) → is_id_of kind id.now m ≡ (m == n)) }
     ensures none { IfNone result ((m : ℕ) → is_id_of kind id.now m ≡ false) }
 {
@@ -51,14 +51,14 @@ fn find_anchor(kind: Kind, list: &[u64], id: &[u8]) -> Option<usize>
     ensures index { result ≡ index_where (is_id_of kind id.now) 0 list.now }
     ensures below { IfSome result (λ i. i < 2 ^ 63) }
 {
-    match number_of_id(kind, id) {
+    match read_number_of_id(kind, id) {
         Some(number) => index_of(list, number),
         None => None,
     }
 }
 
 // Returns an index with an offset added, or 0 if that is below 0.
-fn moved(index: u64, offset: i64) -> u64
+fn move_index(index: u64, offset: i64) -> u64
     requires { index < 2 ^ 63 }
     ensures { result ≡ moved index offset }
 {
@@ -86,7 +86,7 @@ fn start_of(kind: Kind, list: &[u64], frame: &Frame) -> Option<u64>
     match &frame.anchor {
         Some(id) => {
             match find_anchor(kind, list, id.as_bytes()) {
-                Some(index) => Some(moved(index as u64, frame.offset)),
+                Some(index) => Some(move_index(index as u64, frame.offset)),
                 None => None,
             }
         }
@@ -95,7 +95,7 @@ fn start_of(kind: Kind, list: &[u64], frame: &Frame) -> Option<u64>
 }
 
 /// Returns how many ids there are at most, of a limit that is asked for.
-pub(crate) fn greatest_count(limit: Option<u64>) -> u64
+pub(crate) fn find_greatest_count(limit: Option<u64>) -> u64
     ensures { result ≡ greatest_count limit }
 {
     match limit {
@@ -119,7 +119,7 @@ fn limit_in_response(limit: Option<u64>) -> Option<u64>
     }
 }
 
-fn unsigned(limit: i64) -> Option<Option<u64>>
+fn check_limit(limit: i64) -> Option<Option<u64>>
     ensures { result ≡ unsigned limit }
 {
     if limit < 0 {
@@ -134,7 +134,7 @@ pub(crate) fn limit_of(limit: Option<i64>) -> Option<Option<u64>>
     ensures { result ≡ limit_of limit }
 {
     match limit {
-        Some(limit) => unsigned(limit),
+        Some(limit) => check_limit(limit),
         None => Some(None),
     }
 }
@@ -162,7 +162,7 @@ fn keep(list: &[u64], count: u64) -> &[u64]
 fn part_from(alloc: Global, list: &[u64], limit: Option<u64>, start: u64) -> Result<Shown, NoMemory>
     ensures { IfOk result (λ shown. shown ≡ part_from list.now limit start) }
 {
-    let ids = keep(skip(list, start), greatest_count(limit)).to_vec(alloc)?;
+    let ids = keep(skip(list, start), find_greatest_count(limit)).to_vec(alloc)?;
     Ok(Shown {
         position: start,
         ids: Numbers::from_vec(ids),

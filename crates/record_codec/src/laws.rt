@@ -13,13 +13,13 @@ ghost use Rattle.record_codec.specs.Widths.{IsWide};
 /// No encoding is a prefix of another, and different commits have different encodings: where
 /// encodings followed by bytes are equal, so are the commits and the bytes that follow. Commits in
 /// memory are as it asks ([`has_encoding`](crate::has_encoding)).
-pub fn one_encoding()
+pub fn is_prefix_free()
     ensures { (a b : Commit) (x y : List ℕ) → IsWide a × IsFormed a → IsWide b × IsFormed b
         → encoding a ++ x ≡ encoding b ++ y → (a ≡ b) × (x ≡ y) }
 {}
 
 /// Bytes are the encoding of one commit at most, and a commit has one encoding at most.
-pub fn encoded_once()
+pub fn is_encoded_once()
     ensures commit { (bytes : List ℕ) (a b : Commit) → IsEncodingOf bytes a → IsEncodingOf bytes b
         → a ≡ b }
     ensures bytes { (one other : List ℕ) (c : Commit) → IsEncodingOf one c → IsEncodingOf other c
@@ -33,8 +33,9 @@ pub fn read_back()
         → IsEncodingOf bytes c → IsRead bytes answer → (answer ≡ Ok c) ⊎ (answer ≡ Err NoMemory) }
 {}
 
-/// The bytes of edits, as [`edit_bytes`](crate::edit_bytes) counts them, add up over lists, are at
-/// least 9 an edit, and are the part of a commit's encoding that its edits take, after their count.
+/// The bytes of edits, as [`count_edit_bytes`](crate::count_edit_bytes) counts them, add up over
+/// lists, are at least 9 an edit, and are the part of a commit's encoding that its edits take,
+/// after their count.
 pub fn edits_take_their_bytes()
     ensures adds { (es more : List Edit) → edit_bytes (es ++ more) ≡ edit_bytes es
         + edit_bytes more }

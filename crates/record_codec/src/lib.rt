@@ -18,8 +18,8 @@ mod write_fields;
 mod write_records;
 
 pub use faults::CodecFault;
-pub use laws::{edits_take_their_bytes, encoded_once, one_encoding, read_back};
+pub use laws::{edits_take_their_bytes, is_encoded_once, is_prefix_free, read_back};
 pub use memory::has_encoding;
 pub use read_commit::decode;
-pub use sizes::edit_bytes;
+pub use sizes::count_edit_bytes;
 pub use write_commit::encode;

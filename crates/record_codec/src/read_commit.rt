@@ -27,7 +27,7 @@ fn read_commit(alloc: Global, bytes: &[u8]) -> Result<(Commit, &[u8]), Misread>
     Ok((commit, rest))
 }
 
-fn refusal(bytes: &[u8], fault: Misread) -> CodecFault
+fn build_codec_fault(bytes: &[u8], fault: Misread) -> CodecFault
     requires read { Fails fault (commit_at bytes.now) }
     requires short { length bytes.now < 2 ^ 63 }
     ensures { IsRefused bytes.now result }
@@ -38,7 +38,7 @@ fn refusal(bytes: &[u8], fault: Misread) -> CodecFault
     }
 }
 
-fn alone(bytes: &[u8], commit: Commit, rest: &[u8]) -> Result<Commit, CodecFault>
+fn check_end(bytes: &[u8], commit: Commit, rest: &[u8]) -> Result<Commit, CodecFault>
     requires read { commit_at bytes.now ≡ Ok (commit, rest.now) }
     requires short { length bytes.now < 2 ^ 63 }
     ensures { IsRead bytes.now result }
@@ -56,7 +56,7 @@ pub fn decode(alloc: Global, bytes: &[u8]) -> Result<Commit, CodecFault>
     ensures { IsRead bytes.now result }
 {
     match read_commit(alloc, bytes) {
-        Ok((commit, rest)) => alone(bytes, commit, rest),
-        Err(fault) => Err(refusal(bytes, fault)),
+        Ok((commit, rest)) => check_end(bytes, commit, rest),
+        Err(fault) => Err(build_codec_fault(bytes, fault)),
     }
 }

@@ -23,7 +23,7 @@ pub fn read_number(bytes: &[u8]) -> Result<(u64, &[u8]), Misread>
     Ok((number, rest))
 }
 
-fn left_of(above: bool, below: bool, lows: &[u8], highs: &[u8], bytes: &[u8]) -> usize
+fn count_left_in_word(above: bool, below: bool, lows: &[u8], highs: &[u8], bytes: &[u8]) -> usize
     ensures { result ≡ left_in_word above below lows.now highs.now bytes.now }
 {
     let [low, lows @ ..] = lows else {
@@ -38,7 +38,7 @@ fn left_of(above: bool, below: bool, lows: &[u8], highs: &[u8], bytes: &[u8]) ->
     if (!above && *byte < *low) || (!below && *high < *byte) {
         return bytes.len();
     }
-    left_of(
+    count_left_in_word(
         above || *low < *byte,
         below || *byte < *high,
         lows,
@@ -63,7 +63,7 @@ pub fn read_number_between(low: u64, high: u64, bytes: &[u8]) -> Result<(u64, &[
     }
     let lows = low.to_be_bytes();
     let highs = high.to_be_bytes();
-    Err(Misread::Stuck(left_of(false, false, &lows, &highs, bytes)))
+    Err(Misread::Stuck(count_left_in_word(false, false, &lows, &highs, bytes)))
 }
 
 /// Reads a truth value from the start of the bytes; returns it and the bytes after it.

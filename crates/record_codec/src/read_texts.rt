@@ -39,7 +39,7 @@ impl TextRest {
         })
     }
 
-    fn rest_above(self, bound: Option<u8>, byte: u8, follow: CharacterRest) -> Option<TextRest>
+    fn find_rest_above(self, bound: Option<u8>, byte: u8, follow: CharacterRest) -> Option<TextRest>
         requires { 1 ≤ self.room }
         ensures { result ≡ rest_above self bound byte follow }
     {
@@ -71,13 +71,13 @@ impl TextRest {
                 if self.room <= follow.more as u64 {
                     return None;
                 }
-                self.rest_above(bound, byte, follow)
+                self.find_rest_above(bound, byte, follow)
             }
         }
     }
 }
 
-fn byte_at(bytes: &[u8], at: usize) -> Option<u8>
+fn find_byte_at(bytes: &[u8], at: usize) -> Option<u8>
     ensures { result ≡ slice_get bytes.now at }
 {
     if at < bytes.len() {
@@ -88,7 +88,7 @@ fn byte_at(bytes: &[u8], at: usize) -> Option<u8>
 
 /// Returns how many bytes are left where no string of so many bytes continues that is above the
 /// bound.
-fn left_of_text(room: u64, tight: bool, bound: &[u8], bytes: &[u8]) -> usize
+fn count_left_in_text(room: u64, tight: bool, bound: &[u8], bytes: &[u8]) -> usize
     ensures { result ≡ left_in_text (at_first room tight bound.now) bound.now bytes.now }
 {
     let mut rest_of_text = TextRest {
@@ -98,7 +98,7 @@ fn left_of_text(room: u64, tight: bool, bound: &[u8], bytes: &[u8]) -> usize
         turn: find_turn(room, bound),
     };
     for at in 0..bytes.len() {
-        match rest_of_text.advance(byte_at(bound, at), bytes[at]) {
+        match rest_of_text.advance(find_byte_at(bound, at), bytes[at]) {
             None => return bytes.len() - at,
             Some(next) => rest_of_text = next,
         }
@@ -112,7 +112,7 @@ fn is_above(tight: bool, bound: &[u8], text: &[u8]) -> bool
     !tight || bound.cmp(text).is_lt()
 }
 
-fn text_in<'a>(tight: bool, bound: &[u8], bytes: &'a [u8]) -> Option<&'a str>
+fn check_text_above<'a>(tight: bool, bound: &[u8], bytes: &'a [u8]) -> Option<&'a str>
     ensures { MatchOption result (is_text_above tight bound.now bytes.now ≡ false)
         (λ t. (t.now ≡ bytes.now) × (is_text_above tight bound.now bytes.now ≡ true)) }
 {
@@ -137,16 +137,16 @@ fn read_content<'a>(
     ensures { Gives (λ x. (x.0.now, x.1.now)) result (content_at room tight bound.now bytes.now) }
 {
     if (bytes.len() as u64) < room {
-        return Err(Misread::Stuck(left_of_text(room, tight, bound, bytes)));
+        return Err(Misread::Stuck(count_left_in_text(room, tight, bound, bytes)));
     }
     let (front, rest) = bytes.split_at(room as usize);
-    match text_in(tight, bound, front) {
+    match check_text_above(tight, bound, front) {
         Some(text) => Ok((text, rest)),
-        None => Err(Misread::Stuck(left_of_text(room, tight, bound, bytes))),
+        None => Err(Misread::Stuck(count_left_in_text(room, tight, bound, bytes))),
     }
 }
 
-fn least_of(tight: bool, bound: &[u8]) -> u64
+fn find_least_room(tight: bool, bound: &[u8]) -> u64
     ensures { result ≡ least_room tight bound.now }
 {
     if tight {
@@ -164,7 +164,7 @@ pub fn read_str_above<'a>(
 ) -> Result<(&'a str, &'a [u8]), Misread>
     ensures { Gives (λ x. (x.0.now, x.1.now)) result (text_above tight bound.now bytes.now) }
 {
-    let (room, rest) = read_number_between(least_of(tight, bound), u64::MAX, bytes)?;
+    let (room, rest) = read_number_between(find_least_room(tight, bound), u64::MAX, bytes)?;
     read_content(room, tight, bound, rest)
 }
 

@@ -125,7 +125,7 @@ fn add_edit(sum: u64, change: &Edit) -> u64
 /// Returns how many bytes the encodings of the edits take together, as [`encode`](crate::encode)
 /// writes them: not their count. Where the sum doesn't fit in 64 bits it is 2^64 - 1. It takes no
 /// memory.
-pub fn edit_bytes(edits: &[Edit]) -> u64
+pub fn count_edit_bytes(edits: &[Edit]) -> u64
     ensures { result ≡ capped (edit_bytes edits.now) }
 {
     let mut total = 0;

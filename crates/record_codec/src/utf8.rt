@@ -19,24 +19,24 @@ pub const START: CharacterRest = CharacterRest {
     high: 0xBF,
 };
 
-fn awaits(more: u8, low: u8, high: u8) -> Option<CharacterRest>
+fn build_rest(more: u8, low: u8, high: u8) -> Option<CharacterRest>
     ensures { result ≡ Some (record { more = more; low = low; high = high }) }
 {
     Some(CharacterRest { more, low, high })
 }
 
-fn lead(byte: u8) -> Option<CharacterRest>
+fn find_rest_after_lead(byte: u8) -> Option<CharacterRest>
     ensures { result ≡ after_lead byte }
 {
     match byte {
         0..=0x7F => Some(START),
-        0xC2..=0xDF => awaits(1, 0x80, 0xBF),
-        0xE0 => awaits(2, 0xA0, 0xBF),
-        0xED => awaits(2, 0x80, 0x9F),
-        0xE1..=0xEF => awaits(2, 0x80, 0xBF),
-        0xF0 => awaits(3, 0x90, 0xBF),
-        0xF1..=0xF3 => awaits(3, 0x80, 0xBF),
-        0xF4 => awaits(3, 0x80, 0x8F),
+        0xC2..=0xDF => build_rest(1, 0x80, 0xBF),
+        0xE0 => build_rest(2, 0xA0, 0xBF),
+        0xED => build_rest(2, 0x80, 0x9F),
+        0xE1..=0xEF => build_rest(2, 0x80, 0xBF),
+        0xF0 => build_rest(3, 0x90, 0xBF),
+        0xF1..=0xF3 => build_rest(3, 0x80, 0xBF),
+        0xF4 => build_rest(3, 0x80, 0x8F),
         _ => None,
     }
 }
@@ -47,10 +47,10 @@ impl CharacterRest {
         ensures { result ≡ after_byte self byte }
     {
         if self.more == 0 {
-            return lead(byte);
+            return find_rest_after_lead(byte);
         }
         if self.low <= byte && byte <= self.high {
-            return awaits(self.more - 1, 0x80, 0xBF);
+            return build_rest(self.more - 1, 0x80, 0xBF);
         }
         None
     }
@@ -61,7 +61,7 @@ impl CharacterRest {
         ensures { result ≡ can_rise self room byte }
     {
         if self.more == 0 {
-            return byte < top(room);
+            return byte < find_top_lead(room);
         }
         self.more as u64 <= room && byte < self.high
     }
@@ -72,7 +72,7 @@ impl CharacterRest {
         ensures { result ≡ rise_cost self byte }
     {
         if self.more == 0 {
-            return lead_cost(byte);
+            return find_lead_cost(byte);
         }
         if byte < self.high {
             self.more as usize
@@ -82,7 +82,7 @@ impl CharacterRest {
     }
 }
 
-fn top(room: u64) -> u8
+fn find_top_lead(room: u64) -> u8
     ensures { result ≡ top_lead room }
 {
     match room {
@@ -93,7 +93,7 @@ fn top(room: u64) -> u8
     }
 }
 
-fn lead_cost(byte: u8) -> usize
+fn find_lead_cost(byte: u8) -> usize
     ensures { result ≡ rise_cost start byte }
 {
     if byte < 0x7F {
@@ -109,7 +109,7 @@ fn lead_cost(byte: u8) -> usize
     }
 }
 
-fn turned(turn: usize, at: usize, rises: bool) -> usize
+fn choose_turn(turn: usize, at: usize, rises: bool) -> usize
     requires { at + 1 < 2 ^ 64 }
     ensures { result ≡ (if rises then at + 1 else turn) }
 {
@@ -129,7 +129,7 @@ pub fn find_turn(room: u64, text: &[u8]) -> usize
             return turn;
         }
         let byte = text[at];
-        turn = turned(turn, at, follow.can_rise(left, byte));
+        turn = choose_turn(turn, at, follow.can_rise(left, byte));
         match follow.advance(byte) {
             None => return turn,
             Some(next) => follow = next,
@@ -141,7 +141,7 @@ pub fn find_turn(room: u64, text: &[u8]) -> usize
     turn
 }
 
-fn lesser(least: usize, at: usize, cost: usize) -> usize
+fn choose_lesser_length(least: usize, at: usize, cost: usize) -> usize
     requires { at < least }
     ensures { result ≡ at + less_of cost (least - at) }
 {
@@ -162,7 +162,7 @@ pub fn find_least_length(text: &[u8]) -> usize
             return least;
         }
         let byte = text[at];
-        least = lesser(least, at, follow.count_bytes_to_rise(byte));
+        least = choose_lesser_length(least, at, follow.count_bytes_to_rise(byte));
         match follow.advance(byte) {
             None => return least,
             Some(next) => follow = next,

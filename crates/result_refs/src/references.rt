@@ -58,12 +58,12 @@ fn resolve_members(
 {
     let clash = has_clash(&members, members.as_slice());
     match replace_members(alloc, room, members, responses) {
-        Ok(found) => unless_clash(clash, found),
+        Ok(found) => reject_clash(clash, found),
         Err(fault) => Err(fault),
     }
 }
 
-fn unless_clash(clash: bool, members: Members) -> Result<Json, RefFault>
+fn reject_clash(clash: bool, members: Members) -> Result<Json, RefFault>
     ensures { MatchResult result (λ t. unless_both clash members ≡ resolved (tree_of t))
         (λ e. IsFaultOf e (unless_both clash members)) }
 {
@@ -110,7 +110,7 @@ fn replace(
         (λ _. argument_bytes (member_of member) (map call_of responses.now) + room.new ≤ room.old)
         (λ _. room.new ≤ room.old) }
 {
-    match unmarked(member.name.as_str()) {
+    match strip_mark(member.name.as_str()) {
         Some(name) => match refer(alloc, room, &member.value, responses) {
             Ok(value) => Ok(Member {
                 name: Text::from_str(alloc, name)?,
@@ -123,7 +123,7 @@ fn replace(
 }
 
 // Returns a name without its mark, if it has one.
-fn unmarked(name: &str) -> Option<&str>
+fn strip_mark(name: &str) -> Option<&str>
     ensures { MatchOption result (is_marked name.now ≡ false)
         (λ n. (is_marked name.now ≡ true) × (n.now ≡ drop 1 name.now)) }
 {
@@ -163,19 +163,19 @@ fn ask(
         (λ _. asked_bytes members.now (map call_of responses.now) + room.new ≤ room.old)
         (λ _. room.new ≤ room.old) }
 {
-    let Some(id) = text_of(members, "resultOf") else {
+    let Some(id) = find_text_member(members, "resultOf") else {
         return Err(RefFault::BadReference);
     };
-    let Some(name) = text_of(members, "name") else {
+    let Some(name) = find_text_member(members, "name") else {
         return Err(RefFault::BadReference);
     };
-    let Some(path) = text_of(members, "path") else {
+    let Some(path) = find_text_member(members, "path") else {
         return Err(RefFault::BadReference);
     };
     take(alloc, room, id, name, path, responses)
 }
 
-fn text_of<'a>(members: &'a Members, key: &str) -> Option<&'a Text>
+fn find_text_member<'a>(members: &'a Members, key: &str) -> Option<&'a Text>
     ensures { option_map (λ t. t.now) result ≡ text_at key.now members.now }
 {
     match members.get(key) {
@@ -200,7 +200,7 @@ fn take(
         + room.new ≤ room.old)
         (λ _. room.new ≤ room.old) }
 {
-    match response_to(id.as_str(), responses) {
+    match find_response(id.as_str(), responses) {
         Some(response) => {
             if response.name.as_str() != name.as_str() {
                 return Err(RefFault::BadReference);
@@ -211,7 +211,7 @@ fn take(
     }
 }
 
-fn response_to<'a>(id: &str, responses: &'a [Invocation]) -> Option<&'a Invocation>
+fn find_response<'a>(id: &str, responses: &'a [Invocation]) -> Option<&'a Invocation>
     ensures { option_map (λ r. call_of r.now) result
         ≡ response_of id.now (map call_of responses.now) }
 {
@@ -238,7 +238,7 @@ fn has_clash(all: &Members, members: &[Member]) -> bool
 fn is_given_twice(all: &Members, name: &str) -> bool
     ensures { result ≡ (is_marked name.now && is_some (find (drop 1 name.now) all.now)) }
 {
-    match unmarked(name) {
+    match strip_mark(name) {
         Some(plain) => all.get(plain).is_some(),
         None => false,
     }

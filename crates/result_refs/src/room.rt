@@ -56,7 +56,7 @@ pub(crate) fn copy_within(alloc: Global, tree: &Json, room: &mut u64) -> Result<
     ensures room { OnOk result (room.new + value_bytes (tree_of tree.now) ≡ room.old) }
     ensures err { OnErr result (room.new ≡ room.old) }
 {
-    match left_after(tree, *room) {
+    match compute_room_after(tree, *room) {
         Some(left) => {
             let copied = copy(alloc, tree)?;
             *room = left;
@@ -69,7 +69,7 @@ pub(crate) fn copy_within(alloc: Global, tree: &Json, room: &mut u64) -> Result<
 // Returns the room that is left once a value has been taken from it, and none where it does not
 // suffice.
 #[cycle(room)]
-fn left_after(tree: &Json, room: u64) -> Option<u64>
+fn compute_room_after(tree: &Json, room: u64) -> Option<u64>
     ensures { MatchOption result ⊤ (λ left. left + value_bytes (tree_of tree.now) ≡ room) }
 {
     if room < VALUE_BYTES {
@@ -85,20 +85,20 @@ fn left_after(tree: &Json, room: u64) -> Option<u64>
                 Some(left - length)
             }
         }
-        Json::List(items) => left_after_items(items.as_slice(), left),
-        Json::Object(members) => left_after_members(members.as_slice(), left),
+        Json::List(items) => compute_room_after_items(items.as_slice(), left),
+        Json::Object(members) => compute_room_after_members(members.as_slice(), left),
         _ => Some(left),
     }
 }
 
 #[cycle(room)]
-fn left_after_items(items: &[Json], room: u64) -> Option<u64>
+fn compute_room_after_items(items: &[Json], room: u64) -> Option<u64>
     ensures { MatchOption result ⊤
         (λ left. left + items_bytes (trees_of (map tree_of items.now)) ≡ room) }
 {
     let mut left = room;
     for item in items {
-        match left_after(item, left) {
+        match compute_room_after(item, left) {
             Some(rest) => left = rest,
             None => return None,
         }
@@ -107,7 +107,7 @@ fn left_after_items(items: &[Json], room: u64) -> Option<u64>
 }
 
 #[cycle(room)]
-fn left_after_members(members: &[Member], room: u64) -> Option<u64>
+fn compute_room_after_members(members: &[Member], room: u64) -> Option<u64>
     ensures { MatchOption result ⊤
         (λ left. left + members_bytes (fields_of (map member_of members.now)) ≡ room) }
 {
@@ -117,7 +117,7 @@ fn left_after_members(members: &[Member], room: u64) -> Option<u64>
         if left < length {
             return None;
         }
-        match left_after(&member.value, left - length) {
+        match compute_room_after(&member.value, left - length) {
             Some(rest) => left = rest,
             None => return None,
         }

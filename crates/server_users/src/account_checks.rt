@@ -8,7 +8,7 @@ ghost use Rattle.server_users.specs.Lookups.{least_from};
 use crate::account_ids::{is_account_id, is_among};
 use crate::places::{AccountPlace, note_account_member, note_user_member};
 use crate::seen_texts::SeenTexts;
-use crate::values::{find_flag, find_items, find_text, text_or_empty};
+use crate::values::{find_flag, find_items, find_text, find_text_or_empty};
 use jm_base::{NoMemory, Text};
 use jm_json::Json;
 use std::alloc::Global;
@@ -121,7 +121,7 @@ fn check_each(
     let mut rest = accounts;
     let mut index = 0;
     'account: while let Some((account, more)) = rest.split_first() {
-        let repeated = seen.add(text_or_empty(account, "id"))?;
+        let repeated = seen.add(find_text_or_empty(account, "id"))?;
         let at = AccountPlace { user, index };
         least = check_account(alloc, ids, at, repeated, account, least)?;
         index += 1;

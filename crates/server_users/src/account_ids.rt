@@ -6,7 +6,7 @@ ghost use Rattle.server_users.specs.Configuration.{account_ids, is_account_id, i
 ghost use Rattle.server_users.specs.declared.limits.TheConstants.{MAX_ACCOUNTS};
 
 use crate::limits::{MAX_ACCOUNT_ID_BYTES, MAX_ACCOUNTS};
-use crate::values::{items_or_none, text_or_empty};
+use crate::values::{find_items_or_none, find_text_or_empty};
 use jm_base::{NoMemory, Text, Texts};
 use jm_json::Json;
 use std::alloc::Global;
@@ -71,7 +71,7 @@ fn is_to_add(ids: &[Text], id: &str) -> bool
 fn add_mention(alloc: Global, ids: &mut Texts, account: &Json) -> Result<(), NoMemory>
     ensures { OnOk result (ids.new ≡ with_mention ids.old (tree_of account.now)) }
 {
-    let id = text_or_empty(account, "id");
+    let id = find_text_or_empty(account, "id");
     if !is_to_add(ids.as_slice(), id) {
         return Ok(());
     }
@@ -83,7 +83,7 @@ fn add_mention(alloc: Global, ids: &mut Texts, account: &Json) -> Result<(), NoM
 fn add_mentions(alloc: Global, ids: &mut Texts, user: &Json) -> Result<(), NoMemory>
     ensures { OnOk result (ids.new ≡ with_mentions ids.old (tree_of user.now)) }
 {
-    let accounts = items_or_none(user, "accounts");
+    let accounts = find_items_or_none(user, "accounts");
     for account in accounts {
         add_mention(alloc, ids, account)?;
     }
@@ -95,7 +95,7 @@ pub(crate) fn list_account_ids(alloc: Global, tree: &Json) -> Result<Texts, NoMe
     ensures { IfOk result (λ ids. ids ≡ account_ids (tree_of tree.now)) }
 {
     let mut ids = Texts::new(alloc);
-    let users = items_or_none(tree, "users");
+    let users = find_items_or_none(tree, "users");
     for user in users {
         add_mentions(alloc, &mut ids, user)?;
     }

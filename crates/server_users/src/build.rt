@@ -6,7 +6,7 @@ ghost use Rattle.server_users.specs.BadPlaces.{bad_places};
 
 use crate::account_ids::find_number;
 use crate::users::{User, UserAccount, Users};
-use crate::values::{flag_or_false, items_or_none, text_or_empty};
+use crate::values::{find_flag_or_false, find_items_or_none, find_text_or_empty};
 use jm_base::{NoMemory, Sequence, Text, Texts};
 use jm_json::Json;
 use std::alloc::Global;
@@ -14,12 +14,12 @@ use std::alloc::Global;
 fn build_account(alloc: Global, ids: &[Text], tree: &Json) -> Result<UserAccount, NoMemory>
     ensures { IfOk result (λ a. a ≡ account_in ids.now (tree_of tree.now)) }
 {
-    let id = text_or_empty(tree, "id");
+    let id = find_text_or_empty(tree, "id");
     Ok(UserAccount {
         number: find_number(ids, id),
         id: Text::from_str(alloc, id)?,
-        name: Text::from_str(alloc, text_or_empty(tree, "name"))?,
-        read_only: flag_or_false(tree, "readOnly"),
+        name: Text::from_str(alloc, find_text_or_empty(tree, "name"))?,
+        read_only: find_flag_or_false(tree, "readOnly"),
     })
 }
 
@@ -41,9 +41,9 @@ fn build_user(alloc: Global, ids: &[Text], tree: &Json) -> Result<User, NoMemory
     ensures { IfOk result (λ u. u ≡ user_in ids.now (tree_of tree.now)) }
 {
     Ok(User {
-        name: Text::from_str(alloc, text_or_empty(tree, "name"))?,
-        token: Text::from_str(alloc, text_or_empty(tree, "token"))?,
-        accounts: build_accounts(alloc, ids, items_or_none(tree, "accounts"))?,
+        name: Text::from_str(alloc, find_text_or_empty(tree, "name"))?,
+        token: Text::from_str(alloc, find_text_or_empty(tree, "token"))?,
+        accounts: build_accounts(alloc, ids, find_items_or_none(tree, "accounts"))?,
     })
 }
 
@@ -64,6 +64,6 @@ pub(crate) fn build_users(alloc: Global, ids: Texts, tree: &Json) -> Result<User
     requires good { bad_places (tree_of tree.now) ≡ [] }
     ensures { IfOk result (λ u. u ≡ configuration_in (tree_of tree.now)) }
 {
-    let users = build_each(alloc, ids.as_slice(), items_or_none(tree, "users"))?;
+    let users = build_each(alloc, ids.as_slice(), find_items_or_none(tree, "users"))?;
     Ok(Users::new(users, ids))
 }

@@ -15,7 +15,7 @@ pub(crate) struct AccountPlace {
 }
 
 // Returns the lesser of two places in byte order.
-fn lesser_of(least: Text, place: Text) -> Text
+fn choose_lesser_place(least: Text, place: Text) -> Text
     ensures { Some result ≡ lesser (Some least) place }
 {
     match place.as_bytes().cmp(least.as_bytes()) {
@@ -26,11 +26,11 @@ fn lesser_of(least: Text, place: Text) -> Text
 }
 
 /// Returns the lesser of a place, if there is one, and another.
-pub(crate) fn lesser(least: Option<Text>, place: Text) -> Option<Text>
+pub(crate) fn choose_lesser(least: Option<Text>, place: Text) -> Option<Text>
     ensures { result ≡ lesser least place }
 {
     match least {
-        Some(least) => Some(lesser_of(least, place)),
+        Some(least) => Some(choose_lesser_place(least, place)),
         None => Some(place),
     }
 }
@@ -64,7 +64,7 @@ pub(crate) fn note_user_member(
     if !bad {
         return Ok(least);
     }
-    Ok(lesser(least, write_user_place(alloc, user, member)?))
+    Ok(choose_lesser(least, write_user_place(alloc, user, member)?))
 }
 
 /// Takes a member of an account into account, if it is bad.
@@ -81,5 +81,5 @@ pub(crate) fn note_account_member(
     if !bad {
         return Ok(least);
     }
-    Ok(lesser(least, write_account_place(alloc, at, member)?))
+    Ok(choose_lesser(least, write_account_place(alloc, at, member)?))
 }

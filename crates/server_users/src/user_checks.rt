@@ -9,7 +9,7 @@ ghost use Rattle.server_users.specs.Lookups.{least_from};
 use crate::account_checks::check_accounts;
 use crate::places::note_user_member;
 use crate::seen_texts::SeenTexts;
-use crate::values::{find_items, find_text, text_or_empty};
+use crate::values::{find_items, find_text, find_text_or_empty};
 use jm_base::{NoMemory, Text};
 use jm_json::Json;
 use std::alloc::Global;
@@ -83,8 +83,8 @@ fn check_each(
     let mut rest = users;
     let mut index = 0;
     'user: while let Some((user, more)) = rest.split_first() {
-        let name = names.add(text_or_empty(user, "name"))?;
-        let token = tokens.add(text_or_empty(user, "token"))?;
+        let name = names.add(find_text_or_empty(user, "name"))?;
+        let token = tokens.add(find_text_or_empty(user, "token"))?;
         let repeats = Repeats { name, token };
         least = check_user(alloc, ids, index, repeats, user, least)?;
         index += 1;

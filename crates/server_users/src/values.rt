@@ -39,7 +39,7 @@ pub(crate) fn find_items<'a>(tree: &'a Json, key: &str) -> Option<&'a [Json]>
 }
 
 /// Lends the string at a key, or the empty string if there is none.
-pub(crate) fn text_or_empty<'a>(tree: &'a Json, key: &str) -> &'a str
+pub(crate) fn find_text_or_empty<'a>(tree: &'a Json, key: &str) -> &'a str
     ensures { result.now ≡ text_or_empty key.now (tree_of tree.now) }
 {
     match find_text(tree, key) {
@@ -49,7 +49,7 @@ pub(crate) fn text_or_empty<'a>(tree: &'a Json, key: &str) -> &'a str
 }
 
 /// Returns the boolean at a key, or false if there is none.
-pub(crate) fn flag_or_false(tree: &Json, key: &str) -> bool
+pub(crate) fn find_flag_or_false(tree: &Json, key: &str) -> bool
     ensures { result ≡ flag_or_false key.now (tree_of tree.now) }
 {
     match find_flag(tree, key) {
@@ -59,7 +59,7 @@ pub(crate) fn flag_or_false(tree: &Json, key: &str) -> bool
 }
 
 /// Lends the items of the list at a key, or none if there is no list.
-pub(crate) fn items_or_none<'a>(tree: &'a Json, key: &str) -> &'a [Json]
+pub(crate) fn find_items_or_none<'a>(tree: &'a Json, key: &str) -> &'a [Json]
     ensures { map tree_of result.now ≡ items_or_none key.now (tree_of tree.now) }
 {
     match find_items(tree, key) {

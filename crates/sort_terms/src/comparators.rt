@@ -6,7 +6,7 @@ ghost use Rattle.jm_json.specs.Json.{tree_of};
 ghost use Rattle.method_args.specs.Arguments.{as_flag};
 ghost use Rattle.sort_terms.specs.Forms.{comparator_in, comparator_of, comparator_with, comparators_from, comparators_of, if_any, is_ascending, keyword_in};
 
-use crate::forms::property_in;
+use crate::forms::read_comparator_property;
 use crate::properties::Property;
 use jm_base::{Kind, NoMemory, Text};
 use jm_json::{Json, Members};
@@ -21,7 +21,7 @@ pub(crate) struct Comparator {
     pub keyword: Text,
 }
 
-fn flag_or_true(value: &Json) -> bool
+fn read_flag_or_true(value: &Json) -> bool
     ensures { result ≡ unwrap_or (as_flag (tree_of value.now)) true }
 {
     match value {
@@ -36,12 +36,12 @@ pub fn is_ascending(members: &Members) -> bool
     ensures { result ≡ is_ascending members.now }
 {
     match members.get("isAscending") {
-        Some(value) => flag_or_true(value),
+        Some(value) => read_flag_or_true(value),
         None => true,
     }
 }
 
-fn keyword_in(alloc: Global, members: &Members) -> Result<Text, NoMemory>
+fn read_comparator_keyword(alloc: Global, members: &Members) -> Result<Text, NoMemory>
     ensures { IfOk result (λ k. k ≡ keyword_in members.now) }
 {
     match read_text(members, "keyword") {
@@ -50,14 +50,14 @@ fn keyword_in(alloc: Global, members: &Members) -> Result<Text, NoMemory>
     }
 }
 
-fn comparator_with(
+fn build_comparator(
     alloc: Global,
     members: &Members,
     property: Property,
 ) -> Result<Comparator, NoMemory>
     ensures { IfOk result (λ c. c ≡ comparator_with members.now property) }
 {
-    let keyword = keyword_in(alloc, members)?;
+    let keyword = read_comparator_keyword(alloc, members)?;
     Ok(Comparator {
         property,
         ascending: is_ascending(members),
@@ -65,24 +65,24 @@ fn comparator_with(
     })
 }
 
-fn comparator_in(
+fn read_comparator_members(
     alloc: Global,
     kind: Kind,
     members: &Members,
 ) -> Result<Option<Comparator>, NoMemory>
     ensures { IfOk result (λ c. c ≡ comparator_in kind members.now) }
 {
-    match property_in(kind, members) {
-        Some(property) => Ok(Some(comparator_with(alloc, members, property)?)),
+    match read_comparator_property(kind, members) {
+        Some(property) => Ok(Some(build_comparator(alloc, members, property)?)),
         None => Ok(None),
     }
 }
 
-fn comparator_of(alloc: Global, kind: Kind, tree: &Json) -> Result<Option<Comparator>, NoMemory>
+fn read_comparator(alloc: Global, kind: Kind, tree: &Json) -> Result<Option<Comparator>, NoMemory>
     ensures { IfOk result (λ c. c ≡ comparator_of kind (tree_of tree.now)) }
 {
     match tree.as_object() {
-        Some(members) => comparator_in(alloc, kind, members),
+        Some(members) => read_comparator_members(alloc, kind, members),
         None => Ok(None),
     }
 }
@@ -100,19 +100,23 @@ fn push_any(all: &mut Vec<Comparator>, comparator: Option<Comparator>) -> Result
     }
 }
 
-fn comparators_from(alloc: Global, kind: Kind, items: &[Json]) -> Result<Vec<Comparator>, NoMemory>
+fn read_comparator_items(
+    alloc: Global,
+    kind: Kind,
+    items: &[Json],
+) -> Result<Vec<Comparator>, NoMemory>
     ensures { IfOk result (λ cs. cs.items ≡ comparators_from kind (map tree_of items.now)) }
 {
     let mut all = Vec::new(alloc);
     for item in items {
-        push_any(&mut all, comparator_of(alloc, kind, item)?)?;
+        push_any(&mut all, read_comparator(alloc, kind, item)?)?;
     }
     Ok(all)
 }
 
 /// Returns the comparators of an order.
 #[tactic(auto, using(jm_json::proofs::Lists::lists_back))]
-pub(crate) fn comparators_of(
+pub(crate) fn read_comparators(
     alloc: Global,
     kind: Kind,
     tree: &Json,
@@ -120,7 +124,7 @@ pub(crate) fn comparators_of(
     ensures { IfOk result (λ cs. cs.items ≡ comparators_of kind (tree_of tree.now)) }
 {
     match tree {
-        Json::List(items) => comparators_from(alloc, kind, items.as_slice()),
+        Json::List(items) => read_comparator_items(alloc, kind, items.as_slice()),
         Json::Null | Json::Bool(_) | Json::Int(_) | Json::Text(_) | Json::Object(_) => {
             Ok(Vec::new(alloc))
         }

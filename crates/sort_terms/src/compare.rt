@@ -48,7 +48,7 @@ fn compare_texts(left: &[u8], right: &[u8]) -> Ordering
     }
 }
 
-fn seconds_of(date: Option<UtcDate>) -> Option<i64>
+fn find_date_seconds(date: Option<UtcDate>) -> Option<i64>
     ensures { result ≡ option_map (λ d. d.seconds) date }
 {
     match date {
@@ -62,7 +62,7 @@ fn compare_sent(left: &Email, right: &Email, content: &Content) -> Ordering
         (sent_seconds (email_in_thread content.now.content.emails left.now))
         (sent_seconds (email_in_thread content.now.content.emails right.now)) }
 {
-    seconds_of(left.summary.sent).cmp(&seconds_of(right.summary.sent))
+    find_date_seconds(left.summary.sent).cmp(&find_date_seconds(right.summary.sent))
 }
 
 // Compares two emails of a content by a property that is of one of its own fields or its thread.

@@ -11,9 +11,9 @@ ghost use Rattle.sort_terms.specs.Orders;
 ghost use Rattle.sort_terms.specs.Orders.{is_before, numbers_cmp, records_cmp};
 ghost use Rattle.sort_terms.specs.Properties.{is_wide_property};
 
-use crate::comparators::{Comparator, comparators_of};
+use crate::comparators::{Comparator, read_comparators};
 use crate::compare;
-use crate::forms::{invalid, unsupported};
+use crate::forms::{find_invalid_in_sort, find_unsupported_in_sort};
 use crate::properties::is_wide_property;
 use filter_terms::TermFault;
 use jm_base::{Kind, Text};
@@ -73,13 +73,13 @@ pub fn read_order(alloc: Global, kind: Kind, tree: &Json) -> Result<Order, TermF
     ensures form { OnOk result (IsOrder kind (tree_of tree.now)) }
     ensures err { IfErr result (λ e. Refuses kind (tree_of tree.now) e) }
 {
-    if let Some(name) = invalid(kind, tree) {
+    if let Some(name) = find_invalid_in_sort(kind, tree) {
         return Err(TermFault::Invalid(Text::from_str(alloc, name)?));
     }
-    if let Some(name) = unsupported(kind, tree) {
+    if let Some(name) = find_unsupported_in_sort(kind, tree) {
         return Err(TermFault::Unsupported(Text::from_str(alloc, name)?));
     }
-    let comparators = comparators_of(alloc, kind, tree)?;
+    let comparators = read_comparators(alloc, kind, tree)?;
     let over_thread = are_wide(&comparators);
     Ok(Order {
         kind,

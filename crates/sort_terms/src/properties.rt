@@ -20,7 +20,7 @@ pub(crate) enum Property {
     Name,
 }
 
-fn email_property(name: &str) -> Option<Property>
+fn find_email_property(name: &str) -> Option<Property>
     ensures { result ≡ email_property name.now }
 {
     if name == "receivedAt" {
@@ -46,7 +46,7 @@ fn email_property(name: &str) -> Option<Property>
     }
 }
 
-fn mailbox_property(name: &str) -> Option<Property>
+fn find_mailbox_property(name: &str) -> Option<Property>
     ensures { result ≡ mailbox_property name.now }
 {
     if name == "sortOrder" {
@@ -59,12 +59,12 @@ fn mailbox_property(name: &str) -> Option<Property>
 }
 
 /// Returns the property with this name in a query of the kind, or `None` if there is none.
-pub(crate) fn property_named(kind: Kind, name: &str) -> Option<Property>
+pub(crate) fn find_property(kind: Kind, name: &str) -> Option<Property>
     ensures { result ≡ property_named kind name.now }
 {
     match kind {
-        Kind::Email => email_property(name),
-        Kind::Mailbox => mailbox_property(name),
+        Kind::Email => find_email_property(name),
+        Kind::Mailbox => find_mailbox_property(name),
         Kind::Thread => None,
     }
 }

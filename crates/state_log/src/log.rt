@@ -55,7 +55,7 @@ impl Model for Log {
 }
 
 // Returns the position of a kind.
-fn position_of(positions: &Positions, kind: Kind) -> u64
+fn find_kind_position(positions: &Positions, kind: Kind) -> u64
     ensures { result ≡ floor_of (record {
       mailbox = positions.now.mailbox;
       email = positions.now.email;
@@ -70,7 +70,7 @@ fn position_of(positions: &Positions, kind: Kind) -> u64
 }
 
 // Returns the positions with that of one kind moved.
-fn moved(positions: Positions, kind: Kind, position: u64) -> Positions
+fn move_position(positions: Positions, kind: Kind, position: u64) -> Positions
     ensures mailbox { result.mailbox ≡ (if is_kind Kind.Mailbox kind then position
         else positions.mailbox) }
     ensures email { result.email ≡ (if is_kind Kind.Email kind then position else positions.email) }
@@ -129,7 +129,7 @@ impl Log {
             (ids_in self.now.notes) }
         ensures reached { (floor_of self.now.floors kind ≤ result) × (result ≤ log_end self.now) }
     {
-        position_of(&self.states, kind)
+        find_kind_position(&self.states, kind)
     }
 
     /// Returns the state of a kind at a position: the position of its last edit up to there, else
@@ -139,14 +139,14 @@ impl Log {
             (take (position - self.now.floor) (ids_in self.now.notes)) }
         ensures reached { (floor_of self.now.floors kind ≤ result) × (result ≤ log_end self.now) }
     {
-        match find_last_place(self.notes_upto(position), kind) {
+        match find_last_place(self.find_notes_upto(position), kind) {
             Some(place) => self.floor + place as u64,
-            None => position_of(&self.floors, kind),
+            None => find_kind_position(&self.floors, kind),
         }
     }
 
     // Lends the notes of the edits up to a position.
-    fn notes_upto(&self, position: u64) -> &[Note]
+    fn find_notes_upto(&self, position: u64) -> &[Note]
         ensures { result.now ≡ take (position - self.now.floor) self.now.notes }
     {
         let count = position.saturating_sub(self.floor);
@@ -162,7 +162,7 @@ impl Log {
         ensures { IsTrue result ↔ ((floor_of self.now.floors kind ≤ position)
             × (position ≤ log_end self.now)) }
     {
-        position_of(&self.floors, kind) <= position && position <= self.end()
+        find_kind_position(&self.floors, kind) <= position && position <= self.end()
     }
 
     /// Returns the numbers that the edits of a kind after one position, and up to another, name, in
@@ -179,18 +179,18 @@ impl Log {
         ensures { IfOk result (AreNamed kind (ids_between self.now.floor from upto
             (ids_in self.now.notes))) }
     {
-        collect_touched(alloc, self.notes_between(from, upto), kind)
+        collect_touched(alloc, self.find_notes_between(from, upto), kind)
     }
 
     /// Lends the notes of the edits after one position, up to another, in order.
-    pub fn notes_between(&self, from: u64, upto: u64) -> &[Note]
+    pub fn find_notes_between(&self, from: u64, upto: u64) -> &[Note]
         requires order { from ≤ upto }
         requires within { upto ≤ log_end self.now }
         ensures { result.now ≡ drop (from - self.now.floor)
             (take (upto - self.now.floor) self.now.notes) }
     {
         let first = from.saturating_sub(self.floor) as usize;
-        let notes = self.notes_upto(upto);
+        let notes = self.find_notes_upto(upto);
         &notes[first..]
     }
 
@@ -248,7 +248,7 @@ impl Log {
     {
         let note = note_of(edit);
         let position = self.floor + self.notes.len() as u64 + 1;
-        self.states = moved(self.states, note.kind, position);
+        self.states = move_position(self.states, note.kind, position);
         self.notes.push_reserved(note);
     }
 }

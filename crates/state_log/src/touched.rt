@@ -10,7 +10,7 @@ use crate::notes::is_of;
 use jm_base::{Kind, NoMemory, Numbers};
 use std::alloc::Global;
 
-fn numbers_named(alloc: Global, notes: &[Note], kind: Kind) -> Result<Vec<u64>, NoMemory>
+fn collect_named_numbers(alloc: Global, notes: &[Note], kind: Kind) -> Result<Vec<u64>, NoMemory>
     ensures { IfOk result (λ v. v.items ≡ numbers_named kind (ids_in notes.now)) }
 {
     let mut numbers = Vec::new(alloc);
@@ -36,7 +36,7 @@ fn put_in_order(numbers: &mut Vec<u64>)
 pub fn collect_touched(alloc: Global, notes: &[Note], kind: Kind) -> Result<Numbers, NoMemory>
     ensures { IfOk result (AreNamed kind (ids_in notes.now)) }
 {
-    let mut numbers = numbers_named(alloc, notes, kind)?;
+    let mut numbers = collect_named_numbers(alloc, notes, kind)?;
     put_in_order(&mut numbers);
     Ok(Numbers::from_vec(numbers))
 }

@@ -164,7 +164,7 @@ pub(crate) fn keeper(
     let kept = Kept { base: None, rows };
     let loads = numbers_of(alloc, loads)?;
     let appends = numbers_of(alloc, appends)?;
-    Ok(MemoryKeeper::failing(alloc, kept, loads, appends, Numbers::new(alloc)))
+    Ok(MemoryKeeper::build_failing(alloc, kept, loads, appends, Numbers::new(alloc)))
 }
 
 // A book over such a keeper, or why it is not opened.

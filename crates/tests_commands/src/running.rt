@@ -48,9 +48,9 @@ pub(crate) fn run_over(
     piece: usize,
     faults: Faults,
 ) -> Result<Ran, Fail> {
-    let mut source = MemorySource::in_pieces(input, piece.max(1), call(alloc, faults.read)?);
-    let mut out = MemorySink::failing(alloc, call(alloc, faults.write)?);
-    let mut err = MemorySink::failing(alloc, call(alloc, faults.said)?);
+    let mut source = MemorySource::build_in_pieces(input, piece.max(1), call(alloc, faults.read)?);
+    let mut out = MemorySink::build_failing(alloc, call(alloc, faults.write)?);
+    let mut err = MemorySink::build_failing(alloc, call(alloc, faults.said)?);
     let mut words = Vec::new(alloc);
     for word in arguments.split(' ') {
         words.push(String::from_str(alloc, word)?)?;

@@ -14,7 +14,7 @@ fn read_cut(
 ) -> Result<Result<HeadSpan, WireFault>, Fail> {
     let mut sizes = Numbers::new(alloc);
     sizes.push(first)?;
-    let input = MemorySource::in_sizes(text.to_vec(alloc)?, sizes, most, Numbers::new(alloc));
+    let input = MemorySource::build_in_sizes(text.to_vec(alloc)?, sizes, most, Numbers::new(alloc));
     let mut link = MemoryLink::new(input, MemorySink::new(alloc));
     let mut room = [0u8; 64];
     let mut bytes = Unread::new(alloc);

@@ -123,7 +123,7 @@ fn read_next(alloc: Global, link: &mut MemoryLink, early: &mut Unread) -> Result
 fn read_three(alloc: Global, text: &[u8], at_first: u64) -> Result<Three, Fail> {
     let mut sizes = Numbers::new(alloc);
     sizes.push(at_first)?;
-    let input = MemorySource::in_sizes(text.to_vec(alloc)?, sizes, 64, Numbers::new(alloc));
+    let input = MemorySource::build_in_sizes(text.to_vec(alloc)?, sizes, 64, Numbers::new(alloc));
     let mut link = MemoryLink::new(input, MemorySink::new(alloc));
     let mut early = Unread::new(alloc);
     let first = read_next(alloc, &mut link, &mut early);

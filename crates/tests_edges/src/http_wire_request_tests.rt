@@ -32,7 +32,7 @@ pub(crate) fn read_cut(
     let mut room = vec![in alloc; 0u8; 20_000]?;
     let mut sizes = Numbers::new(alloc);
     sizes.push(first)?;
-    let input = MemorySource::in_sizes(text.to_vec(alloc)?, sizes, most, Numbers::new(alloc));
+    let input = MemorySource::build_in_sizes(text.to_vec(alloc)?, sizes, most, Numbers::new(alloc));
     let mut link = MemoryLink::new(input, MemorySink::new(alloc));
     let mut early = Unread::new(alloc);
     let read = match read_request(alloc, &mut link, room.as_mut_slice(), &mut early) {

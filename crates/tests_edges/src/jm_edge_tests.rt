@@ -52,7 +52,7 @@ impl Read for Slow {
 fn reads_in_pieces_and_fails_once(rt: HostRuntime) -> Result<(), Fail> {
     let mut fails = Numbers::new(rt.alloc());
     fails.push(2)?;
-    let mut source = MemorySource::in_pieces(b"abcde".to_vec(rt.alloc())?, 3, fails);
+    let mut source = MemorySource::build_in_pieces(b"abcde".to_vec(rt.alloc())?, 3, fails);
     let mut room = [0u8; 8];
     assert_eq!(rt; source.read(&mut room), Ok(3));
     assert_eq!(rt; source.read(&mut room), Err(Failed));
@@ -66,7 +66,7 @@ fn reads_in_pieces_and_fails_once(rt: HostRuntime) -> Result<(), Fail> {
 fn writes_all_until_a_fault(rt: HostRuntime) -> Result<(), Fail> {
     let mut fails = Numbers::new(rt.alloc());
     fails.push(2)?;
-    let mut sink = MemorySink::failing(rt.alloc(), fails);
+    let mut sink = MemorySink::build_failing(rt.alloc(), fails);
     assert_eq!(rt; put_all(&mut sink, b"ab"), Ok(()));
     assert_eq!(rt; put_all(&mut sink, b"cd"), Err(Failed));
     assert_eq!(rt; put_all(&mut sink, b"ef"), Ok(()));
@@ -121,8 +121,8 @@ fn a_link_reads_and_writes_apart(rt: HostRuntime) -> Result<(), Fail> {
     sizes.push(0)?;
     reads.push(3)?;
     writes.push(2)?;
-    let input = MemorySource::in_sizes(b"abcdef".to_vec(alloc)?, sizes, 3, reads);
-    let mut link = MemoryLink::new(input, MemorySink::failing(alloc, writes));
+    let input = MemorySource::build_in_sizes(b"abcdef".to_vec(alloc)?, sizes, 3, reads);
+    let mut link = MemoryLink::new(input, MemorySink::build_failing(alloc, writes));
     let mut room = [0u8; 8];
     // calls of one byte, of one (a size of 0 counts as 1), one that fails, and of three
     for read in [Ok(1), Ok(1), Err(Failed), Ok(3), Ok(1), Ok(0)] {

@@ -176,7 +176,7 @@ fn serve_cut(alloc: Global, users: &Users, text: &str, first: u64) -> Result<Out
     sizes.push(first)?;
     let bytes = text.as_bytes().to_vec(alloc)?;
     let sizes = Numbers::from_vec(sizes);
-    let input = MemorySource::in_sizes(bytes, sizes, 64, Numbers::new(alloc));
+    let input = MemorySource::build_in_sizes(bytes, sizes, 64, Numbers::new(alloc));
     let mut link = MemoryLink::new(input, MemorySink::new(alloc));
     let mut clock = MemoryClock::new(Numbers::new(alloc), 5);
     let mut port = Shows { user: 0, time: 0 };

@@ -10,7 +10,7 @@ fn refused_rows_and_wholes_are_not_kept(rt: HostRuntime) -> Result<(), Fail> {
     appends.push(2)?;
     let mut replaces = Numbers::new(alloc);
     replaces.push(1)?;
-    let mut keeper = MemoryKeeper::failing(
+    let mut keeper = MemoryKeeper::build_failing(
         alloc,
         Kept::new(alloc),
         Numbers::new(alloc),
@@ -39,7 +39,7 @@ fn loads_what_is_kept_but_at_the_listed_calls(rt: HostRuntime) -> Result<(), Fai
     let mut loads = Numbers::new(alloc);
     loads.push(1)?;
     let none = Numbers::new(alloc);
-    let mut keeper = MemoryKeeper::failing(
+    let mut keeper = MemoryKeeper::build_failing(
         alloc,
         Kept::new(alloc),
         loads,

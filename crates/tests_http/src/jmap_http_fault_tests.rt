@@ -21,7 +21,7 @@ const UNKNOWN: &[u8] =
 // Serves the two requests byte by byte, over a link whose read of this number fails.
 fn serve_unread<A: Abort>(rt: &A, alloc: Global, users: &Users, number: u64) -> Outcome {
     let bytes = sure(rt, TWO.to_vec(alloc));
-    let input = MemorySource::in_pieces(bytes, 1, one(rt, alloc, number));
+    let input = MemorySource::build_in_pieces(bytes, 1, one(rt, alloc, number));
     serve(rt, alloc, users, input, MemorySink::new(alloc))
 }
 
@@ -46,8 +46,8 @@ fn a_read_that_fails_ends_the_connection(rt: HostRuntime) {
 // Serves the two requests over a link whose write of this number fails.
 fn serve_unwritten<A: Abort>(rt: &A, alloc: Global, users: &Users, number: u64) -> Outcome {
     let bytes = sure(rt, TWO.to_vec(alloc));
-    let input = MemorySource::in_pieces(bytes, 64, Numbers::new(alloc));
-    let output = MemorySink::failing(alloc, one(rt, alloc, number));
+    let input = MemorySource::build_in_pieces(bytes, 64, Numbers::new(alloc));
+    let output = MemorySink::build_failing(alloc, one(rt, alloc, number));
     serve(rt, alloc, users, input, output)
 }
 

@@ -125,6 +125,6 @@ pub(crate) fn serve_cut<A: Abort>(
 ) -> Outcome {
     let sizes = one(rt, alloc, first);
     let bytes = sure(rt, bytes.to_vec(alloc));
-    let input = MemorySource::in_sizes(bytes, sizes, 64, Numbers::new(alloc));
+    let input = MemorySource::build_in_sizes(bytes, sizes, 64, Numbers::new(alloc));
     serve(rt, alloc, users, input, MemorySink::new(alloc))
 }

@@ -43,7 +43,7 @@ pub(crate) fn keeper<A: Abort>(rt: &A, alloc: Global, kept: Kept, fails: u64) ->
     let mut appends = Numbers::new(alloc);
     sure(rt, appends.push(fails));
     let none = Numbers::new(alloc);
-    MemoryKeeper::failing(alloc, kept, none, appends, Numbers::new(alloc))
+    MemoryKeeper::build_failing(alloc, kept, none, appends, Numbers::new(alloc))
 }
 
 // A book over a keeper.

@@ -46,7 +46,7 @@ fn failing(alloc: Global) -> Result<MemoryKeeper, NoMemory> {
     appends.push(1)?;
     appends.push(3)?;
     let none = Numbers::new(alloc);
-    Ok(MemoryKeeper::failing(alloc, nothing(alloc), none, appends, Numbers::new(alloc)))
+    Ok(MemoryKeeper::build_failing(alloc, nothing(alloc), none, appends, Numbers::new(alloc)))
 }
 
 #[test]

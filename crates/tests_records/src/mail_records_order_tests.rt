@@ -104,12 +104,12 @@ fn email_lists(alloc: Global, content: &Content) -> Result<Vec<u64>, NoMemory> {
         all.push(entry.email)?;
     }
     all.push(0)?;
-    for entry in content.in_thread(1) {
+    for entry in content.find_in_thread(1) {
         all.push(entry.email)?;
     }
     all.push(0)?;
     for mailbox in [1, 2] {
-        for entry in content.in_mailbox(mailbox) {
+        for entry in content.find_in_mailbox(mailbox) {
             all.push(entry.email)?;
         }
         all.push(0)?;
@@ -192,7 +192,7 @@ fn mailbox_lists(alloc: Global, content: &Content) -> Result<Vec<u64>, NoMemory>
         }
         all.push(0)?;
     }
-    for entry in content.children_named(None, b"b") {
+    for entry in content.find_children_named(None, b"b") {
         all.push(entry.mailbox)?;
     }
     all.push(0)?;

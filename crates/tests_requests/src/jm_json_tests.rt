@@ -332,7 +332,7 @@ fn keeps_calls_and_what_was_made(rt: HostRuntime) -> Result<(), Fail> {
 #[test]
 fn says_an_error(rt: HostRuntime) -> Result<(), Fail> {
     let id = Text::from_str(rt.alloc(), "a")?;
-    let said = Invocation::error(rt.alloc(), "notFound", id)?;
+    let said = Invocation::build_error_response(rt.alloc(), "notFound", id)?;
     assert_eq!(rt; said.name.as_str(), "error");
     assert_eq!(rt; said.id.as_str(), "a");
     let args = write(rt.alloc(), &said.args)?;

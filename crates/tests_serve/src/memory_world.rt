@@ -47,7 +47,7 @@ impl RowKeeper {
         let kept = Kept { base: None, rows };
         let none = Numbers::new(alloc);
         Ok(RowKeeper {
-            memory: MemoryKeeper::failing(alloc, kept, fails, none, Numbers::new(alloc)),
+            memory: MemoryKeeper::build_failing(alloc, kept, fails, none, Numbers::new(alloc)),
             load_faults: 0,
         })
     }

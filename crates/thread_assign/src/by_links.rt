@@ -11,7 +11,7 @@ use jm_base::Text;
 use mail_records::{Content, Linked, Summary};
 
 // Returns the candidate of the lesser number, of those that there are.
-fn lesser_of(one: Option<Candidate>, other: Option<Candidate>) -> Option<Candidate>
+fn choose_lesser(one: Option<Candidate>, other: Option<Candidate>) -> Option<Candidate>
     ensures { result ≡ lesser one other }
 {
     let Some(first) = one else { return other };
@@ -24,7 +24,7 @@ fn lesser_of(one: Option<Candidate>, other: Option<Candidate>) -> Option<Candida
 }
 
 // Returns the email of a number, if it has the subject.
-fn candidate_at(content: &Content, number: u64, subject: &Text) -> Option<Candidate>
+fn find_candidate(content: &Content, number: u64, subject: &Text) -> Option<Candidate>
     ensures { result ≡ option_and_then
         (if_has_subject subject.now) (email_at content.now.content number) }
 {
@@ -44,11 +44,11 @@ fn candidate_at(content: &Content, number: u64, subject: &Text) -> Option<Candid
 }
 
 // Returns the first of the entries' emails that has the subject.
-fn first_on(content: &Content, entries: &[Linked], subject: &Text) -> Option<Candidate>
+fn find_first_on_subject(content: &Content, entries: &[Linked], subject: &Text) -> Option<Candidate>
     ensures { result ≡ first_entry subject.now content.now.content.emails entries.now }
 {
     for entry in entries {
-        let found = candidate_at(content, entry.email, subject);
+        let found = find_candidate(content, entry.email, subject);
         if found.is_some() {
             return found;
         }
@@ -57,11 +57,11 @@ fn first_on(content: &Content, entries: &[Linked], subject: &Text) -> Option<Can
 }
 
 // Returns the least numbered email that has the link and the subject.
-fn first_with(content: &Content, link: &Text, subject: &Text) -> Option<Candidate>
+fn find_first_with_link(content: &Content, link: &Text, subject: &Text) -> Option<Candidate>
     requires table { IsTable email_number content.now.content.emails }
     ensures { result ≡ first_candidate (has_both link.now subject.now) content.now.content.emails }
 {
-    first_on(content, content.with_link(link.as_bytes()), subject)
+    find_first_on_subject(content, content.with_link(link.as_bytes()), subject)
 }
 
 /// Returns the thread that a new email with this summary joins, as [`thread_of`] does for the
@@ -76,7 +76,7 @@ pub fn find_joined_thread(content: &Content, summary: &Summary) -> Option<u64>
     let links = summary.links.as_slice();
     let mut best: Option<Candidate> = None;
     for link in links {
-        best = lesser_of(best, first_with(content, link, &summary.subject));
+        best = choose_lesser(best, find_first_with_link(content, link, &summary.subject));
     }
     match best {
         None => None,

@@ -10,7 +10,7 @@ use crate::rising::are_numbers_rising;
 use jm_base::{FIRST_TIMESTAMP, Kind, LAST_TIMESTAMP, UtcDate};
 use mail_records::{Content, Email, MAX_MAILBOXES_PER_EMAIL};
 
-fn each_is_mailbox(content: &Content, numbers: &[u64]) -> bool
+fn has_only_mailboxes(content: &Content, numbers: &[u64]) -> bool
     ensures { result ≡ list_all (is_mailbox content.now.content) numbers.now }
 {
     for number in numbers {
@@ -24,7 +24,7 @@ fn each_is_mailbox(content: &Content, numbers: &[u64]) -> bool
 fn are_mailboxes(content: &Content, numbers: &[u64]) -> bool
     ensures { result ≡ are_mailboxes content.now.content numbers.now }
 {
-    if !each_is_mailbox(content, numbers) {
+    if !has_only_mailboxes(content, numbers) {
         return false;
     }
     let count = numbers.len() as u64;

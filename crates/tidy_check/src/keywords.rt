@@ -42,7 +42,7 @@ fn is_keyword(text: &Text) -> bool
     are_keyword_bytes(bytes)
 }
 
-fn each_is_keyword(texts: &[Text]) -> bool
+fn has_only_keywords(texts: &[Text]) -> bool
     ensures { result ≡ list_all is_keyword texts.now }
 {
     for text in texts {
@@ -57,7 +57,7 @@ fn each_is_keyword(texts: &[Text]) -> bool
 pub(crate) fn are_keywords(keywords: &[Text]) -> bool
     ensures { result ≡ are_keywords keywords.now }
 {
-    if !each_is_keyword(keywords) {
+    if !has_only_keywords(keywords) {
         return false;
     }
     keywords.len() <= MAX_KEYWORDS_PER_EMAIL && are_texts_rising(keywords)

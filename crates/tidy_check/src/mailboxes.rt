@@ -77,7 +77,7 @@ fn is_name_shared(content: &Content, mailbox: &Mailbox) -> bool
     requires table { IsTable mailbox_number content.now.content.mailboxes }
     ensures { result ≡ is_name_shared content.now.content mailbox.now }
 {
-    let siblings = content.children_named(mailbox.parent, mailbox.name.as_bytes());
+    let siblings = content.find_children_named(mailbox.parent, mailbox.name.as_bytes());
     has_other_named(siblings, mailbox.number)
 }
 

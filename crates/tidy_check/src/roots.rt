@@ -14,7 +14,7 @@ use std::alloc::Global;
 use std::collections::BTreeMap;
 
 // Returns the number of a mailbox's parent, if there is that mailbox and it has one.
-fn parent_of(content: &Content, number: u64) -> Option<u64>
+fn find_parent(content: &Content, number: u64) -> Option<u64>
     ensures { result ≡ parent_of content.now.content number }
 {
     match content.mailbox(number) {
@@ -24,7 +24,7 @@ fn parent_of(content: &Content, number: u64) -> Option<u64>
 }
 
 // Returns the known depth of a mailbox: how many mailboxes its chain has, with itself.
-fn known_depth(depths: &BTreeMap<u64, u64>, number: u64) -> Option<u64>
+fn find_known_depth(depths: &BTreeMap<u64, u64>, number: u64) -> Option<u64>
     ensures { result ≡ get nat_cmp depths.now number }
 {
     match depths.get(&number) {
@@ -49,14 +49,14 @@ fn climb(
     let limit = content.mailboxes().len();
     let mut next = start;
     while let Some(number) = next {
-        if let Some(depth) = known_depth(depths, number) {
+        if let Some(depth) = find_known_depth(depths, number) {
             return Ok(Some(depth));
         }
         if path.len() >= limit {
             return Ok(None);
         }
         path.push(number)?;
-        next = parent_of(content, number);
+        next = find_parent(content, number);
     }
     Ok(Some(0))
 }

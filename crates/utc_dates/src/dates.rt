@@ -35,7 +35,7 @@ fn has_fraction(text: &[u8]) -> bool
     false
 }
 
-fn rounded_up(date: &UtcDate, fraction: bool) -> i64
+fn round_up_seconds(date: &UtcDate, fraction: bool) -> i64
     requires { IsUtcDate date.now }
     ensures { result ≡ rounded_up fraction date.now.seconds }
 {
@@ -52,7 +52,7 @@ pub fn read_first_second(text: &[u8]) -> Option<i64>
     ensures { result ≡ first_second text.now }
 {
     match read_utc(text) {
-        Ok(date) => Some(rounded_up(&date, has_fraction(text))),
+        Ok(date) => Some(round_up_seconds(&date, has_fraction(text))),
         Err(_) => None,
     }
 }

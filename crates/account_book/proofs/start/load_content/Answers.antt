@@ -8,8 +8,8 @@ pub returns-in-Ok-clause-makes : goal.returns-in-Ok-clause-makes
 returns-in-Ok-clause-makes g c =
     let k = c.args.content in
     let none : k.base ≡ None = search rules in
-    IfOk-weaken c.loaded_account.result _ (λ a. MakesHistory k a.history)
-    (λ a same. MakesHistory-loaded k k.rows c.in-Ok.loading a.history none refl c.in-Ok.ensures.ok same) c.loaded_account.ensures.same
+    IfOk-weaken c.finish_loading.result _ (λ a. MakesHistory k a.history)
+    (λ a same. MakesHistory-loaded k k.rows c.in-Ok.loading a.history none refl c.in-Ok.ensures.ok same) c.finish_loading.ensures.same
 
 pub returns-in-Ok-clause-err : goal.returns-in-Ok-clause-err
 returns-in-Ok-clause-err g c =
@@ -18,8 +18,8 @@ returns-in-Ok-clause-err g c =
     let laws = g.met.R.Rules g.world.𝓛 g.world.𝓜 g.world.𝓡 ((λ s x. x), (λ x. x), (λ x. x), λ x. x) in
     let none : k.base ≡ None = search rules in
     let last : c.len-count.result ≡ length k.rows = search rules in
-    IfErr-weaken c.loaded_account.result _ (IsContentFault whole k)
-    (λ e end. content_damaged whole (laws.empty c.args.rules.now) k k.rows c.in-Ok.loading c.len-count.result e none refl c.in-Ok.ensures.ok last end) c.loaded_account.ensures.err
+    IfErr-weaken c.finish_loading.result _ (IsContentFault whole k)
+    (λ e end. content_damaged whole (laws.empty c.args.rules.now) k k.rows c.in-Ok.loading c.len-count.result e none refl c.in-Ok.ensures.ok last end) c.finish_loading.ensures.err
 
 pub returns-clause-err : goal.returns-clause-err
 returns-clause-err g c =

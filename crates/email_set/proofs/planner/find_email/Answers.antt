@@ -16,7 +16,7 @@ returns-in-Some c =
     let n = c.args.number in
     let last : last_edit OfEmail n edits ≡ Some c.in-Some.edit.now =
     sym (c.find_last_edit.ensures base s f) ∙ ap (option_map (λ (r : Bor Edit). r.now)) c.in-Some.is in
-    c.email_put.ensures ∙ (email_found edits base n c.in-Some.edit.now last ∙ ap (λ d. email_at d n) (sym f.content))
+    c.find_put_email.ensures ∙ (email_found edits base n c.in-Some.edit.now last ∙ ap (λ d. email_at d n) (sym f.content))
 
 pub returns-in-None : goal.returns-in-None
 returns-in-None c =

@@ -7,5 +7,5 @@ use Rattle.filter_terms.proofs.emails.has_some_in_thread.Goals as goal
 
 pub returns : goal.returns
 returns c =
-    c.some_entry_has.ensures
-    ∙ some_entry c.args.content.now.content c.args.thread c.in_thread.result.now (subst (IsTable email_number) c.emails-emails.ensures.items c.emails-emails.ensures.table) c.in_thread.ensures (λ e. has_keyword c.args.keyword.now e)
+    c.has_keyword_in_some_entry.ensures
+    ∙ some_entry c.args.content.now.content c.args.thread c.find_in_thread.result.now (subst (IsTable email_number) c.emails-emails.ensures.items c.emails-emails.ensures.table) c.find_in_thread.ensures (λ e. has_keyword c.args.keyword.now e)

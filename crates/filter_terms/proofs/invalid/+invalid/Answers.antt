@@ -2,12 +2,12 @@ use Rattle.std.proofs.Common.{arith, sym}
 use Rattle.jm_json.proofs.Sizes.{item_size, member_size}
 use Rattle.filter_terms.proofs.invalid.+invalid.Goals as goal
 
-pub invalid_conditions-invalid_list-requires : goal.invalid_conditions-invalid_list-requires
-invalid_conditions-invalid_list-requires t c =
+pub find_invalid_in_conditions-find_invalid_in_list-requires : goal.find_invalid_in_conditions-find_invalid_in_list-requires
+find_invalid_in_conditions-find_invalid_in_list-requires t c =
     let h = member_size c.args.members.now c.loop-member.member-index c.member-item.result (omega arith) in
     (omega (arith, rw (sym c.member-item.is) at h, c.decreases), tt)
 
-pub invalid_items-invalid-requires : goal.invalid_items-invalid-requires
-invalid_items-invalid-requires t c =
+pub find_invalid_in_items-invalid-requires : goal.find_invalid_in_items-invalid-requires
+find_invalid_in_items-invalid-requires t c =
     let h = item_size c.args.items.now c.loop-item.item-index c.item-item.result (omega arith) in
     (omega (arith, rw (sym c.item-item.is) at h, c.decreases), tt)

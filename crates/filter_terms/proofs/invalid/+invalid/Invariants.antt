@@ -8,20 +8,20 @@ use Rattle.filter_terms.proofs.invalid.+invalid.Given as goal
 abbrev pub decreases-invalid : goal.decreases-invalid
 decreases-invalid l = 4 * size_of (tree_of l.tree.now)
 
-abbrev pub decreases-invalid_object : goal.decreases-invalid_object
-decreases-invalid_object l = 4 * fields_size (fields_of l.members.now) + 3
+abbrev pub decreases-find_invalid_in_object : goal.decreases-find_invalid_in_object
+decreases-find_invalid_in_object l = 4 * fields_size (fields_of l.members.now) + 3
 
-abbrev pub decreases-invalid_conditions : goal.decreases-invalid_conditions
-decreases-invalid_conditions l = 4 * fields_size (fields_of (map member_of l.members.now)) + 2
+abbrev pub decreases-find_invalid_in_conditions : goal.decreases-find_invalid_in_conditions
+decreases-find_invalid_in_conditions l = 4 * fields_size (fields_of (map member_of l.members.now)) + 2
 
-abbrev pub decreases-invalid_list : goal.decreases-invalid_list
-decreases-invalid_list l = 4 * size_of (tree_of l.value.now) + 1
+abbrev pub decreases-find_invalid_in_list : goal.decreases-find_invalid_in_list
+decreases-find_invalid_in_list l = 4 * size_of (tree_of l.value.now) + 1
 
-abbrev pub decreases-invalid_items : goal.decreases-invalid_items
-decreases-invalid_items l = 4 * trees_size (trees_of (map tree_of l.items.now)) + 2
+abbrev pub decreases-find_invalid_in_items : goal.decreases-find_invalid_in_items
+decreases-find_invalid_in_items l = 4 * trees_size (trees_of (map tree_of l.items.now)) + 2
 
-abbrev pub invariant-invalid_conditions-loop-member : goal.invariant-invalid_conditions-loop-member
-invariant-invalid_conditions-loop-member l = invalid_conditions l.kind (fields_of (map member_of (drop l.member-index l.members))) ≡ invalid_conditions l.kind (fields_of (map member_of l.members))
+abbrev pub invariant-find_invalid_in_conditions-loop-member : goal.invariant-find_invalid_in_conditions-loop-member
+invariant-find_invalid_in_conditions-loop-member l = invalid_conditions l.kind (fields_of (map member_of (drop l.member-index l.members))) ≡ invalid_conditions l.kind (fields_of (map member_of l.members))
 
-abbrev pub invariant-invalid_items-loop-item : goal.invariant-invalid_items-loop-item
-invariant-invalid_items-loop-item l = invalid_items l.kind (trees_of (map tree_of (drop l.item-index l.items))) ≡ invalid_items l.kind (trees_of (map tree_of l.items))
+abbrev pub invariant-find_invalid_in_items-loop-item : goal.invariant-find_invalid_in_items-loop-item
+invariant-find_invalid_in_items-loop-item l = invalid_items l.kind (trees_of (map tree_of (drop l.item-index l.items))) ≡ invalid_items l.kind (trees_of (map tree_of l.items))

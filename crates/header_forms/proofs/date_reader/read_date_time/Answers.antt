@@ -11,7 +11,7 @@ returns-in_err-second-clause-value c =
 
 pub returns-then-not-is_comma-clause-value : goal.returns-then-not-is_comma-clause-value
 returns-then-not-is_comma-clause-value c =
-    c.after_month.ensures.value
+    c.read_after_month.ensures.value
     ∙ sym (day_first _ _ c.args.text.now _ _ c.in_ok-first.ensures.value c.in_ok-second.ensures.value (sym c.is_comma.ensures ∙ c.if-not-is_comma.true))
 
 pub returns-in_err-_day-clause-value : goal.returns-in_err-_day-clause-value
@@ -21,5 +21,5 @@ returns-in_err-_day-clause-value c =
 
 pub returns-clause-value : goal.returns-clause-value
 returns-clause-value c =
-    c.after_comma.ensures.value
+    c.read_after_comma.ensures.value
     ∙ sym (weekday_first _ _ c.args.text.now _ _ _ c.in_ok-first.ensures.value c.in_ok-second.ensures.value (sym c.is_comma.ensures ∙ c.if-not-is_comma.false) (sym c.in_ok-_day.ensures))

@@ -9,13 +9,13 @@ returns-in-Ok-read_trailer-clause-ok g c =
 
 pub returns-in-Err-read_trailer-clause-err : goal.returns-in-Err-read_trailer-clause-err
 returns-in-Err-read_trailer-clause-err g c =
-    subst (λ (z : BodyFault). StepFault c.args.limit c.args.body.now.items c.args.bytes.now z (g.L.Link.left c.args.link.now) (g.L.Link.left c.read_trailer.new.link) (g.L.Link.read_faults c.args.link.now) (g.L.Link.read_faults c.read_trailer.new.link)) (sym c.after.ensures)
+    subst (λ (z : BodyFault). StepFault c.args.limit c.args.body.now.items c.args.bytes.now z (g.L.Link.left c.args.link.now) (g.L.Link.left c.read_trailer.new.link) (g.L.Link.read_faults c.args.link.now) (g.L.Link.read_faults c.read_trailer.new.link)) (sym c.add_bytes_before.ensures)
     (fault_in_trailer c.args.limit c.args.body.now.items c.args.bytes.now c.read_chunk_line.new.bytes c.in-Ok.head c.in-Err-read_trailer.fault (g.L.Link.left c.args.link.now) (g.L.Link.left c.read_chunk_line.new.link) (g.L.Link.left c.read_trailer.new.link) (g.L.Link.read_faults c.args.link.now) (g.L.Link.read_faults c.read_chunk_line.new.link) (g.L.Link.read_faults c.read_trailer.new.link) c.in-Ok.ensures.ok c.if-head-eq0.true c.in-Ok.ensures.later
     (c.in-Err-read_trailer.ensures.err c.args.body.now.items))
 
 pub returns-in-Err-read_sized-clause-err : goal.returns-in-Err-read_sized-clause-err
 returns-in-Err-read_sized-clause-err g c =
-    subst (λ (z : BodyFault). StepFault c.args.limit c.args.body.now.items c.args.bytes.now z (g.L.Link.left c.args.link.now) (g.L.Link.left c.read_sized.new.link) (g.L.Link.read_faults c.args.link.now) (g.L.Link.read_faults c.read_sized.new.link)) (sym c.after-in-Err-read_sized.ensures)
+    subst (λ (z : BodyFault). StepFault c.args.limit c.args.body.now.items c.args.bytes.now z (g.L.Link.left c.args.link.now) (g.L.Link.left c.read_sized.new.link) (g.L.Link.read_faults c.args.link.now) (g.L.Link.read_faults c.read_sized.new.link)) (sym c.add_bytes_before-in-Err-read_sized.ensures)
     (fault_in_bytes c.args.limit c.args.body.now.items c.args.bytes.now c.read_chunk_line.new.bytes c.in-Ok.head c.in-Err-read_sized.fault (g.L.Link.left c.args.link.now) (g.L.Link.left c.read_chunk_line.new.link) (g.L.Link.left c.read_sized.new.link) (g.L.Link.read_faults c.args.link.now) (g.L.Link.read_faults c.read_chunk_line.new.link) (g.L.Link.read_faults c.read_sized.new.link) c.in-Ok.ensures.ok c.if-head-eq0.false (search rules) c.in-Ok.ensures.later
     c.in-Err-read_sized.ensures.err)
 
@@ -26,6 +26,6 @@ returns-in-Ok-read_chunk_end-clause-ok g c =
 
 pub returns-in-Err-read_chunk_end-clause-err : goal.returns-in-Err-read_chunk_end-clause-err
 returns-in-Err-read_chunk_end-clause-err g c =
-    subst (λ (z : BodyFault). StepFault c.args.limit c.args.body.now.items c.args.bytes.now z (g.L.Link.left c.args.link.now) (g.L.Link.left c.read_chunk_end.new.link) (g.L.Link.read_faults c.args.link.now) (g.L.Link.read_faults c.read_chunk_end.new.link)) (sym c.after-in-Err-read_chunk_end.ensures)
+    subst (λ (z : BodyFault). StepFault c.args.limit c.args.body.now.items c.args.bytes.now z (g.L.Link.left c.args.link.now) (g.L.Link.left c.read_chunk_end.new.link) (g.L.Link.read_faults c.args.link.now) (g.L.Link.read_faults c.read_chunk_end.new.link)) (sym c.add_bytes_before-in-Err-read_chunk_end.ensures)
     (fault_in_end c.args.limit c.args.body.now.items c.read_sized.new.buffer.items c.args.bytes.now c.read_chunk_line.new.bytes c.read_sized.new.bytes c.in-Ok.head c.in-Err-read_chunk_end.fault (g.L.Link.left c.args.link.now) (g.L.Link.left c.read_chunk_line.new.link) (g.L.Link.left c.read_sized.new.link) (g.L.Link.left c.read_chunk_end.new.link) (g.L.Link.read_faults c.args.link.now) (g.L.Link.read_faults c.read_sized.new.link) (g.L.Link.read_faults c.read_chunk_end.new.link) c.in-Ok.ensures.ok c.if-head-eq0.false (search rules)
     c.in-Ok-read_sized.ensures.ok (omega (arith, c.in-Ok.ensures.later, c.in-Ok-read_sized.ensures.later)) c.in-Err-read_chunk_end.ensures.err)

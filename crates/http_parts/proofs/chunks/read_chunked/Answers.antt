@@ -27,5 +27,5 @@ chunk-preserved g c =
 pub returns-in-Err-clause-err : goal.returns-in-Err-clause-err
 returns-in-Err-clause-err g c =
     subst (λ (z : BodyFault). Took (g.L.Link.left c.args.link.now) (g.L.Link.left c.read_chunk.new.link) (λ t. Halts z (chunked_body c.args.limit (c.args.bytes.now ++ t) ≡ BodyInvalid) (chunked_body c.args.limit (c.args.bytes.now ++ t) ≡ BodyTooLong) (chunked_body c.args.limit (c.args.bytes.now ++ t) ≡ BodyUnfinished) (length (c.args.bytes.now ++ t)) (g.L.Link.left c.read_chunk.new.link) (g.L.Link.read_faults c.args.link.now) (g.L.Link.read_faults c.read_chunk.new.link)))
-    (sym c.after.ensures)
+    (sym c.add_bytes_before.ensures)
     (follows_fault c.args.limit c.args.bytes.now c.chunk.body.items c.chunk.bytes c.chunk.passed (g.L.Link.left c.args.link.now) (g.L.Link.left c.chunk.link) (g.L.Link.left c.read_chunk.new.link) (g.L.Link.read_faults c.args.link.now) (g.L.Link.read_faults c.chunk.link) (g.L.Link.read_faults c.read_chunk.new.link) c.in-Err.fault c.chunk.invariant.follows c.chunk.invariant.faults c.in-Err.ensures.err)

@@ -52,5 +52,5 @@ returns-clause-value c =
     let d = c.in-Some.ensures in
     let s = c.in-Some-find_second.ensures in
     let f = fitting c.in-Some.day c.in-Some-find_second.second (rw (d.1) (day_bounds _ _ _ d.0)) s.bound in
-    rw (seconds_are c.in-Some.day c.in-Some-find_second.second f, ← c.two_at.ensures.value, ← c.two_at-2.ensures.value, ← c.two_at-3.ensures.value, ← c.two_at-4.ensures.value, ← c.two_at-5.ensures.value, ← c.two_at-6.ensures.value, ← c.two_at-7.ensures.value)
+    rw (seconds_are c.in-Some.day c.in-Some-find_second.second f, ← c.read_two_digits.ensures.value, ← c.read_two_digits-2.ensures.value, ← c.read_two_digits-3.ensures.value, ← c.read_two_digits-4.ensures.value, ← c.read_two_digits-5.ensures.value, ← c.read_two_digits-6.ensures.value, ← c.read_two_digits-7.ensures.value)
     (record { day = d.0; time = s.value.0 }, rw (← d.1, ← s.value.1) refl)

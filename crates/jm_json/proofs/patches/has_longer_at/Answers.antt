@@ -24,7 +24,7 @@ returns-then-at-changes c =
     let h : at < length ms = omega (arith, c.if-at-changes.true) in
     let place = subst (λ p. IsKeyIndex p (path ++ 47 ∷ []) (map member_of ms)) c.in-New.is c.requires.place in
     let name = c.as_bytes.ensures.value ∙ ap (λ (x : Member). x.name) (sym c.index-changes-at.is) ∙ sym (ap (λ (p : List ℕ × Tree). p.0) (named ms at m c.index-changes-at.is h)) in
-    c.continues.ensures ∙ ap (goes_on path) name ∙ sym (prefix_new path (map member_of ms) at (member_of m) (omega (arith, h, length-map ms member_of)) c.requires.rise place)
+    c.is_path_prefix.ensures ∙ ap (goes_on path) name ∙ sym (prefix_new path (map member_of ms) at (member_of m) (omega (arith, h, length-map ms member_of)) c.requires.rise place)
 
 pub returns-else-at-changes : goal.returns-else-at-changes
 returns-else-at-changes c =

@@ -11,13 +11,13 @@ use Rattle.jm_json.specs.Integers.{first_invalid_member}
 use Rattle.jm_json.proofs.Values.{pair_of, items_as_list, same_members, rises, pairs_more}
 use Rattle.jm_json.proofs.reader.+tree.Goals as goal
 
-pub items_from-returns-clause-ok : goal.items_from-returns-clause-ok
-items_from-returns-clause-ok t c =
+pub build_items-returns-clause-ok : goal.build_items-returns-clause-ok
+build_items-returns-clause-ok t c =
     let e : map data_of c.loop-i.items ≡ map view.view c.args.values.now.items = grind (arith, common_steps) in
     items_as_list c.loop-i.items ∙ ap view.items_of e
 
-pub members_from-push_named-requires : goal.members_from-push_named-requires
-members_from-push_named-requires t c =
+pub build_members-push_named-requires : goal.build_members-push_named-requires
+build_members-push_named-requires t c =
     let l = c.loop-name in
     let done = l.invariant.0 in
     let e : Entry = (c.in-Some.name.now, c.in-Some.value.now) in
@@ -27,8 +27,8 @@ members_from-push_named-requires t c =
     rises _ (done ++ e ∷ []) left (pairs_more l.members done c.as_str.result.now (tree_of c.in-Ok.tree) e l.invariant.2 named c.in-Ok.ensures.ok)
     (subst (λ es. IsStrictlySortedBy string_cmp (keys_of es)) (all ∙ sym (append_assoc done (e ∷ []) left)) c.iter-name-items.ensures.ordered)
 
-pub members_from-loop-name-preserved : goal.members_from-loop-name-preserved
-members_from-loop-name-preserved t c =
+pub build_members-loop-name-preserved : goal.build_members-loop-name-preserved
+build_members-loop-name-preserved t c =
     let l = c.loop-name in
     let done = l.invariant.0 in
     let e : Entry = (c.in-Some.name.now, c.in-Some.value.now) in
@@ -41,8 +41,8 @@ members_from-loop-name-preserved t c =
       l.invariant.3 ∙ ap (λ es. first_invalid_member (view.members_view es)) c.in-Some.ensures.steps ∙ rw c.in-Ok.ensures.whole refl,
     )
 
-pub members_from-returns-clause-ok : goal.members_from-returns-clause-ok
-members_from-returns-clause-ok t c =
+pub build_members-returns-clause-ok : goal.build_members-returns-clause-ok
+build_members-returns-clause-ok t c =
     let l = c.loop-name in
     let all = l.invariant.1 ∙ ap (λ es. l.invariant.0 ++ es) c.in-None.ensures.steps.0 ∙ append-nil l.invariant.0 in
     same_members l.members l.invariant.0 l.invariant.2 ∙ sym (ap view.members_view all)

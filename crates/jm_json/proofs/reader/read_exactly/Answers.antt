@@ -10,9 +10,9 @@ returns-in-Err c =
     let other : ¬ (IsMemory c.in-Err.e) = search rules in
     refused c.args.bytes.now (c.in-Err.ensures.err other)
 
-pub returns-in-Ok-tree_from : goal.returns-in-Ok-tree_from
-returns-in-Ok-tree_from c =
-    taken_whole c.args.bytes.now (view c.in-Ok.value) (tree_of c.in-Ok-tree_from.tree) c.in-Ok.ensures.ok.0 c.in-Ok.ensures.ok.1 c.in-Ok-tree_from.ensures.whole c.in-Ok-tree_from.ensures.ok
+pub returns-in-Ok-build_tree : goal.returns-in-Ok-build_tree
+returns-in-Ok-build_tree c =
+    taken_whole c.args.bytes.now (view c.in-Ok.value) (tree_of c.in-Ok-build_tree.tree) c.in-Ok.ensures.ok.0 c.in-Ok.ensures.ok.1 c.in-Ok-build_tree.ensures.whole c.in-Ok-build_tree.ensures.ok
 
 pub returns-in-Err-NotWhole : goal.returns-in-Err-NotWhole
 returns-in-Err-NotWhole c =

@@ -13,8 +13,8 @@ returns-in-Ok-clause-opened g c =
     c.in-Ok.ensures.all ∙ begins_empty c.new-2.result.kept c.in-Ok.book.keeper.kept c.in-Ok.book.history
     (ap (λ (m : MemoryKeeper). m.kept) c.new-2.ensures.opened ∙ ap kept_of c.new.ensures) c.in-Ok.ensures.opened
 
-pub no_memory-requires : goal.no_memory-requires
-no_memory-requires g c =
+pub convert_start_fault-requires : goal.convert_start_fault-requires
+convert_start_fault-requires g c =
     let kept_of : List (List ℕ) → Kept = λ rows. record { base = None; rows = rows } in
     let laws = g.met.R.Rules g.world.𝓛 g.world.𝓜 g.world.𝓡 ((λ s x. x), (λ x. x), (λ x. x), λ x. x) in
     record {

@@ -6,4 +6,4 @@ use Rattle.jmap_commands.proofs.message_line.message_line.Goals as goal
 
 pub returns : goal.returns
 unfolding read_out
-returns c = subst (λ (t : Tree). IfOk c.json_line.result (λ b. b ≡ line_text t)) c.in_ok-tree.ensures c.json_line.ensures
+returns c = subst (λ (t : Tree). IfOk c.build_json_line.result (λ b. b ≡ line_text t)) c.in_ok-tree.ensures c.build_json_line.ensures

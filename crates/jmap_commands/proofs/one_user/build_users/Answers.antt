@@ -7,7 +7,7 @@ returns-in-Ok c =
     let is : c.as_bytes.result.now ≡ the_bytes = search rules in
     configured c.as_bytes.result.now c.in-Ok.users is c.in-Ok.ensures.ok
 
-pub no_memory-requires : goal.no_memory-requires
-no_memory-requires c =
+pub convert_config_fault-requires : goal.convert_config_fault-requires
+convert_config_fault-requires c =
     let is : c.as_bytes.result.now ≡ the_bytes = search rules in
     record { only = only_memory c.as_bytes.result.now c.in-Err.fault is c.in-Err.ensures.fault }

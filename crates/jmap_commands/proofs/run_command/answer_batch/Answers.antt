@@ -13,7 +13,7 @@ returns-in-Ok-clause-cause g c =
     let v = (seen g.S.Source.left g.S.Source.faults c.args.source.now c.answer_alone.new.source g.O.Sink.held g.O.Sink.faults c.args.out.now c.answer_alone.new.out) in
     let b : IsBatch c.answer_alone.result v =
     is_batch (λ (m : MemoryKeeper). 0) c.in-Ok.ensures.first.0 c.in-Ok.hall c.in-Ok.users c.in-Ok.passes c.answer_alone.result v (λ (m : MemoryKeeper). omega arith) c.in-Ok.ensures.users c.in-Ok.ensures.first.1 c.answer_alone.ensures in
-    batch_cause c.answer_alone.result c.ending_of.result v b.history c.ending_of.ensures b.ok b.cause
+    batch_cause c.answer_alone.result c.find_batch_ending.result v b.history c.find_batch_ending.ensures b.ok b.cause
 
 pub returns-in-Ok-clause-begun : goal.returns-in-Ok-clause-begun
 returns-in-Ok-clause-begun g c =

@@ -5,4 +5,4 @@ use Rattle.json_text.proofs.escapes.push_code.Goals as goal
 pub returns : goal.returns
 returns c =
     c.in_ok-extend_from_slice.ensures.items
-    ∙ ap (λ t. c.args.out.now.items ++ t) (code_escape c.args.byte c.digit_of-high.result c.digit_of-low.result c.requires.letter c.requires.control c.digit_of-high.ensures c.digit_of-low.ensures)
+    ∙ ap (λ t. c.args.out.now.items ++ t) (code_escape c.args.byte c.find_hex_digit-high.result c.find_hex_digit-low.result c.requires.letter c.requires.control c.find_hex_digit-high.ensures c.find_hex_digit-low.ensures)

@@ -7,9 +7,9 @@ use Rattle.mail_calls.proofs.plans.find_changes.Goals as goal
 pub returns-clause-reply : goal.returns-clause-reply
 returns-clause-reply c =
     let h = c.args.account.now.history in
-    ok_at c.answer_changes.result c.log.result.now (λ j g. changes_outcome g c.args.kind (tree_of c.args.args.now) ≡ replied (tree_of j)) h (kept h c.log.result.now c.log.ensures c.edits_fit.ensures) c.answer_changes.ensures.reply
+    ok_at c.answer_changes.result c.log.result.now (λ j g. changes_outcome g c.args.kind (tree_of c.args.args.now) ≡ replied (tree_of j)) h (kept h c.log.result.now c.log.ensures c.has_fitting_edits.ensures) c.answer_changes.ensures.reply
 
 pub returns-clause-fault : goal.returns-clause-fault
 returns-clause-fault c =
     let h = c.args.account.now.history in
-    err_at c.answer_changes.result c.log.result.now (λ fault g. ExplainsCall fault (changes_outcome g c.args.kind (tree_of c.args.args.now))) h (kept h c.log.result.now c.log.ensures c.edits_fit.ensures) c.answer_changes.ensures.fault
+    err_at c.answer_changes.result c.log.result.now (λ fault g. ExplainsCall fault (changes_outcome g c.args.kind (tree_of c.args.args.now))) h (kept h c.log.result.now c.log.ensures c.has_fitting_edits.ensures) c.answer_changes.ensures.fault

@@ -9,4 +9,4 @@ pub returns : goal.returns
 returns c =
     c.in_ok-add_thread_edits.ensures
     ∙ ap (λ ms. c.args.edits.now.items ++ flat_map (listed_edits c.args.content.now ms) c.args.threads.now)
-    (c.new-members.ensures ∙ ap (sorted_once member_cmp) c.in_ok-thread_members.ensures)
+    (c.new-members.ensures ∙ ap (sorted_once member_cmp) c.in_ok-collect_thread_members.ensures)

@@ -11,7 +11,7 @@ loop-i-init c = λ (g : Ground) state end. sym state ∙ sym (state_after-none c
 pub loop-i-preserved : goal.loop-i-preserved
 loop-i-preserved c =
     λ (g : Ground) state end.
-    c.state_after_edit-after.ensures
+    c.compute_state_after_edit-after.ensures
     ∙ (ap (λ n. cond (is_kind_of c.args.kind (id_of c.index-edits-i.result)) (c.args.last + c.loop-i.i + 1) n) (c.loop-i.invariant g state end)
     ∙ sym (state_after-more c.args.kind g c.args.edits.now c.loop-i.i c.args.last c.index-edits-i.result end c.loop-i-test.true c.index-edits-i.is))
 

@@ -9,13 +9,13 @@ pub loop-thread-preserved : goal.loop-thread-preserved
 loop-thread-preserved c =
     let threads = c.args.threads.now in
     let i = c.loop-thread.thread-index in
-    let entries = c.in_thread.result.now in
+    let entries = c.find_in_thread.result.now in
     let old = c.loop-thread.numbers.items in
     let new = c.add_entries.new.numbers.items in
     record {
       kept = λ n h. kept_more n old (map threaded_owner entries) new c.in_ok-add_entries.ensures (c.loop-thread.invariant.kept n h);
       added = λ e there of.
-          one_thread_more c.args.content.now.content _ (drop (i + 1) threads) entries old new c.in_thread.ensures c.in_ok-add_entries.ensures e there
+          one_thread_more c.args.content.now.content _ (drop (i + 1) threads) entries old new c.find_in_thread.ensures c.in_ok-add_entries.ensures e there
           (subst (λ zs. (is_one_of zs e.thread ≡ true) ⊎ (is_one_of old e.number ≡ true)) (drop_more threads i _ c.loop-thread-test.true)
           (c.loop-thread.invariant.added e there of));
     }

@@ -10,5 +10,5 @@ returns-clause-follows c =
     let base = c.args.setting.now.content.now.content in
     on_ok c.create_email.result _ _
     (λ k (s : Progress) (f : Follows base c.args.planner.now s).
-    subst (λ (x : NamedBlob). Follows base c.create_email.new.planner (after_made s c.args.creation.now (email_of s c.args.setting.now.moment (sent_of c.args.sent) x) None)) c.blob_or_none-message.ensures (k s f))
+    subst (λ (x : NamedBlob). Follows base c.create_email.new.planner (after_made s c.args.creation.now (email_of s c.args.setting.now.moment (sent_of c.args.sent) x) None)) c.take_blob_or_none-message.ensures (k s f))
     c.create_email.ensures.follows

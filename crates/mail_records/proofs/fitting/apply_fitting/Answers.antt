@@ -12,4 +12,4 @@ loop-edit-preserved c =
     let fit : Fits c.loop-edit.made.content e = search rules in
     let rest : drop i edits ≡ e ∷ drop (i + 1) edits = drop_more edits i e c.loop-edit-test.true ∙ ap (λ x. x ∷ drop (i + 1) edits) (sym c.edit-item.is) in
     come_further c.args.content.content c.loop-edit.made.content c.apply.new.content.content edits (drop i edits) (drop (i + 1) edits) e c.loop-edit.keeps_threads
-    c.still_keeps-keeps_threads.result rest (c.in_ok-apply.ensures).ok fit c.still_keeps-keeps_threads.ensures c.loop-edit.invariant
+    c.has_kept_threads-keeps_threads.result rest (c.in_ok-apply.ensures).ok fit c.has_kept_threads-keeps_threads.ensures c.loop-edit.invariant

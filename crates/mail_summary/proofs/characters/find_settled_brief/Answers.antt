@@ -8,6 +8,6 @@ use Rattle.mail_summary.proofs.characters.find_settled_brief.Goals as goal
 pub returns : goal.returns
 returns c = λ later.
     c.in_ok-shorten.ensures
-    ∙ ap (λ cs. encode_utf8_all (take MAX_SHOWN_CHARACTERS cs)) (c.after_space.ensures ∙ ap without_space c.as_slice.ensures.value)
+    ∙ ap (λ cs. encode_utf8_all (take MAX_SHOWN_CHARACTERS cs)) (c.skip_space.ensures ∙ ap without_space c.as_slice.ensures.value)
     ∙ ap encode_utf8_all (front_without_space MAX_SHOWN_CHARACTERS _ _
     (c.in_ok-out.ensures.settled (omega (arith, c.if-len-le-MAX_SHOWN_CHARACTERS.false)) later))

@@ -6,12 +6,12 @@ use Rattle.mime_tree.specs.PartLimit.{walked}
 use Rattle.mail_summary.specs.Leaves.{shows_attachment}
 use Rattle.mail_summary.proofs.leaves.+attached.Given as goal
 
-abbrev pub decreases-any_shows : goal.decreases-any_shows
-decreases-any_shows l = 2 * part_count (part_before l.part.now none)
+abbrev pub decreases-has_shown_attachment : goal.decreases-has_shown_attachment
+decreases-has_shown_attachment l = 2 * part_count (part_before l.part.now none)
 
-abbrev pub decreases-any_shows_within : goal.decreases-any_shows_within
-decreases-any_shows_within l = 2 * part_count (joined l.parts.now none) + 1
+abbrev pub decreases-has_shown_attachment_within : goal.decreases-has_shown_attachment_within
+decreases-has_shown_attachment_within l = 2 * part_count (joined l.parts.now none) + 1
 
-abbrev pub invariant-any_shows_within-loop-part : goal.invariant-any_shows_within-loop-part
-invariant-any_shows_within-loop-part l =
+abbrev pub invariant-has_shown_attachment_within-loop-part : goal.invariant-has_shown_attachment_within-loop-part
+invariant-has_shown_attachment_within-loop-part l =
     list_any (shows_attachment l.attachments) (walked (joined (drop l.part-index l.parts) none)) ≡ list_any (shows_attachment l.attachments) (walked (joined l.parts none))

@@ -6,6 +6,6 @@ use Rattle.mail_summary.proofs.preview.front.Goals as goal
 
 pub returns-in-Base64 : goal.returns-in-Base64
 returns-in-Base64 c =
-    let front = c.first_bytes-in-Base64.result.now in
+    let front = c.take_first_bytes-in-Base64.result.now in
     let body = c.args.body.now in
-    subst (λ k. Begins (decoded k front) (decoded k body)) (sym c.in-Base64.is) (base64_begins front body c.first_bytes-in-Base64.ensures)
+    subst (λ k. Begins (decoded k front) (decoded k body)) (sym c.in-Base64.is) (base64_begins front body c.take_first_bytes-in-Base64.ensures)

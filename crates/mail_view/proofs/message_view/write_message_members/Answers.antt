@@ -26,8 +26,8 @@ write_members-requires-clause-read c =
       sizes = subst (λ (xs : List BodySize). All (IsSizeOf c.args.bytes.now) xs) (sym c.as_slice-3.ensures.value) c.in_ok-sizes.ensures;
     }
 
-pub sizes_for-requires : goal.sizes_for-requires
-sizes_for-requires c =
+pub collect_shown_sizes-requires : goal.collect_shown_sizes-requires
+collect_shown_sizes-requires c =
     let size = length c.args.bytes.now in
     let walk = ap nodes_of c.as_slice.ensures.value ∙ c.in_ok-parts.ensures in
     subst (λ (xs : List Node). ArePlaced size xs) (sym walk) (walked_placed size (part_before c.in_ok-root.root none) c.in_ok-root.ensures.places)

@@ -26,10 +26,10 @@ returns c =
     let name = c.args.name.now in
     let test = is_sibling c.args.parent name in
     let rows = s.content.mailboxes in
-    let siblings = c.children_named-siblings.result.now in
+    let siblings = c.find_children_named-siblings.result.now in
     c.has_other_sibling.ensures
     ∙ (ap (λ first. list_any (λ (x : Named). not (is_new first n x.mailbox)) siblings) c.next-first.ensures
-    ∙ (siblings_found (λ k. not (is_new base.next_mailbox n k)) base c.args.parent name siblings (rw c.as_bytes.ensures.value at c.children_named-siblings.ensures) f.base
+    ∙ (siblings_found (λ k. not (is_new base.next_mailbox n k)) base c.args.parent name siblings (rw c.as_bytes.ensures.value at c.find_children_named-siblings.ensures) f.base
     ∙ (sym (f.others test)
     ∙ sym (any_parts base.next_mailbox n test rows
     ∙ ap (λ b. b || list_any (is_other base.next_mailbox n test) rows) (sym (f.names c.args.parent name) ∙ (sym c.has_text.ensures ∙ c.if-has_text.false))))))

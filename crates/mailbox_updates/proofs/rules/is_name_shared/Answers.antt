@@ -31,7 +31,7 @@ returns c =
     let all = any_present d.mailboxes p.changed.rows base.mailboxes p.destroyed.items shows.found test shows.table shows.changed shows.base in
     let none : list_any test p.changed.rows ≡ false = sym (ap (list_any test) c.as_slice.ensures.rows) ∙ (sym c.has_changed_sibling.ensures ∙ c.if-has_changed_sibling.false) in
     c.has_untouched_sibling.ensures
-    ∙ (siblings_found (λ k. is_untouched p.changed.rows p.destroyed.items k && not (k == m.number)) base m.parent m.name c.children_named-siblings.result.now (rw c.as_bytes.ensures.value at c.children_named-siblings.ensures) shows.base
+    ∙ (siblings_found (λ k. is_untouched p.changed.rows p.destroyed.items k && not (k == m.number)) base m.parent m.name c.find_children_named-siblings.result.now (rw c.as_bytes.ensures.value at c.find_children_named-siblings.ensures) shows.base
     ∙ (any_same (λ (n : Mailbox). (is_untouched p.changed.rows p.destroyed.items n.number && not (n.number == m.number)) && is_sibling m.parent m.name n) old base.mailboxes
     (λ (n : Mailbox). and_assoc (is_untouched p.changed.rows p.destroyed.items n.number) (not (n.number == m.number)) (is_sibling m.parent m.name n))
     ∙ sym (all ∙ ap (λ b. b || list_any old base.mailboxes) none)))

@@ -8,8 +8,8 @@ use Rattle.mailbox_updates.specs.Updates.{all_keep_rules, update_as}
 use Rattle.mailbox_updates.specs.Views.{Tracks}
 use Rattle.mailbox_updates.proofs.updates.perform_updates.Goals as goal
 
-pub returns-then-all_keep_rules : goal.returns-then-all_keep_rules
-returns-then-all_keep_rules c =
+pub returns-then-are_rules_kept : goal.returns-then-are_rules_kept
+returns-then-are_rules_kept c =
     λ made destroys are gone puts.
     let s = before_steps (after_edits c.args.content.now.content c.args.creates.now) in
     let xs = map update_in (map member_of c.args.updates.now) in
@@ -17,7 +17,7 @@ returns-then-all_keep_rules c =
     let one = after_updates (update_as true made destroys) made s xs in
     let first : Updating c.in_ok-together.together s = record { tracks = c.in_ok-together.ensures.tracks puts; count = c.in_ok-together.ensures.count puts; fresh = c.in_ok-together.ensures.destroyed } in
     let up = c.in_ok-perform_each.ensures made destroys s are gone first in
-    let keeps : all_keep_rules all ≡ true = sym (c.all_keep_rules.ensures all up.tracks up.count) ∙ c.if-all_keep_rules.true in
+    let keeps : all_keep_rules all ≡ true = sym (c.are_rules_kept.ensures all up.tracks up.count) ∙ c.if-are_rules_kept.true in
     subst (λ (t : Progress). Tracks c.perform_each.new.current t) (sym (ap (λ (b : Bool). cond b all one) keeps)) up.tracks
 
 pub returns : goal.returns
@@ -29,7 +29,7 @@ returns c =
     let one = after_updates (update_as true made destroys) made s xs in
     let first : Updating c.in_ok-together.together s = record { tracks = c.in_ok-together.ensures.tracks puts; count = c.in_ok-together.ensures.count puts; fresh = c.in_ok-together.ensures.destroyed } in
     let up = c.in_ok-perform_each.ensures made destroys s are gone first in
-    let keeps : all_keep_rules all ≡ false = sym (c.all_keep_rules.ensures all up.tracks up.count) ∙ c.if-all_keep_rules.false in
+    let keeps : all_keep_rules all ≡ false = sym (c.are_rules_kept.ensures all up.tracks up.count) ∙ c.if-are_rules_kept.false in
     let again : Updating c.in_ok-current.current s = record { tracks = c.in_ok-current.ensures.tracks puts; count = c.in_ok-current.ensures.count puts; fresh = c.in_ok-current.ensures.destroyed } in
     let last = c.in_ok-perform_each-2.ensures made destroys s are gone again in
     subst (λ (t : Progress). Tracks c.perform_each-2.new.current t) (sym (ap (λ (b : Bool). cond b all one) keeps)) last.tracks

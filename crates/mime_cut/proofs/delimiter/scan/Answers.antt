@@ -20,12 +20,12 @@ loop-line-preserved c =
     let step = c.split_plain.ensures.plain b line (lines more) c.loop-line.before c.loop-line.size c.split_line.ensures.first other in
     let after = c.split_plain.ensures.lines_after b line (lines more) c.split_line.ensures.first other in
     let front = front_more c.args.bytes.now left plain later c.loop-line.size c.loop-line.invariant.all c.loop-line.invariant.rest c.split_plain.ensures.whole in
-    let count : c.text_len.result ≡ length (text plain) = sym (ap length c.text_len.ensures.value ∙ length-take-le c.text_len.result plain c.text_len.ensures.within) in
+    let count : c.count_text_bytes.result ≡ length (text plain) = sym (ap length c.count_text_bytes.ensures.value ∙ length-take-le c.count_text_bytes.result plain c.count_text_bytes.ensures.within) in
     record {
       found = ap (λ n. up_to_delimiter b (c.loop-line.size + n) (c.loop-line.size + length plain) (lines later)) count ∙ sym step ∙ c.loop-line.invariant.found;
       lines_after = sym after ∙ c.loop-line.invariant.lines_after;
       rest = front.1;
-      ordered = omega (arith, c.text_len.ensures.within);
+      ordered = omega (arith, c.count_text_bytes.ensures.within);
       all = omega (arith, length-append plain later, ap length c.split_plain.ensures.whole);
     }
 

@@ -14,8 +14,8 @@ use Rattle.mime_tree.proofs.HeadFacts.{entered, not_numbered, same_next, body_sl
 use Rattle.mime_tree.proofs.SliceFacts.{length-slice, take-slice, drop-slice}
 use Rattle.mime_tree.proofs.walk.+walk.Goals as goal
 
-pub read_part_tree-parts_within-requires : goal.read_part_tree-parts_within-requires
-read_part_tree-parts_within-requires t c =
+pub read_part_tree-read_parts_within-requires : goal.read_part_tree-read_parts_within-requires
+read_part_tree-read_parts_within-requires t c =
     let message = c.args.message.now in
     let p = piece c.args.start (slice_range message c.args.start c.args.end) in
     let node = node_of c.in_ok-part.part in
@@ -30,8 +30,8 @@ read_part_tree-returns-clause-taken t c =
     let node = node_of c.in_ok-part.part in
     let n = c.args.budget.now.left in
     let m = c.args.budget.now.number in
-    let k = c.parts_within.new.budget.left in
-    let j = c.parts_within.new.budget.number in
+    let k = c.read_parts_within.new.budget.left in
+    let j = c.read_parts_within.new.budget.number in
     let levels = entered c.args.levels c.args.digest p node c.in_ok-part.ensures.node c.if-is_none.ensures in
     let body = body_slice message c.args.start c.args.end c.args.levels c.args.digest node c.requires.ordered c.requires.inside c.in_ok-part.ensures.node in
     let inner : inner_of c.args.levels c.args.digest p ≡ within (part_tree (c.args.levels - 1) (digest_of node)) node.boundary node.body (slice_range message node.body node.end) =
@@ -42,8 +42,8 @@ read_part_tree-returns-clause-taken t c =
     ∙ c.in_ok-parts.ensures.taken)
     ∙ ap (λ x. took (part x c.in_ok-parts.parts none) k j) (not_numbered c.args.levels c.args.digest p node m c.in_ok-part.ensures.node c.if-is_none.ensures)
 
-pub parts_within-loop-found-init : goal.parts_within-loop-found-init
-parts_within-loop-found-init t c =
+pub read_parts_within-loop-found-init : goal.read_parts_within-loop-found-init
+read_parts_within-loop-found-init t c =
     let message = c.args.message.now in
     let part = c.args.part.now in
     let b = c.as_bytes-boundary.result.now in
@@ -62,8 +62,8 @@ parts_within-loop-found-init t c =
       room = c.requires.room;
     }
 
-pub parts_within-returns-then-budget-eq0-clause-taken : goal.parts_within-returns-then-budget-eq0-clause-taken
-parts_within-returns-then-budget-eq0-clause-taken t c =
+pub read_parts_within-returns-then-budget-eq0-clause-taken : goal.read_parts_within-returns-then-budget-eq0-clause-taken
+read_parts_within-returns-then-budget-eq0-clause-taken t c =
     let message = c.args.message.now in
     let part = c.args.part.now in
     let b = c.as_bytes-boundary.result.now in
@@ -79,8 +79,8 @@ parts_within-returns-then-budget-eq0-clause-taken t c =
     (ap (λ l. taken rest l number) c.if-budget-eq0.true ∙ taken_zero rest number ∙ ap (λ l. took none l number) (sym c.if-budget-eq0.true))
     c.from_vec-then-budget-eq0.ensures
 
-pub parts_within-loop-found-preserved : goal.parts_within-loop-found-preserved
-parts_within-loop-found-preserved t c =
+pub read_parts_within-loop-found-preserved : goal.read_parts_within-loop-found-preserved
+read_parts_within-loop-found-preserved t c =
     let message = c.args.message.now in
     let part = c.args.part.now in
     let b = c.as_bytes-boundary.result.now in

@@ -15,11 +15,11 @@ use Rattle.mime_tree.proofs.walk.+walk.Given as goal
 abbrev pub decreases-read_part_tree : goal.decreases-read_part_tree
 decreases-read_part_tree l = 2 * l.levels + 1
 
-abbrev pub decreases-parts_within : goal.decreases-parts_within
-decreases-parts_within l = 2 * l.levels
+abbrev pub decreases-read_parts_within : goal.decreases-read_parts_within
+decreases-read_parts_within l = 2 * l.levels
 
-abbrev pub invariant-parts_within-loop-found : goal.invariant-parts_within-loop-found
-invariant-parts_within-loop-found l = record {
+abbrev pub invariant-read_parts_within-loop-found : goal.invariant-read_parts_within-loop-found
+invariant-read_parts_within-loop-found l = record {
   taken : onto l.items.items (taken (trees_of (part_tree (l.levels - 1) l.digest) (after_line l.boundary l.found.kind l.offset (lines l.found.rest.now))) l.budget.left l.budget.number)
       ≡ taken (trees_of (part_tree (l.levels - 1) l.digest) (cut l.boundary l.part.body (lines (slice_range l.message l.part.body l.part.end)))) l.fn.budget.left l.fn.budget.number;
   rest : l.found.rest.now ≡ slice_range l.message l.offset l.part.end;
@@ -28,5 +28,5 @@ invariant-parts_within-loop-found l = record {
   room : l.budget.number + l.budget.left ≤ MAX_PARTS + 1;
 }
 
-abbrev pub decreases-parts_within-loop-found : goal.decreases-parts_within-loop-found
-decreases-parts_within-loop-found l = length l.found.rest.now + by_line_kind l.found.kind 0 1 0
+abbrev pub decreases-read_parts_within-loop-found : goal.decreases-read_parts_within-loop-found
+decreases-read_parts_within-loop-found l = length l.found.rest.now + by_line_kind l.found.kind 0 1 0

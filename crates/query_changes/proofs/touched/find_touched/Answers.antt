@@ -13,8 +13,8 @@ returns-then-looks_at_threads-clause-touched c =
     subst (λ (ns : List ℕ). AreNamed c.args.query.now.kind ids ns) (sym c.into_vec-numbers.ensures)
     (subst (λ (k : Kind). AreNamed k ids c.in_ok-named.named) c.kind.ensures c.in_ok-named.ensures) in
     λ h are.
-    wide_touched h l c.args.content.now.content c.args.query.now c.args.from c.end-end.result c.notes_between.result.now c.into_vec-numbers.result.items c.add_threads.new.numbers.items
-    are c.end-end.ensures (sym c.looks_at_threads.ensures ∙ c.if-looks_at_threads.true) c.notes_between.ensures named c.in_ok-add_threads.ensures.rise c.in_ok-add_threads.ensures.same
+    wide_touched h l c.args.content.now.content c.args.query.now c.args.from c.end-end.result c.find_notes_between.result.now c.into_vec-numbers.result.items c.add_threads.new.numbers.items
+    are c.end-end.ensures (sym c.looks_at_threads.ensures ∙ c.if-looks_at_threads.true) c.find_notes_between.ensures named c.in_ok-add_threads.ensures.rise c.in_ok-add_threads.ensures.same
 
 pub returns-clause-touched : goal.returns-clause-touched
 returns-clause-touched c =

@@ -12,8 +12,8 @@ account-preserved c =
           accounts_step c.args.ids.now c.args.user _ (holds c.account.seen) (holds c.add.new.self) c.account.index c.account.least c.in_ok-least.least
           (map tree_of c.account.rest.now) (map tree_of c.in-Some.more.now) (tree_of c.in-Some.account.now) c.in_ok-repeated.repeated
           c.account.invariant.walk rest
-          (c.in_ok-repeated.ensures.held ∙ ap (holds c.account.seen) c.text_or_empty.ensures)
+          (c.in_ok-repeated.ensures.held ∙ ap (holds c.account.seen) c.find_text_or_empty.ensures)
           c.in_ok-least.ensures
-          (λ q. c.in_ok-repeated.ensures.added q ∙ ap (λ s. holds c.account.seen q || bytes_eq s q) c.text_or_empty.ensures);
+          (λ q. c.in_ok-repeated.ensures.added q ∙ ap (λ s. holds c.account.seen q || bytes_eq s q) c.find_text_or_empty.ensures);
       within = omega (arith, c.account.invariant.within, c.in-Some.ensures.cases.1);
     }

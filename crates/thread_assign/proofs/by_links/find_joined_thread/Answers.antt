@@ -11,7 +11,7 @@ loop-link-init c = no_link c.args.summary.now.subject c.args.content.now.content
 pub loop-link-preserved : goal.loop-link-preserved
 loop-link-preserved c =
     let emails = c.args.content.now.content.emails in
-    c.lesser_of-best.ensures
-    ∙ (ap₂ lesser c.loop-link.invariant c.first_with.ensures
+    c.choose_lesser-best.ensures
+    ∙ (ap₂ lesser c.loop-link.invariant c.find_first_with_link.ensures
     ∙ one_link_more c.as_slice-links.result.now c.args.summary.now.subject emails c.loop-link.link-index c.link-item.result
     (subst (IsTable email_number) c.emails-emails.ensures.items c.emails-emails.ensures.table) c.loop-link-test.true c.link-item.is)

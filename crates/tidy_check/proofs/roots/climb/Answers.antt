@@ -11,11 +11,11 @@ loop-next-init c =
       subst (λ xs. IsPath c.args.content.now.content start xs start) (sym c.requires.empty) refl,
     )
 
-pub returns-in-Some-known_depth : goal.returns-in-Some-known_depth
-returns-in-Some-known_depth c = (
+pub returns-in-Some-find_known_depth : goal.returns-in-Some-find_known_depth
+returns-in-Some-find_known_depth c = (
   Some c.in-Some.number,
   subst (IsPath c.args.content.now.content c.args.start c.loop-next.path.items) c.in-Some.is c.loop-next.invariant.2,
-  c.requires.depths c.in-Some.number c.in-Some-known_depth.depth (sym c.known_depth.ensures ∙ c.in-Some-known_depth.is),
+  c.requires.depths c.in-Some.number c.in-Some-find_known_depth.depth (sym c.find_known_depth.ensures ∙ c.in-Some-find_known_depth.is),
 )
 
 pub returns-then-len-limit : goal.returns-then-len-limit
@@ -39,8 +39,8 @@ loop-next-preserved c =
     let more = ap length items ∙ length-append c.loop-next.path.items (c.in-Some.number ∷ []) in (
       here.0,
       omega (arith, less, len, more),
-      subst (λ xs. IsPath content start xs c.parent_of-next.result) (sym items)
-          (subst (IsPath content start (c.loop-next.path.items ++ c.in-Some.number ∷ [])) (sym c.parent_of-next.ensures)
+      subst (λ xs. IsPath content start xs c.find_parent-next.result) (sym items)
+          (subst (IsPath content start (c.loop-next.path.items ++ c.in-Some.number ∷ [])) (sym c.find_parent-next.ensures)
           (path_pushed content start c.loop-next.path.items c.in-Some.number (subst (IsPath content start c.loop-next.path.items) c.in-Some.is here.2))),
     )
 

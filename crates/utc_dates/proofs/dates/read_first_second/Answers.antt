@@ -7,8 +7,8 @@ use Rattle.utc_dates.proofs.dates.read_first_second.Goals as goal
 
 pub returns-in-Ok : goal.returns-in-Ok
 returns-in-Ok c =
-    let fits : SFits w64 c.rounded_up.result = search rules in
-    ap Some (to_z-of_z w64 c.rounded_up.result fits ∙ (c.rounded_up.ensures ∙ ap (λ b. rounded_up b c.in-Ok.date.seconds) c.has_fraction.ensures))
+    let fits : SFits w64 c.round_up_seconds.result = search rules in
+    ap Some (to_z-of_z w64 c.round_up_seconds.result fits ∙ (c.round_up_seconds.ensures ∙ ap (λ b. rounded_up b c.in-Ok.date.seconds) c.has_fraction.ensures))
     ∙ ap (option_map (rounded_up (has_fraction c.args.text.now))) (dated c.args.text.now c.in-Ok.date c.in-Ok.ensures.ok)
 
 pub returns-in-Err : goal.returns-in-Err

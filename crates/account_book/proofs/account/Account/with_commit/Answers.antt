@@ -28,8 +28,8 @@ note_more-requires c =
     let g = grown_as inside.content.content c.end-end.result commit.edits c.as_slice.result.now inside.blobs.blobs commit.blobs c.in-Ok.grown (Fitting c.in-Fitting.applied c.in-Fitting.blobs) c.in-Ok.ensures c.in-Fitting.is c.as_slice.ensures in
     subst (λ e. e + length commit.edits < 2 ^ 64) c.end-end.ensures g.5
 
-pub held-account-requires : goal.held-account-requires
-held-account-requires c =
+pub build_account-account-requires : goal.build_account-account-requires
+build_account-account-requires c =
     let inside = c.self.inside in
     let commit = c.args.commit in
     let g = grown_as inside.content.content c.end-end.result commit.edits c.as_slice.result.now inside.blobs.blobs commit.blobs c.in-Ok.grown (Fitting c.in-Fitting.applied c.in-Fitting.blobs) c.in-Ok.ensures c.in-Fitting.is c.as_slice.ensures in
@@ -43,6 +43,6 @@ returns-in_ok-noted-in-Fitting c =
     let commit = c.args.commit in
     let g = grown_as inside.content.content c.end-end.result commit.edits c.as_slice.result.now inside.blobs.blobs commit.blobs c.in-Ok.grown (Fitting c.in-Fitting.applied c.in-Fitting.blobs) c.in-Ok.ensures c.in-Fitting.is c.as_slice.ensures in
     let entries : c.in_ok-noted-in-Fitting.noted.entries.items ≡ inside.entries.items ++ kept_entry (Committed commit) ∷ [] = search rules in
-    taken_fitting inside.content.content c.args.self.history (history_of inside.log inside.base.content inside.base_blobs inside.entries.items inside.blobs.blobs) c.held-account.result.history commit c.self.invariant.content_is (ap (λ v. v.history) c.self.view_is) g.0
-    (c.held-account.ensures ∙ history_of-commit inside.log c.in_ok-noted-in-Fitting.noted.log inside.base.content inside.content.content inside.entries.items c.in_ok-noted-in-Fitting.noted.entries.items inside.blobs.blobs c.in-Fitting.blobs.blobs inside.base_blobs inside.edit_bytes inside.keeps_threads commit
+    taken_fitting inside.content.content c.args.self.history (history_of inside.log inside.base.content inside.base_blobs inside.entries.items inside.blobs.blobs) c.build_account-account.result.history commit c.self.invariant.content_is (ap (λ v. v.history) c.self.view_is) g.0
+    (c.build_account-account.ensures ∙ history_of-commit inside.log c.in_ok-noted-in-Fitting.noted.log inside.base.content inside.content.content inside.entries.items c.in_ok-noted-in-Fitting.noted.entries.items inside.blobs.blobs c.in-Fitting.blobs.blobs inside.base_blobs inside.edit_bytes inside.keeps_threads commit
     c.self.invariant c.in_ok-noted-in-Fitting.ensures.log entries g.3)

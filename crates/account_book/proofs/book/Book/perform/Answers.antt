@@ -14,8 +14,8 @@ returns-in_default-clause-reply g c =
     let count : c.count-before.result ≡ length h.entries = search rules in
     let some : ¬ IsIdle p = search rules in
     let past : ¬ IsWithin edit_bytes h p.edits = search rules in
-    IsReply-unavailable (g.R.Rules.plan_of c.args.self.now.rules) h p c.count-before.result c.args.moment c.args.call.now c.args.stamp c.in_ok-refusal.field-0
-    count c.in_ok-plan.ensures.plan some past c.in_ok-refusal.ensures
+    IsReply-unavailable (g.R.Rules.plan_of c.args.self.now.rules) h p c.count-before.result c.args.moment c.args.call.now c.args.stamp c.in_ok-build_refusal.field-0
+    count c.in_ok-plan.ensures.plan some past c.in_ok-build_refusal.ensures
 
 pub returns-clause-reply : goal.returns-clause-reply
 returns-clause-reply g c =

@@ -8,5 +8,5 @@ pub keep-requires : goal.keep-requires
 keep-requires g c =
     let users = c.self.inside.users.now in
     let own : c.in-Some.to.now.number < length users.account_ids =
-    (changeable_among (IsNumbered users.account_ids) c.accounts_of.result.now c.in-Some.to.now c.accounts_of.ensures.numbered (sym c.in-Some.ensures)).0 in
+    (changeable_among (IsNumbered users.account_ids) c.find_accounts.result.now c.in-Some.to.now c.find_accounts.ensures.numbered (sym c.in-Some.ensures)).0 in
     record { account = subst (λ (s : PortView). c.in-Some.to.now.number < length s.users.account_ids) c.self.view_is own }

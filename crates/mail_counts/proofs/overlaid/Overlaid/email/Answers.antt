@@ -11,7 +11,7 @@ returns-in-Some c =
     let n = c.args.number in
     let last : last_edit OfEmail n o.edits.now ≡ Some c.in-Some.edit.now.now =
     sym (c.self.invariant.1 n) ∙ (ap (λ x. option_map (λ r. r.now) x) (sym c.get.ensures.value) ∙ ap (λ x. option_map (λ r. r.now) (option_map (λ r. r.now) x)) c.in-Some.is) in
-    c.email_put.ensures ∙ (email_found o.edits.now o.content.now.content n c.in-Some.edit.now.now last ∙ ap (λ x. email_at x n) c.self.view_is)
+    c.find_put_email.ensures ∙ (email_found o.edits.now o.content.now.content n c.in-Some.edit.now.now last ∙ ap (λ x. email_at x n) c.self.view_is)
 
 pub returns-in-None : goal.returns-in-None
 returns-in-None c =

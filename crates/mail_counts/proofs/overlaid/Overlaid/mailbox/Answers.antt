@@ -11,7 +11,7 @@ returns-in-Some c =
     let n = c.args.number in
     let last : last_edit OfMailbox n o.edits.now ≡ Some c.in-Some.edit.now.now =
     sym (c.self.invariant.0 n) ∙ (ap (λ x. option_map (λ r. r.now) x) (sym c.get.ensures.value) ∙ ap (λ x. option_map (λ r. r.now) (option_map (λ r. r.now) x)) c.in-Some.is) in
-    c.mailbox_put.ensures ∙ (mailbox_found o.edits.now o.content.now.content n c.in-Some.edit.now.now last ∙ ap (λ x. mailbox_at x n) c.self.view_is)
+    c.find_put_mailbox.ensures ∙ (mailbox_found o.edits.now o.content.now.content n c.in-Some.edit.now.now last ∙ ap (λ x. mailbox_at x n) c.self.view_is)
 
 pub returns-in-None : goal.returns-in-None
 returns-in-None c =

@@ -11,7 +11,7 @@ returns-in-Some c =
     let n = c.args.number in
     let last : last_edit OfThread n o.edits.now ≡ Some c.in-Some.edit.now.now =
     sym (c.self.invariant.2 n) ∙ (ap (λ x. option_map (λ r. r.now) x) (sym c.get.ensures.value) ∙ ap (λ x. option_map (λ r. r.now) (option_map (λ r. r.now) x)) c.in-Some.is) in
-    c.thread_put.ensures ∙ (thread_found o.edits.now o.content.now.content n c.in-Some.edit.now.now last ∙ ap (λ x. thread_at x n) c.self.view_is)
+    c.find_put_thread.ensures ∙ (thread_found o.edits.now o.content.now.content n c.in-Some.edit.now.now last ∙ ap (λ x. thread_at x n) c.self.view_is)
 
 pub returns-in-None : goal.returns-in-None
 returns-in-None c =

@@ -15,9 +15,9 @@ returns c =
     tally_is emails unread of_unread threads _ c.requires.table c.in_ok-unread.ensures
     (c.put_in_order.ensures.is ∙ ap rising (c.in_ok-threads.ensures ∙ ap (λ v. map email_thread (map (λ r. r.now) v)) c.deref.ensures.value))
     (c.in_ok-of_unread.ensures ∙ ap (λ ts. emails_of ts emails) c.deref-2.ensures.value)
-    (c.new-total_emails.ensures ∙ ap (sorted_once member_cmp) c.in_ok-emails_by_mailbox.ensures)
+    (c.new-total_emails.ensures ∙ ap (sorted_once member_cmp) c.in_ok-group_emails_by_mailbox.ensures)
     (c.new-unread_emails.ensures
-    ∙ ap (sorted_once member_cmp) (c.in_ok-emails_by_mailbox-2.ensures ∙ ap (λ v. mailbox_members email_number (map (λ r. r.now) v)) c.deref-3.ensures.value))
-    (c.new-total_threads.ensures ∙ ap (sorted_once member_cmp) c.in_ok-threads_by_mailbox.ensures)
+    ∙ ap (sorted_once member_cmp) (c.in_ok-group_emails_by_mailbox-2.ensures ∙ ap (λ v. mailbox_members email_number (map (λ r. r.now) v)) c.deref-3.ensures.value))
+    (c.new-total_threads.ensures ∙ ap (sorted_once member_cmp) c.in_ok-group_threads_by_mailbox.ensures)
     (c.new-unread_threads.ensures
-    ∙ ap (sorted_once member_cmp) (c.in_ok-threads_by_mailbox-2.ensures ∙ ap (λ v. mailbox_members email_thread (map (λ r. r.now) v)) c.deref-4.ensures.value))
+    ∙ ap (sorted_once member_cmp) (c.in_ok-group_threads_by_mailbox-2.ensures ∙ ap (λ v. mailbox_members email_thread (map (λ r. r.now) v)) c.deref-4.ensures.value))

@@ -8,5 +8,5 @@ pub returns : goal.returns
 returns c =
     let emails = map (λ r. r.now) c.args.emails.now in
     λ t.
-    ap (λ members. listed_in members t) (c.new.ensures ∙ ap (sorted_once member_cmp) c.in_ok-thread_members.ensures)
+    ap (λ members. listed_in members t) (c.new.ensures ∙ ap (sorted_once member_cmp) c.in_ok-collect_thread_members.ensures)
     ∙ group-list t emails emails refl

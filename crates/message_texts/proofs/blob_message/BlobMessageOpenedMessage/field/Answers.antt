@@ -3,4 +3,4 @@ use Rattle.message_texts.specs.Texts.{message_texts}
 use Rattle.message_texts.proofs.blob_message.BlobMessageOpenedMessage.field.Goals as goal
 
 pub returns-in-Some-clause-same : goal.returns-in-Some-clause-same
-returns-in-Some-clause-same c = ap message_texts c.field_contains.ensures.same
+returns-in-Some-clause-same c = ap message_texts c.has_in_field.ensures.same

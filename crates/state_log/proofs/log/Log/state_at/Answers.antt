@@ -9,7 +9,7 @@ pub returns-in-Some-clause-state : goal.returns-in-Some-clause-state
 returns-in-Some-clause-state c =
     let now = c.args.self.now in
     ap (λ v. v.floor + c.in-Some.place) c.self.view_is
-    ∙ last_position-found c.args.kind now.floor now.floors now.notes c.notes_upto.result.now (c.args.position - now.floor) c.in-Some.place c.notes_upto.ensures c.in-Some.ensures.value
+    ∙ last_position-found c.args.kind now.floor now.floors now.notes c.find_notes_upto.result.now (c.args.position - now.floor) c.in-Some.place c.find_notes_upto.ensures c.in-Some.ensures.value
 
 pub returns-in-Some-clause-reached : goal.returns-in-Some-clause-reached
 returns-in-Some-clause-reached c =
@@ -20,9 +20,9 @@ returns-in-Some-clause-reached c =
 pub returns-in-None-clause-state : goal.returns-in-None-clause-state
 returns-in-None-clause-state c =
     let now = c.args.self.now in
-    c.position_of.ensures
+    c.find_kind_position.ensures
     ∙ (ap (λ v. floor_of v.floors c.args.kind) c.self.view_is
-    ∙ last_position-none c.args.kind now.floor now.floors now.notes c.notes_upto.result.now (c.args.position - now.floor) c.notes_upto.ensures c.in-None.ensures.value)
+    ∙ last_position-none c.args.kind now.floor now.floors now.notes c.find_notes_upto.result.now (c.args.position - now.floor) c.find_notes_upto.ensures c.in-None.ensures.value)
 
 pub returns-in-None-clause-reached : goal.returns-in-None-clause-reached
 returns-in-None-clause-reached c =

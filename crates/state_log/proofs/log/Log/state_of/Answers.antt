@@ -10,5 +10,5 @@ returns-clause-reached c =
     let floors : Floors = record { mailbox = inside.floors.mailbox; email = inside.floors.email; thread = inside.floors.thread } in
     let states : Floors = record { mailbox = inside.states.mailbox; email = inside.states.email; thread = inside.states.thread } in
     let kept = Keeps-reached c.args.kind inside.floor floors states inside.notes.items c.self.invariant in
-    subst (λ v. (floor_of v.floors c.args.kind ≤ c.position_of.result) × (c.position_of.result ≤ log_end v)) c.self.view_is
-    (subst (λ n. (floor_of floors c.args.kind ≤ n) × (n ≤ log_end (record { floor = inside.floor; floors = floors; notes = inside.notes.items; spare = 0 }))) (sym c.position_of.ensures) kept)
+    subst (λ v. (floor_of v.floors c.args.kind ≤ c.find_kind_position.result) × (c.find_kind_position.result ≤ log_end v)) c.self.view_is
+    (subst (λ n. (floor_of floors c.args.kind ≤ n) × (n ≤ log_end (record { floor = inside.floor; floors = floors; notes = inside.notes.items; spare = 0 }))) (sym c.find_kind_position.ensures) kept)

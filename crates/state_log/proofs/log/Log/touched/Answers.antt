@@ -8,5 +8,5 @@ use Rattle.state_log.proofs.log.Log.touched.Goals as goal
 pub returns : goal.returns
 returns c =
     let now = c.args.self.now in
-    let is = ap ids_in c.notes_between.ensures ∙ ids-between now.notes (c.args.from - now.floor) (c.args.upto - now.floor) in
+    let is = ap ids_in c.find_notes_between.ensures ∙ ids-between now.notes (c.args.from - now.floor) (c.args.upto - now.floor) in
     subst (λ (ids : List Id). IfOk c.collect_touched.result (AreNamed c.args.kind ids)) is c.collect_touched.ensures

@@ -1,7 +1,0 @@
-use Rattle.std.proofs.Common.{subst}
-use Rattle.mail_records.specs.Edits.{AllFit}
-use Rattle.mail_records.specs.Histories.{edits_of}
-use Rattle.account_book.proofs.account.Account.edits_fit.Goals as goal
-
-pub returns : goal.returns
-returns c = subst (λ v. AllFit v.history.base (edits_of v.history)) c.self.view_is c.self.invariant.fits

@@ -1,7 +1,0 @@
-use Rattle.std.proofs.Common.{◌≡◌, ◌+◌, drop}
-use Rattle.std.specs.List.{position_or_len}
-use Rattle.header_forms.specs.Addresses.{opens_bracket}
-use Rattle.header_forms.proofs.address_items.opening.Given as goal
-
-abbrev pub invariant-loop-i : goal.invariant-loop-i
-invariant-loop-i l = l.i + position_or_len opens_bracket (drop l.i l.characters) ≡ position_or_len opens_bracket l.characters

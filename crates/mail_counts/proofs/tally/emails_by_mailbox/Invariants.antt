@@ -1,7 +1,0 @@
-use Rattle.std.proofs.Common.{◌≡◌, ◌++◌, drop, map}
-use Rattle.mail_records.specs.Contents.{email_number}
-use Rattle.mail_counts.specs.Members.{mailbox_members}
-use Rattle.mail_counts.proofs.tally.emails_by_mailbox.Given as goal
-
-abbrev pub invariant-loop-email : goal.invariant-loop-email
-invariant-loop-email l = l.members.items ++ mailbox_members email_number (map (λ r. r.now) (drop l.email-index l.emails)) ≡ mailbox_members email_number (map (λ r. r.now) l.emails)

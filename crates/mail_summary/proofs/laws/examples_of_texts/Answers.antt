@@ -1,7 +1,0 @@
-use Rattle.std.proofs.Common.{refl}
-use Rattle.std.specs.Fmt.Cut.{floor_char_boundary}
-use Rattle.mail_summary.proofs.laws.examples_of_texts.Goals as goal
-
-pub returns-clause-cut : goal.returns-clause-cut
-unfolding floor_char_boundary
-returns-clause-cut c = refl
