@@ -2,7 +2,7 @@
 -- fewer bytes of edits.
 use Rattle.std.proofs.Common.{◌≡◌, ℕ, ◌+◌, ◌≤◌, List, [], ◌∷◌, ◌++◌, filter, not, length, refl, ap, ◌∙◌, arith}
 use Rattle.mail_records.specs.Edits.{after_edits}
-use Rattle.mail_records.specs.Histories.{History, Entry, IsFounded, account_after, Committed, Refused, is_refused, edits_in, blobs_in, edits_of, blobs_of, content_of, end_of}
+use Rattle.mail_records.specs.Histories.{History, Entry, IsFounded, account_after, Committed, Refused, is_refused, edits_in, blobs_in, edits_of, blobs_of, content_of}
 use Rattle.mail_records.specs.FloorMoves.{moved_up}
 use Rattle.mail_records.proofs.Moved.{edits_of-moved_up}
 use Rattle.record_codec.specs.Sizes.{edit_bytes}
@@ -29,9 +29,6 @@ blobs_of-without_refusals h = ap (λ blobs. h.base_blobs ++ blobs) (blobs_in-com
 
 pub content_of-without_refusals : (h : History) → content_of (without_refusals h) ≡ content_of h
 content_of-without_refusals h = ap (after_edits h.base) (edits_of-without_refusals h)
-
-pub end_of-without_refusals : (h : History) → end_of (without_refusals h) ≡ end_of h
-end_of-without_refusals h = ap (λ edits. h.floor + length edits) (edits_of-without_refusals h)
 
 pub IsFounded-without_refusals : (h : History) → IsFounded h → IsFounded (without_refusals h)
 IsFounded-without_refusals h founded = record {

@@ -9,10 +9,10 @@ use Rattle.account_book.specs.declared.plans.Point.{Point}
 use Rattle.account_lock.specs.Views.{LastTurn, PassFacts}
 use Rattle.account_hall.specs.Copies.{HasBegun, HasBegunCopy, HasHeldBoth, IsCopied, IsCopy, SetOf}
 use Rattle.account_hall.specs.Halls.{AreOf, RoomView}
-use Rattle.account_hall.specs.Held.{AreReleased, AreTaken, HasGained, MayRelease, Side, entries_in, held_copy, side_of, state_of}
+use Rattle.account_hall.specs.HeldAccounts.{AreReleased, AreTaken, HasGained, MayRelease, Side, entries_in, held_copy, side_of, state_of}
 use Rattle.account_hall.specs.Sessions.{IsFree, IsSession, session_of}
 use Rattle.account_hall.specs.declared.copies.CopyCall.{CopyCall}
-use Rattle.account_hall.specs.declared.held.Held.{Held}
+use Rattle.account_hall.specs.declared.held_accounts.Held.{Held}
 use Rattle.account_hall.proofs.Fronts.{all_at}
 use Rattle.account_hall.proofs.Nested.{had_both, shown, turned}
 use Rattle.account_hall.proofs.Pairs.{has_begun, is_copy, is_side, side_at}

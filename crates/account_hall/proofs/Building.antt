@@ -6,7 +6,7 @@ use Rattle.account_book.specs.Books.{BookView}
 use Rattle.account_lock.specs.Views.{PassFacts}
 use Rattle.account_hall.specs.Building.{AreBuilt, first_root, named_of}
 use Rattle.account_hall.specs.Halls.{AreOf, IsFrontPass, RoomFacts, lock_of_pass, lock_of_room, room_view}
-use Rattle.account_hall.specs.declared.named.Named.{Named}
+use Rattle.account_hall.specs.declared.named_account.Named.{Named}
 
 pub twice : {A : Type 0} (xs : List A) → reverse (reverse xs) ≡ xs
 twice [] = refl

@@ -3,7 +3,7 @@ use Rattle.std.proofs.Common.{◌≡◌, List, [], ◌∷◌, suc, length, refl,
 use Rattle.account_lock.specs.Views.{PassFacts}
 use Rattle.account_hall.specs.Building.{AreBuilt}
 use Rattle.account_hall.specs.Halls.{RoomView}
-use Rattle.account_hall.specs.declared.named.Named.{Named}
+use Rattle.account_hall.specs.declared.named_account.Named.{Named}
 
 pub built_count : {K R : Type 0} (accounts : List (Named K R)) (rs : List RoomView) (ks : List PassFacts) → AreBuilt accounts rs ks → length rs ≡ length accounts
 built_count [] [] [] b = refl

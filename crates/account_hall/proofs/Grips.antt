@@ -3,8 +3,8 @@ use Rattle.std.proofs.Common.{◌≡◌, ◌≢◌, ℕ, suc, ◌<◌, List, [],
 use Rattle.std.proofs.Math.ListN.{set}
 use Rattle.account_lock.specs.Views.{PassFacts, going_turn}
 use Rattle.account_hall.specs.Halls.{AreOf, RoomFacts, RoomView, room_view}
-use Rattle.account_hall.specs.Held.{AreTaken, HasTurnAt, IsFreeAt, IsTaken, entries_in, holding, next_turn, turn_at, turn_if}
-use Rattle.account_hall.specs.declared.held.Held.{Held}
+use Rattle.account_hall.specs.HeldAccounts.{AreTaken, HasTurnAt, IsFreeAt, IsTaken, entries_in, holding, next_turn, turn_at, turn_if}
+use Rattle.account_hall.specs.declared.held_accounts.Held.{Held}
 use Rattle.account_hall.proofs.Fronts.{of_set, pass_there, room_lock}
 use Rattle.account_hall.proofs.Places.{get_dropped, get_taken, set_apart, set_elsewhere, set_there}
 

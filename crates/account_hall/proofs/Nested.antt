@@ -6,7 +6,7 @@ use Rattle.account_book.specs.declared.plans.Point.{Point}
 use Rattle.account_lock.specs.Entries.{under}
 use Rattle.account_lock.specs.Views.{LastTurn, PassFacts, Turn, begun_within, ended_within}
 use Rattle.account_hall.specs.Copies.{HasHadBoth}
-use Rattle.account_hall.specs.Held.{IsWithin, next_turn}
+use Rattle.account_hall.specs.HeldAccounts.{IsWithin, next_turn}
 use Rattle.account_hall.specs.Sessions.{SessionView, session_of}
 use Rattle.account_hall.proofs.Places.{flipped, set_elsewhere, set_there}
 

@@ -11,10 +11,10 @@ use Rattle.account_lock.specs.Entries.{StartsWith, under}
 use Rattle.account_lock.specs.Views.{LastTurn, PassFacts}
 use Rattle.account_hall.specs.Calls.{HasLooked, IsCalled, point_at}
 use Rattle.account_hall.specs.Copies.{HasBegun, HasBegunCopy, HasHeldBoth, HasTaken, IsCopied, IsCopy, IsNextCall, SetOf}
-use Rattle.account_hall.specs.Held.{HeldState, IsHeldBy, IsStep, Side, held_copy, side_of}
+use Rattle.account_hall.specs.HeldAccounts.{HeldState, IsHeldBy, IsStep, Side, held_copy, side_of}
 use Rattle.account_hall.specs.Sessions.{IsSession, SessionView, session_of}
 use Rattle.account_hall.specs.declared.copies.CopyCall.{CopyCall}
-use Rattle.account_hall.specs.declared.held.Held.{Held}
+use Rattle.account_hall.specs.declared.held_accounts.Held.{Held}
 use Rattle.account_hall.proofs.Mapped.{begun, copied}
 use Rattle.account_hall.proofs.Nested.{shown}
 use Rattle.account_hall.proofs.Places.{flipped, set_elsewhere, set_there, set_twice, set_under}

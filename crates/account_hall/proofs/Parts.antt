@@ -15,8 +15,8 @@ use Rattle.account_book.specs.declared.plans.Plan.{Plan}
 use Rattle.account_book.specs.declared.plans.Point.{Point}
 use Rattle.account_lock.specs.Entries.{AreUnder, ExtendsUnder}
 use Rattle.account_hall.specs.Copies.{CopySteps, HasBegun, IsCopied, IsFetchedSo, IsFollowed, IsPlaced, IsPlacedSo, SetOf, carried_in, fetch_call, first_of, first_response, joined, place_call, replied_in}
-use Rattle.account_hall.specs.Held.{HasAskedSet, HasGained, HeldState, MayHaveFollowed, MayHavePlaced, Side, entries_in, held_steps}
-use Rattle.account_hall.specs.declared.held.Held.{Held}
+use Rattle.account_hall.specs.HeldAccounts.{HasAskedSet, HasGained, HeldState, MayHaveFollowed, MayHavePlaced, Side, entries_in, held_steps}
+use Rattle.account_hall.specs.declared.held_accounts.Held.{Held}
 
 -- what a reply, and what another answer, has as first response
 pub first_replied : (answer : Out) (r : Replied) → replied_in answer ≡ Ok r → first_response answer ≡ take 1 r.responses

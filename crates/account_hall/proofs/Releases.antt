@@ -5,8 +5,8 @@ use Rattle.mail_records.specs.Histories.{Entry}
 use Rattle.account_lock.specs.Entries.{ExtendsUnder, under}
 use Rattle.account_lock.specs.Views.{PassFacts, Turn}
 use Rattle.account_hall.specs.Halls.{AreOf, RoomView}
-use Rattle.account_hall.specs.Held.{AreReleased, AreTaken, HasGained, HasTurnAt, IsHeldBy, IsWithin, MayRelease, Side, entries_in, holding, next_turn, released, released_at, released_to, turn_at}
-use Rattle.account_hall.specs.declared.held.Held.{Held}
+use Rattle.account_hall.specs.HeldAccounts.{AreReleased, AreTaken, HasGained, HasTurnAt, IsHeldBy, IsWithin, MayRelease, Side, entries_in, holding, next_turn, released, released_at, released_to, turn_at}
+use Rattle.account_hall.specs.declared.held_accounts.Held.{Held}
 use Rattle.account_hall.proofs.Fronts.{of_set}
 use Rattle.account_hall.proofs.Grips.{one_there, turn_is}
 use Rattle.account_hall.proofs.Nested.{lower_or, shown, turned}

@@ -5,7 +5,7 @@ use Rattle.account_lock.specs.Entries.{StartsWith}
 use Rattle.account_lock.specs.Passes.{HasEndedAll, HasNoOthers, KeepsEnded, root_of}
 use Rattle.account_lock.specs.Views.{LockFacts, PassFacts}
 use Rattle.account_hall.specs.Halls.{RoomFacts, RoomView, entries_of}
-use Rattle.account_hall.specs.declared.named.Named.{Named}
+use Rattle.account_hall.specs.declared.named_account.Named.{Named}
 
 -- an account whose book has no entry since it was opened
 abbrev pub IsFresh : {K R : Type 0} → Named K R → Type 0

@@ -4,4 +4,4 @@ pub mod Sessions
 pub mod Halls
 pub mod Building
 pub mod Copies
-pub mod Held
+pub mod HeldAccounts

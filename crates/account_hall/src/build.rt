@@ -7,7 +7,7 @@ ghost use Rattle.account_hall.specs.Halls.{AreOf};
 
 use crate::front::Front;
 use crate::hall::{Hall, Room};
-use crate::named::Named;
+use crate::named_account::Named;
 use account_book::{Book, Rules};
 use account_lock::{AccountLock, Pass};
 use keep_port::Keeper;

@@ -7,7 +7,7 @@ ghost use Rattle.account_hall.specs.Sessions.{IsSession, session_of};
 
 use crate::copies::{CopyCall, Originals};
 use crate::hall::{Hall, Room};
-use crate::held::copy_held;
+use crate::held_accounts::copy_held;
 use crate::passes::Passes;
 use crate::taking::{give_both, take_both};
 use account_book::{Out, Point, Rules};

@@ -13,8 +13,8 @@ mod copies;
 mod copying;
 mod front;
 mod hall;
-mod held;
-mod named;
+mod held_accounts;
+mod named_account;
 mod passes;
 mod taking;
 
@@ -22,5 +22,5 @@ pub use build::build_hall;
 pub use copies::{CopyCall, Originals};
 pub use front::{AdmitFault, Front};
 pub use hall::Hall;
-pub use named::Named;
+pub use named_account::Named;
 pub use passes::{Passes, Trail};

@@ -2,10 +2,10 @@
 // one last.
 ghost use Rattle.std.specs.Prelude.{◌≡◌, ◌≢◌, ◌<◌, None, length, map};
 ghost use Rattle.account_hall.specs.Halls.{AreOf, room_view};
-ghost use Rattle.account_hall.specs.Held.{AreReleased, AreTaken, HasTurnAt, IsFreeAt, IsTaken, MayRelease, released_to, turn_at};
+ghost use Rattle.account_hall.specs.HeldAccounts.{AreReleased, AreTaken, HasTurnAt, IsFreeAt, IsTaken, MayRelease, released_to, turn_at};
 
 use crate::hall::Room;
-use crate::held::Held;
+use crate::held_accounts::Held;
 use account_book::Rules;
 use account_lock::Pass;
 use keep_port::Keeper;

@@ -12,7 +12,7 @@
 mod account_view;
 mod limits;
 mod lock;
-mod noted;
+mod pass_turn;
 mod rule;
 mod steps;
 #[cfg(test)]

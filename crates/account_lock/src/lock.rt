@@ -6,7 +6,7 @@ ghost use Rattle.account_lock.specs.Views.{begun_within, ended_within, going_tur
 
 use crate::account_view::AccountView;
 use crate::limits::MAX_NAMES;
-use crate::noted::Noted;
+use crate::pass_turn::Noted;
 use crate::rule::{Naming, Turns};
 use crate::steps::{await_turn, draw_ticket, lay_back, lift, look_back};
 use crate::view::PassView;

@@ -3,7 +3,7 @@ use Rattle.std.proofs.Common.{◌≡◌, ℕ, ◌<◌, List, [], ◌∷◌, ◌+
 use Rattle.std.specs.BTreeMap.{get}
 use Rattle.std.specs.Ordering.{nat_cmp}
 use Rattle.jm_base.specs.declared.identifiers.Kind.TheVariants.{Email as OfEmail}
-use Rattle.mail_counts.specs.Overlaid.{last_edit}
+use Rattle.mail_counts.specs.Overlay.{last_edit}
 use Rattle.mail_records.specs.Contents.{Content}
 use Rattle.mail_records.specs.Edits.{after_edit, after_edits}
 use Rattle.mail_records.specs.declared.edits.Edit.{Edit}

@@ -4,7 +4,7 @@ use Rattle.std.specs.BTreeMap.{get}
 use Rattle.std.specs.List.{AllByRecursion}
 use Rattle.std.specs.Ordering.{nat_cmp}
 use Rattle.jm_base.specs.declared.identifiers.Kind.TheVariants.{Email as OfEmail}
-use Rattle.mail_counts.specs.Overlaid.{last_edit}
+use Rattle.mail_counts.specs.Overlay.{last_edit}
 use Rattle.mail_records.specs.Contents.{Content, email_number}
 use Rattle.mail_records.specs.Edits.{after_edits}
 use Rattle.mail_records.specs.Tables.{IsTable}

@@ -4,7 +4,7 @@ ghost use Rattle.std.specs.BTreeMap.{get};
 ghost use Rattle.std.specs.List.{AllByRecursion};
 ghost use Rattle.std.specs.Ordering.{nat_cmp};
 ghost use Rattle.jm_base.specs.declared.identifiers.Kind.TheVariants.{Email as OfEmail};
-ghost use Rattle.mail_counts.specs.Overlaid.{email_put, last_edit};
+ghost use Rattle.mail_counts.specs.Overlay.{email_put, last_edit};
 ghost use Rattle.mail_records.specs.Contents.{Content as TheContent, email_at};
 ghost use Rattle.set_parts.specs.Steps.{Progress, before_steps, with_edits};
 ghost use Rattle.email_set.specs.Views.{Follows, IsOfEmail, email_named_by, index_after};

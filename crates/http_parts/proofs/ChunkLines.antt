@@ -9,7 +9,7 @@ use Rattle.std.specs.Char.{is_ascii_hexdigit, digit_value}
 use Rattle.std.specs.Str.Parse.{digits_value, digits_value_after}
 use Rattle.memchr.specs.Find.{IsFirstByte, is_byte}
 use Rattle.mime_lines.proofs.LineFacts.{not_true}
-use Rattle.http_parts.specs.Found.{AreHexDigits}
+use Rattle.http_parts.specs.ChunkParts.{AreHexDigits}
 use Rattle.mime_lines.specs.Lines.{text}
 use Rattle.http_parts.specs.Chunks.{LineInvalid, LineUnfinished, chunk_line, chunk_line_by, chunk_size, line_feed_at}
 use Rattle.http_parts.specs.declared.limits.TheConstants.{MAX_CHUNK_LINE_BYTES}

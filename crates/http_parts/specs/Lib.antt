@@ -4,5 +4,5 @@ pub mod Chunks
 pub mod Pieces
 pub mod Views
 pub mod Parts
-pub mod Found
+pub mod ChunkParts
 pub mod Plans

@@ -3,7 +3,7 @@ ghost use Rattle.std.specs.Prelude.{◌≡◌, List, ℕ};
 ghost use Rattle.http_parts.specs.declared.limits.TheConstants.{MAX_TRAILER_BYTES};
 ghost use Rattle.http_parts.specs.Chunks.{chunk_end, trailer};
 ghost use Rattle.http_parts.specs.declared.chunk_ends.EndFound.TheVariants as end_found;
-ghost use Rattle.http_parts.specs.Found.{end_as, trailer_as, IsEndWithin};
+ghost use Rattle.http_parts.specs.ChunkParts.{end_as, trailer_as, IsEndWithin};
 
 use crate::heads::find_end;
 use crate::limits::MAX_TRAILER_BYTES;

@@ -5,7 +5,7 @@ ghost use Rattle.std.specs.Char.{is_ascii_hexdigit, digit_value};
 ghost use Rattle.httparse.specs.Grammar.{skip_ows};
 ghost use Rattle.http_parts.specs.declared.limits.TheConstants.{MAX_CHUNK_LINE_BYTES, MAX_CHUNK_DIGITS};
 ghost use Rattle.http_parts.specs.Chunks.{is_extension, digit_count, chunk_size, chunk_line, line_feed_at};
-ghost use Rattle.http_parts.specs.Found.{line_as, IsLineWithin, AreHexDigits};
+ghost use Rattle.http_parts.specs.ChunkParts.{line_as, IsLineWithin, AreHexDigits};
 
 use crate::limits::{MAX_CHUNK_DIGITS, MAX_CHUNK_LINE_BYTES};
 use httparse::parse_hex_digit;

@@ -17,7 +17,7 @@ use Rattle.serde_json.specs.Read as json_text
 use Rattle.serde_json.specs.Read.{max_depth, of_items, of_members}
 use Rattle.serde_json.specs.Written.{number_text, outline, items_outline, members_outline, comma_if, compact_text, items_text, members_text}
 use Rattle.serde_json.proofs.Texts.{print-outline}
-use Rattle.jm_json.specs.Printed.{IsPrinted, ArePrinted, MembersPrinted}
+use Rattle.jm_json.specs.RoundTrips.{IsPrinted, ArePrinted, MembersPrinted}
 use Rattle.jm_json.proofs.Integers.{number_of-signed_decimal}
 use Rattle.jm_json.proofs.Readings.{read_from}
 

@@ -4,7 +4,7 @@ pub mod Size
 pub mod Json
 pub mod Depths
 pub mod JsonValues
-pub mod Printed
+pub mod RoundTrips
 pub mod Order
 pub mod KeyIndices
 pub mod FirstMembers

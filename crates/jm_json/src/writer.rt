@@ -12,7 +12,7 @@ ghost use Rattle.jm_json.specs.Tree.{trees_of, fields_of};
 ghost use Rattle.jm_json.specs.Json.{tree_of, member_of};
 ghost use Rattle.jm_json.specs.Order.{KeysRise};
 ghost use Rattle.jm_json.specs.JsonValues.{data_of, items_of, members_of};
-ghost use Rattle.jm_json.specs.Printed.{IsPrinted};
+ghost use Rattle.jm_json.specs.RoundTrips.{IsPrinted};
 
 use crate::parser::Scratch;
 use crate::tree::{Json, Member};

@@ -17,8 +17,8 @@ use Rattle.account_hall.specs.Building.{AreBuilt, IsClosed, IsParted}
 use Rattle.account_hall.specs.Halls.{AreOf, FrontView, HaveHeard, RoomView, all_taken_in, entries_of, lock_of_pass, lock_of_room, one_given}
 use Rattle.account_hall.specs.Histories.{seen_count}
 use Rattle.account_hall.specs.Sessions.{AreInOrder, IsAfter, IsFree, IsInOrder, IsSession, IsWithinSeen, SessionView, entries_at, is_entered, session_of}
-use Rattle.account_hall.specs.declared.named.Named.{Named}
-use Rattle.jmap_commands.specs.Alone.{HasOneIn, IsFirst, WasAlone}
+use Rattle.account_hall.specs.declared.named_account.Named.{Named}
+use Rattle.jmap_commands.specs.OneSession.{HasOneIn, IsFirst, WasAlone}
 
 -- ---- points that leave no gap
 

@@ -36,7 +36,7 @@ use Rattle.hall_port.specs.Targets.{accounts_of, source_of, target_of}
 use Rattle.hall_port.specs.Views.{PortView}
 use Rattle.hall_port.proofs.Found.{source_among, source_apart, target_among}
 use Rattle.jmap_commands.specs.AccountAnswers.{AnswersBy, IsAccountAnswer, IsMailReply, account_answers, account_halts, account_stops, account_uploads, asked}
-use Rattle.jmap_commands.specs.Alone.{AnswersAlone, IsFirst}
+use Rattle.jmap_commands.specs.OneSession.{AnswersAlone, IsFirst}
 use Rattle.jmap_commands.specs.OneUser.{the_account, the_accounts, the_users}
 use Rattle.jmap_commands.specs.Serving.{mail_plan}
 use Rattle.jmap_commands.proofs.Alone.{AreOfFirst, GoesOn, alone_goes_on, any_after, any_named, goes_on_before, last_of, last_on, same_length, seen_before, seen_not_refused}

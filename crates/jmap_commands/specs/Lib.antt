@@ -1,6 +1,6 @@
 pub mod OneUser
 pub mod AccountAnswers
-pub mod Alone
+pub mod OneSession
 pub mod Stamps
 pub mod Read
 pub mod Arguments

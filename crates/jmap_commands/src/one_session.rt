@@ -4,7 +4,7 @@ ghost use Rattle.account_hall.specs.Building.{IsParted};
 ghost use Rattle.account_hall.specs.Halls.{AreOf, RoomView, entries_of};
 ghost use Rattle.account_lock.specs.Passes.{root_of};
 ghost use Rattle.batch_lines.specs.Input.{seen};
-ghost use Rattle.jmap_commands.specs.Alone.{AnswersAlone, HasOneIn, IsFirst, WasAlone};
+ghost use Rattle.jmap_commands.specs.OneSession.{AnswersAlone, HasOneIn, IsFirst, WasAlone};
 
 use account_book::{Book, Rules};
 use account_hall::{Front, Hall, Named, Passes, build_hall};

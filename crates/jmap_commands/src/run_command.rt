@@ -3,7 +3,7 @@ ghost use Rattle.std.specs.Prelude.{◌≡◌, ◌↔◌, ℕ, IfOk, None, Some,
 ghost use Rattle.jm_edge.specs.Causes.{Rose};
 ghost use Rattle.mail_records.specs.Histories.{empty_history};
 ghost use Rattle.account_hall.specs.Halls.{AreOf};
-ghost use Rattle.jmap_commands.specs.Alone.{HasOneIn, IsFirst};
+ghost use Rattle.jmap_commands.specs.OneSession.{HasOneIn, IsFirst};
 ghost use Rattle.jmap_commands.specs.OneUser.{the_users};
 ghost use Rattle.jmap_commands.specs.Arguments.{command_of};
 ghost use Rattle.batch_lines.specs.Input.{seen};

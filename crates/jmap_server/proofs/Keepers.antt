@@ -6,7 +6,7 @@ use Rattle.std.proofs.lemmas.List.{reverse-append, reverse-reverse, map-append}
 use Rattle.std.proofs.Math.Seq.{take-suc}
 use Rattle.mail_records.specs.Histories.{History}
 use Rattle.keep_port.specs.declared.kept.Kept.{Kept}
-use Rattle.account_hall.specs.declared.named.Named.{Named}
+use Rattle.account_hall.specs.declared.named_account.Named.{Named}
 use Rattle.jmap_server.specs.declared.fault.ServeFault.{ServeFault}
 use Rattle.jmap_server.specs.declared.fault.ServeFault.TheVariants.{BadConfig, KeeperFault, Damaged, DeskFault, NoMemory}
 use Rattle.jmap_server.specs.Deeds.{Deed, GaveKeeper, GotKeeper, IsTold, Lent, account_of, gave, lent_for}

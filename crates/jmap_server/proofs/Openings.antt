@@ -14,7 +14,7 @@ use Rattle.account_lock.specs.Views.{PassFacts}
 use Rattle.account_hall.specs.Building.{AreBuilt, IsClosed}
 use Rattle.account_hall.specs.Halls.{AreOf, RoomView, all_taken_in, entries_of, one_given}
 use Rattle.account_hall.specs.Sessions.{SessionView}
-use Rattle.account_hall.specs.declared.named.Named.{Named}
+use Rattle.account_hall.specs.declared.named_account.Named.{Named}
 use Rattle.jmap_server.specs.declared.fault.ServeFault.{ServeFault}
 use Rattle.jmap_server.specs.declared.fault.ServeFault.TheVariants.{BadConfig, KeeperFault, Damaged, DeskFault, NoMemory}
 use Rattle.jmap_server.specs.Deeds.{Lent, account_of}

@@ -10,7 +10,7 @@ use Rattle.jm_edge.specs.declared.fault.EdgeFault.TheVariants.{Failed, NoMemory 
 use Rattle.account_lock.specs.Views.{PassFacts}
 use Rattle.account_hall.specs.Building.{AreBuilt}
 use Rattle.account_hall.specs.Halls.{RoomView}
-use Rattle.account_hall.specs.declared.named.Named.{Named}
+use Rattle.account_hall.specs.declared.named_account.Named.{Named}
 use Rattle.server_users.specs.Configuration.{Configuration}
 use Rattle.server_users.specs.Lookups.{IsFaultOf, places_of}
 use Rattle.server_users.specs.declared.fault.ConfigFault.{ConfigFault}

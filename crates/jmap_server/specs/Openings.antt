@@ -10,7 +10,7 @@ use Rattle.account_lock.specs.Entries.{StartsWith}
 use Rattle.account_lock.specs.Passes.{HasEndedAll, HasNoOthers, KeepsEnded}
 use Rattle.account_lock.specs.Views.{PassFacts}
 use Rattle.account_hall.specs.Halls.{RoomView}
-use Rattle.account_hall.specs.declared.named.Named.{Named}
+use Rattle.account_hall.specs.declared.named_account.Named.{Named}
 use Rattle.account_hall.specs.Sessions.{SessionView}
 use Rattle.jmap_server.specs.Fronts.{AreEntriesOf}
 use Rattle.jmap_server.specs.Deeds.{Lent, lent_for}

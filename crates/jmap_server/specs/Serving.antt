@@ -11,7 +11,7 @@ use Rattle.account_book.specs.declared.faults.StartFault.TheVariants as start
 use Rattle.account_hall.specs.Halls.{RoomView}
 use Rattle.account_lock.specs.Views.{PassFacts}
 use Rattle.account_hall.specs.Sessions.{SessionView}
-use Rattle.account_hall.specs.declared.named.Named.{Named}
+use Rattle.account_hall.specs.declared.named_account.Named.{Named}
 use Rattle.server_users.specs.Configuration.{Configuration}
 use Rattle.server_users.specs.declared.fault.ConfigFault.{ConfigFault}
 use Rattle.server_users.specs.declared.fault.ConfigFault.TheVariants as config

@@ -9,8 +9,6 @@
 --
 -- * A plan without edits and blobs keeps (`idle_keeps`), and one of blobs alone that are few
 -- (`blobs_keep`).
--- * A plan of mailboxes that leaves emails as they are needs only `AllFit`, `LeavesEmails`,
--- `IsTidy` and `AreCountsFlagsRight` (`mailboxes_keep`).
 -- * A plan of any edits needs `IsPlanned` and `AreBlobsFew` (`planned_keeps`).
 use Rattle.std.proofs.Common.{◌≡◌, ℕ, ◌+◌, ◌≤◌, List, [], ◌∷◌, ◌++◌, length, sym, ap, ◌∙◌, subst, arith, append-nil}
 use Rattle.std.specs.List.{AllByRecursion}
@@ -23,7 +21,6 @@ use Rattle.mail_records.proofs.Growth.{NextAtMost-after_edits, all_map}
 use Rattle.mail_records.proofs.Prefixes.{IsFounded-grown_by, IsSound-committed, edits_of-grown, content_of-grown, end_of-grown, blobs_of-grown}
 use Rattle.mail_summary.specs.Summaries.{summary}
 use Rattle.mail_counts.specs.CountsFlag.{AreCountsFlagsRight}
-use Rattle.mail_counts.specs.Derived.{LeavesEmails}
 use Rattle.mail_counts.specs.Tidy.{IsTidy}
 use Rattle.record_codec.specs.Sizes.{edit_bytes}
 use Rattle.record_codec.proofs.Lengths.{edit_bytes-append}
@@ -103,16 +100,6 @@ few_without h p whole none =
 -- a plan that changes nothing
 pub idle_keeps : (h : History) (p : Plan) → IsWholeMail h → p.blobs ≡ [] → p.edits ≡ [] → Keeps h p
 idle_keeps h p whole blobs edits = blobs_keep h p whole edits (few_without h p whole blobs)
-
--- a plan that leaves emails as they are
-pub mailboxes_keep : (h : History) (p : Plan) → IsWholeMail h → p.blobs ≡ []
-    → AllFit (content_of h) p.edits → AllByRecursion LeavesEmails p.edits
-    → IsTidy (after_edits (content_of h) p.edits) → AreCountsFlagsRight (content_of h) p.edits
-    → Keeps h p
-mailboxes_keep h p whole blobs fit leave tidy flags =
-    planned_keeps h p whole
-    (planned_mailboxes summary (blobs_of h ++ p.blobs) (content_of h) p.edits fit leave tidy flags)
-    (few_without h p whole blobs)
 
 -- With the commit of a plan that keeps, a valid account is valid, if its edits stay within the
 -- limit.

@@ -8,7 +8,7 @@ use Rattle.std.proofs.lemmas.Cmp.{ranked}
 use Rattle.std.proofs.lemmas.Bool.{cases_Bool, true≢false, eqb-false, ltb-true, ltb-false}
 use Rattle.mail_records.specs.Tables.{IsTable, lookup}
 use Rattle.mail_records.proofs.Rising.{all_map}
-use Rattle.mail_counts.specs.Overlaid.{all_listed, listed_at}
+use Rattle.mail_counts.specs.Overlay.{all_listed, listed_at}
 use Rattle.mail_counts.specs.Touched.{is_one_of}
 
 less_lt : (x y : ℕ) → nat_cmp x y ≡ Less → x < y

@@ -10,7 +10,7 @@ use Rattle.mail_records.specs.declared.records.Email.{Email}
 use Rattle.mail_records.specs.declared.edits.Edit.{Edit}
 use Rattle.mail_counts.specs.DerivedEdits.{count_edits, counts_after, counts_over, derived_edits, derived_from, edits_of_thread, own_counts, put_counts, thread_edits}
 use Rattle.mail_counts.specs.Members.{Tallied, member_cmp, member_group, tallied_counts, thread_members}
-use Rattle.mail_counts.specs.Overlaid.{all_listed, emails_among, emails_named, if_of_threads}
+use Rattle.mail_counts.specs.Overlay.{all_listed, emails_among, emails_named, if_of_threads}
 use Rattle.mail_counts.specs.Steps.{counted_edits, listed_edits}
 use Rattle.mail_counts.specs.Touched.{emails_of, is_one_of, rising, sorted_once, touched_threads}
 use Rattle.mail_counts.specs.declared.mailbox_counts.MailboxCounts.{MailboxCounts}

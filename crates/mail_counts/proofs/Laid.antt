@@ -11,7 +11,7 @@ use Rattle.mail_records.specs.declared.edits.Edit.TheVariants.{PutMailbox, DropM
 use Rattle.mail_records.proofs.Tables.{lookup-put_same, lookup-put_other, lookup-without_other, lookup-without_same}
 use Rattle.jm_base.specs.declared.identifiers.Kind.{Kind}
 use Rattle.jm_base.specs.declared.identifiers.Kind.TheVariants.{Mailbox as OfMailbox, Email as OfEmail, Thread as OfThread}
-use Rattle.mail_counts.specs.Overlaid.{if_of, last_edit, laid_over, mailbox_put, email_put, thread_put, emails_named}
+use Rattle.mail_counts.specs.Overlay.{if_of, last_edit, laid_over, mailbox_put, email_put, thread_put, emails_named}
 use Rattle.mail_counts.specs.Touched.{is_one_of}
 
 -- a record that is put, or was there before

@@ -3,7 +3,7 @@ use Rattle.std.proofs.Common.{◌≡◌, ℕ, List, ◌∷◌, ◌++◌, Option,
 use Rattle.std.specs.List.{flat_map}
 use Rattle.std.proofs.lemmas.List.{append_assoc}
 use Rattle.mail_records.specs.Tables.{lookup}
-use Rattle.mail_counts.specs.Overlaid.{all_listed, listed_at}
+use Rattle.mail_counts.specs.Overlay.{all_listed, listed_at}
 
 -- what is added first, and then the rest
 pub turned : {B : Type 0} (xs ys zs first rest all : List B) → ys ≡ xs ++ first → zs ≡ first ++ rest → xs ++ zs ≡ all → ys ++ rest ≡ all

@@ -9,5 +9,5 @@ pub mod Derived
 pub mod Plans
 pub mod CountsFlag
 pub mod Members
-pub mod Overlaid
+pub mod Overlay
 pub mod Steps

@@ -10,7 +10,7 @@ ghost use Rattle.mail_counts.specs.CountsFlag.{AreCountsFlagsRight};
 ghost use Rattle.mail_counts.specs.Derived.{AllKeepCounts, AreCounted, IsOfMailbox, LeavesEmails};
 ghost use Rattle.mail_counts.specs.DerivedEdits.{are_equal_counts, count_after, count_edits, counts_after, derived_edits, edits_of_thread, own_counts, put_counts, same_numbers, with_counts};
 ghost use Rattle.mail_counts.specs.Members.{member_cmp, member_group, member_number, of_group, thread_members};
-ghost use Rattle.mail_counts.specs.Overlaid.{all_listed, emails_among, if_of_threads, listed_at};
+ghost use Rattle.mail_counts.specs.Overlay.{all_listed, emails_among, if_of_threads, listed_at};
 ghost use Rattle.mail_counts.specs.Steps.{counted_edits, listed_edits};
 ghost use Rattle.mail_counts.specs.Tidy.{AreThreadsTidy, IsTidy};
 ghost use Rattle.mail_counts.specs.TidyBut.{LeaveTidyButThreadsAndCounts};
@@ -18,7 +18,7 @@ ghost use Rattle.mail_counts.specs.Touched.{rising, sorted_once};
 
 use crate::MailboxCounts;
 use crate::members::{Member, Members};
-use crate::overlaid::Overlaid;
+use crate::overlay::Overlaid;
 use crate::tally::Tally;
 use crate::touched::{collect_touched_emails, collect_touched_threads, is_one_of, put_in_order};
 use jm_base::{NoMemory, Numbers};

@@ -11,7 +11,7 @@ mod laws;
 mod limits;
 mod mailbox_counts;
 mod members;
-mod overlaid;
+mod overlay;
 mod plan;
 mod state;
 mod tally;

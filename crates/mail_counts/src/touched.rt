@@ -5,7 +5,7 @@ ghost use Rattle.mail_records.specs.Contents.{email_at};
 ghost use Rattle.mail_records.specs.Edits.{named_thread};
 ghost use Rattle.mail_records.specs.Orders.{threaded_owner};
 ghost use Rattle.mail_records.specs.declared.records.Email.{Email as TheEmail};
-ghost use Rattle.mail_counts.specs.Overlaid.{emails_named};
+ghost use Rattle.mail_counts.specs.Overlay.{emails_named};
 ghost use Rattle.mail_counts.specs.Touched.{is_one_of, rising, threads_named, touched_threads};
 
 use jm_base::NoMemory;

@@ -67,13 +67,13 @@ fn show(alloc: Global, part: &Part, text: Text) -> Result<Text, NoMemory>
 
 /// How many bytes of a body are decoded at first. They have more than `MAX_SHOWN_CHARACTERS`
 /// characters in every transfer encoding, but for white space.
-const FRONT_BYTES: usize = 4096;
+const FIRST_BYTES: usize = 4096;
 
 fn take_first_bytes(body: &[u8]) -> &[u8]
     ensures { Begins result.now body.now }
 {
-    if body.len() > FRONT_BYTES {
-        return body.split_at(FRONT_BYTES).0;
+    if body.len() > FIRST_BYTES {
+        return body.split_at(FIRST_BYTES).0;
     }
     body
 }
@@ -90,7 +90,7 @@ fn take_first_lines(body: &[u8]) -> &[u8]
 }
 
 /// Returns bytes at the beginning of a body that encode the beginning of what it encodes.
-fn front(coding: Coding, body: &[u8]) -> &[u8]
+fn take_encoded_prefix(coding: Coding, body: &[u8]) -> &[u8]
     ensures { Begins (decoded coding result.now) (decoded coding body.now) }
 {
     match coding {
@@ -107,7 +107,7 @@ fn build_early_preview(alloc: Global, coding: Coding, body: &[u8]) -> Result<Opt
     ensures { IfOk result (λ found. IfSome found (λ t. (charset : Option Charset)
         → t ≡ brief (one_spaced (chars (decoded_text charset (decoded coding body.now)))))) }
 {
-    let bytes = decode(alloc, coding, front(coding, body))?;
+    let bytes = decode(alloc, coding, take_encoded_prefix(coding, body))?;
     if !bytes.as_slice().is_ascii() {
         return Ok(None);
     }

@@ -14,7 +14,7 @@ use Rattle.mail_counts.specs.Counts.{is_in}
 use Rattle.mail_counts.specs.Touched.{is_one_of}
 use Rattle.mail_counts.proofs.Groups.{filter_append}
 use Rattle.mail_counts.proofs.Partition.{all_found}
-use Rattle.mailbox_updates.specs.Left.{emails_left, left_of, left_with, left_without, mailboxes_but, mailboxes_left}
+use Rattle.mailbox_updates.specs.EmailsLeft.{emails_left, left_of, left_with, left_without, mailboxes_but, mailboxes_left}
 use Rattle.mailbox_set.specs.Destroys.{removal, removal_at, removal_of}
 use Rattle.set_parts.proofs.Parts.{all_append}
 use Rattle.mailbox_updates.proofs.Present.{one_pushed}

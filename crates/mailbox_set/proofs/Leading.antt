@@ -51,7 +51,7 @@ use Rattle.set_parts.specs.Creates.{Creating, before_creates, record_under}
 use Rattle.mailbox_creates.specs.Creates.{PutsNew, bad_in, mailbox_of, new_record}
 use Rattle.mailbox_creates.specs.Properties.{mailbox_meant, sent_properties}
 use Rattle.mailbox_set.specs.Destroys.{destroy_edits, destroy_mailbox, destroy_of, has_child, has_email, removal, removal_of}
-use Rattle.mailbox_updates.specs.Left.{left_with, left_without, mailboxes_but}
+use Rattle.mailbox_updates.specs.EmailsLeft.{left_with, left_without, mailboxes_but}
 use Rattle.mailbox_creates.specs.Rounds.{after_creates}
 use Rattle.mailbox_set.specs.Sets.{mailbox_set_forms, mailbox_set_outcome, plan_in, removes_emails, steps_after, updated_after}
 use Rattle.mailbox_updates.specs.Updates.{after_mailbox_updates, all_keep_rules, keeps_rules, update_as}

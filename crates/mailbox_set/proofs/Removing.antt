@@ -22,7 +22,7 @@ use Rattle.mail_counts.specs.Tidy.{IsThere, IsTidyEmail, IsWellFormed, same_pare
 use Rattle.mail_counts.specs.TidyBut.{IsPlacedBelow, IsTidyButThreadsAndCounts}
 use Rattle.plan_promises.specs.Planned.{AllKeepMessages, HaveOneMessage}
 use Rattle.mailbox_set.specs.Destroys.{destroy_edits, has_child, removal, removal_of}
-use Rattle.mailbox_updates.specs.Left.{left_with, left_without, mailboxes_but}
+use Rattle.mailbox_updates.specs.EmailsLeft.{left_with, left_without, mailboxes_but}
 use Rattle.mailbox_updates.proofs.Chains.{Ends, ParentsThere, ends_from, ends_within, ended_from, parent_in}
 
 -- ---- one record of a table between those before it and those after it

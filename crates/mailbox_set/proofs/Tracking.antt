@@ -21,8 +21,8 @@ use Rattle.set_parts.specs.declared.set_errors.SetError.{SetError}
 use Rattle.set_parts.specs.declared.steps.Step.{Step}
 use Rattle.set_parts.specs.declared.steps.Step.TheVariants.{Done, Rejected}
 use Rattle.mailbox_set.specs.Destroys.{destroy_edits, destroy_mailbox, destroy_of, destroy_there, removal}
-use Rattle.mailbox_updates.specs.Left.{emails_left, left_without}
-use Rattle.mailbox_updates.specs.Present.{present_at}
+use Rattle.mailbox_updates.specs.EmailsLeft.{emails_left, left_without}
+use Rattle.mailbox_updates.specs.PresentMailboxes.{present_at}
 use Rattle.mailbox_set.specs.Views.{Drops, IsStepsOf, IsToDestroy}
 use Rattle.mailbox_updates.specs.Views.{Shows, Tracks}
 use Rattle.mailbox_set.specs.declared.plan.Steps.{Steps as TheSteps}

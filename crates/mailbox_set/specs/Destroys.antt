@@ -13,7 +13,7 @@ use Rattle.set_parts.specs.declared.set_errors.SetError.TheVariants.{MailboxHasC
 use Rattle.set_parts.specs.declared.steps.Step.{Step}
 use Rattle.set_parts.specs.declared.steps.Step.TheVariants.{Rejected, Done}
 use Rattle.mailbox_creates.specs.Properties.{mailbox_meant}
-use Rattle.mailbox_updates.specs.Left.{mailboxes_but, mailboxes_left}
+use Rattle.mailbox_updates.specs.EmailsLeft.{mailboxes_but, mailboxes_left}
 
 -- some mailbox is in this one
 abbrev pub has_child : Content → ℕ → Bool

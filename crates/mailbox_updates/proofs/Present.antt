@@ -9,7 +9,7 @@ use Rattle.mail_records.specs.Tables.{IsTable, lookup, put, without}
 use Rattle.mail_records.specs.declared.records.Mailbox.{Mailbox}
 use Rattle.mail_records.proofs.Tables.{lookup-put_other, lookup-put_same, lookup-without_other, lookup-without_same}
 use Rattle.mail_counts.specs.Touched.{is_one_of}
-use Rattle.mailbox_updates.specs.Present.{is_untouched, present_at}
+use Rattle.mailbox_updates.specs.PresentMailboxes.{is_untouched, present_at}
 
 -- ---- booleans
 

@@ -18,8 +18,8 @@ use Rattle.mail_counts.proofs.Named.{named_by_number, named_none}
 use Rattle.jm_json.specs.declared.invocation.Created.{Created}
 use Rattle.set_parts.specs.CreationIds.{identifier}
 use Rattle.set_parts.specs.Views.{MeansIfAny}
-use Rattle.mailbox_updates.specs.Left.{emails_left}
-use Rattle.mailbox_updates.specs.Present.{present_at}
+use Rattle.mailbox_updates.specs.EmailsLeft.{emails_left}
+use Rattle.mailbox_updates.specs.PresentMailboxes.{present_at}
 use Rattle.mailbox_updates.specs.Views.{Shows}
 use Rattle.mailbox_updates.specs.declared.current.Current.{Current}
 use Rattle.mailbox_creates.specs.Properties.{mailbox_meant}

@@ -1,5 +1,5 @@
-pub mod Left
-pub mod Present
+pub mod EmailsLeft
+pub mod PresentMailboxes
 pub mod Updates
 pub mod Views
 pub mod UpdateViews

@@ -6,8 +6,8 @@ use Rattle.mail_records.specs.declared.edits.Edit.{Edit}
 use Rattle.mail_records.specs.declared.edits.Edit.TheVariants.{PutMailbox}
 use Rattle.mail_counts.specs.Touched.{is_one_of}
 use Rattle.set_parts.specs.Steps.{Progress as Steps}
-use Rattle.mailbox_updates.specs.Left.{emails_left}
-use Rattle.mailbox_updates.specs.Present.{present_at}
+use Rattle.mailbox_updates.specs.EmailsLeft.{emails_left}
+use Rattle.mailbox_updates.specs.PresentMailboxes.{present_at}
 use Rattle.mailbox_updates.specs.declared.current.Current.{Current}
 
 -- ---- What the updates and destroys of a set keep in step with its content.

@@ -5,7 +5,7 @@ ghost use Rattle.mail_counts.specs.Touched.{is_one_of};
 ghost use Rattle.mail_records.specs.Contents.{Content as TheContent, mailbox_at, mailbox_number};
 ghost use Rattle.mail_records.specs.Edits.{after_edit, after_edits};
 ghost use Rattle.mail_records.specs.Tables.{lookup};
-ghost use Rattle.mailbox_updates.specs.Present.{is_untouched};
+ghost use Rattle.mailbox_updates.specs.PresentMailboxes.{is_untouched};
 ghost use Rattle.mailbox_updates.specs.UpdateViews.{Counts};
 ghost use Rattle.mailbox_updates.specs.Views.{PutsMailbox, Shows, Tracks};
 ghost use Rattle.set_parts.specs.Steps.{before_steps};

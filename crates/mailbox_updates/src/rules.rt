@@ -9,7 +9,7 @@ ghost use Rattle.mail_records.specs.declared.entries.Roled.{Roled as TheRoled};
 ghost use Rattle.mail_records.specs.declared.edits.Edit.TheVariants.{PutMailbox};
 ghost use Rattle.mail_records.specs.declared.records.Mailbox.{Mailbox as TheMailbox};
 ghost use Rattle.mail_counts.specs.Tidy.{is_sibling, parent_of, same_parent, same_role};
-ghost use Rattle.mailbox_updates.specs.Present.{is_untouched};
+ghost use Rattle.mailbox_updates.specs.PresentMailboxes.{is_untouched};
 ghost use Rattle.mailbox_updates.specs.Updates.{all_keep_rules, broken_names, is_another, is_chain_broken, is_name_shared, is_role_shared, keeps_rules, keeps_rules_at, name_if};
 ghost use Rattle.mailbox_updates.specs.UpdateViews.{Counts};
 ghost use Rattle.mailbox_updates.specs.Views.{Shows, Tracks};

@@ -1,4 +1,4 @@
 pub mod Texts
-pub mod Opened
+pub mod OpenedMessages
 pub mod Plain
 pub mod Scan

@@ -32,7 +32,7 @@ impl<'a> Model for BlobMessage<'a> {
 
     ghost Value = { List ℕ };
 
-    ghost use Rattle.message_texts.specs.Opened.{IsOpened};
+    ghost use Rattle.message_texts.specs.OpenedMessages.{IsOpened};
 
     ghost view = { λ m. m.bytes.now };
 

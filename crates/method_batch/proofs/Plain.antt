@@ -9,7 +9,7 @@ use Rattle.jm_json.specs.Call.{Call}
 use Rattle.jm_json.specs.Order.{KeysRise, put}
 use Rattle.jm_json.specs.KeyIndices.{AllBelow}
 use Rattle.jm_json.proofs.Puts.{below_of}
-use Rattle.result_refs.specs.Made.{argument_bytes, referred_bytes, arguments_bytes, reference_bytes}
+use Rattle.result_refs.specs.Costs.{argument_bytes, referred_bytes, arguments_bytes, reference_bytes}
 use Rattle.result_refs.specs.References.{is_marked, referred, arguments, clashes, by_arguments, resolved, resolution}
 
 abbrev Pairs : Type 0

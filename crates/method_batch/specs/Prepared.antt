@@ -6,7 +6,7 @@ use Rattle.jm_json.specs.Tree.{Tree}
 use Rattle.jm_json.specs.Find.{as_object}
 use Rattle.jm_json.specs.Call.{Call, error_of}
 use Rattle.jm_json.specs.Invocations.{call_of}
-use Rattle.result_refs.specs.Made.{reference_bytes}
+use Rattle.result_refs.specs.Costs.{reference_bytes}
 use Rattle.result_refs.specs.References.{Resolution, bad_reference, both, resolved, resolution, is_marked}
 use Rattle.method_batch.specs.Method.{is_allowed}
 use Rattle.method_batch.specs.declared.prepare.Prepared.{Prepared}

@@ -5,7 +5,7 @@ ghost use Rattle.std.specs.List.{list_any};
 ghost use Rattle.jm_json.specs.Json.{tree_of, member_of};
 ghost use Rattle.jm_json.specs.Call.{Call, error_of};
 ghost use Rattle.jm_json.specs.Invocations.{call_of};
-ghost use Rattle.result_refs.specs.Made.{reference_bytes};
+ghost use Rattle.result_refs.specs.Costs.{reference_bytes};
 ghost use Rattle.result_refs.specs.References.{resolution, resolved, is_marked};
 ghost use Rattle.method_batch.specs.Prepared.{has_reference};
 

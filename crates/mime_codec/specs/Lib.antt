@@ -1,5 +1,5 @@
 pub mod Quoted
 pub mod Escapes
 pub mod Base64
-pub mod Waiting
+pub mod WaitingLetters
 pub mod Decoded

@@ -2,7 +2,7 @@
 // else up to three letters wait until the fourth is there.
 ghost use Rattle.std.specs.Prelude.{◌≡◌, ◌<◌, ◌+◌, ◌∷◌, ◌++◌, [], List, ℕ, ◌≤◌, ◌≢◌, IfOk, OnOk, IfSome, IfNone, Some, None, length, slice_index, vec_len, vec_capacity};
 ghost use Rattle.mime_codec.specs.Base64.{letter, with_letter, letters, packed, base64};
-ghost use Rattle.mime_codec.specs.Waiting.{before, AreSmall};
+ghost use Rattle.mime_codec.specs.WaitingLetters.{before, AreSmall};
 
 use jm_base::NoMemory;
 use std::alloc::Global;

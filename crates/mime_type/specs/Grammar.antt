@@ -107,9 +107,6 @@ pub record Params : Type 0 where
 abbrev pub onto_params : Pair → Params → Params
 onto_params p later = record { found = p ∷ later.found; whole = later.whole }
 
-abbrev pub before_params : List Pair → Params → Params
-before_params front later = record { found = front ++ later.found; whole = later.whole }
-
 -- what a turn means, where `later` reads on
 abbrev pub by_turn : Turn → (List ℕ → Params) → Params
 by_turn ends later = record { found = []; whole = true }

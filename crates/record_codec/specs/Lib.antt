@@ -5,4 +5,4 @@ pub mod Offsets
 pub mod NextBytes
 pub mod Reading
 pub mod Readers
-pub mod Ends
+pub mod LastFields

@@ -1,6 +1,6 @@
 // Reads records and edits from the start of bytes.
 ghost use Rattle.record_codec.specs.Reading.{Gives, items_at};
-ghost use Rattle.record_codec.specs.Ends.{email_end_at, end_of_email, end_of_mailbox, end_of_summary, mailbox_end_at, numbers_of_counts, summary_end_at};
+ghost use Rattle.record_codec.specs.LastFields.{email_end_at, end_of_email, end_of_mailbox, end_of_summary, mailbox_end_at, numbers_of_counts, summary_end_at};
 ghost use Rattle.record_codec.specs.Readers.{any_at, counts_at, same, summary_at, mailbox_at, email_at, thread_at, put_mailbox_at, drop_mailbox_at, put_email_at, drop_email_at, put_thread_at, drop_thread_at, edit_at, edits_at};
 
 use crate::faults::Misread;

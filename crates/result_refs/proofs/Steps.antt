@@ -7,7 +7,7 @@ use Rattle.jm_json.specs.Find.{as_list, list_of}
 use Rattle.jm_json.specs.Pointer.{cut, child}
 use Rattle.result_refs.specs.References.{gathered, step, is_marked}
 use Rattle.result_refs.specs.Parts.{later_parts}
-use Rattle.result_refs.specs.Made.{step_bytes, child_bytes}
+use Rattle.result_refs.specs.Costs.{step_bytes, child_bytes}
 
 pub step_plain : (p : List ℕ) (f : Tree → Option Tree) (t : Tree) → as_list t ≡ None → step p f t ≡ option_and_then f (child p t)
 step_plain p f null e = refl

@@ -7,7 +7,7 @@ use Rattle.jm_json.specs.Call.{Call}
 use Rattle.jm_json.specs.Pointer.{cut, child}
 use Rattle.result_refs.specs.References.{own_items, gathered, step, walked, picked, response_of, taken, text_at, asked, referred}
 use Rattle.result_refs.specs.Room.{value_bytes, items_bytes}
-use Rattle.result_refs.specs.Made.{bytes_if, sum_bytes, gathered_bytes, scan_bytes, step_bytes, parts_bytes, path_bytes, taken_bytes, asked_bytes, referred_bytes}
+use Rattle.result_refs.specs.Costs.{bytes_if, sum_bytes, gathered_bytes, scan_bytes, step_bytes, parts_bytes, path_bytes, taken_bytes, asked_bytes, referred_bytes}
 use Rattle.result_refs.specs.declared.room.TheConstants.{VALUE_BYTES}
 
 items_bytes_append : (xs ys : List Tree) → items_bytes (trees_of (xs ++ ys)) ≡ items_bytes (trees_of xs) + items_bytes (trees_of ys)

@@ -2,4 +2,4 @@ pub mod References
 pub mod Causes
 pub mod Parts
 pub mod Room
-pub mod Made
+pub mod Costs

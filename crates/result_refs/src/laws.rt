@@ -4,7 +4,7 @@ ghost use Rattle.jm_json.specs.Tree.{Tree};
 ghost use Rattle.jm_json.specs.Call.{Call};
 ghost use Rattle.result_refs.specs.References.{referred};
 ghost use Rattle.result_refs.specs.Room.{value_bytes};
-ghost use Rattle.result_refs.specs.Made.{referred_bytes};
+ghost use Rattle.result_refs.specs.Costs.{referred_bytes};
 
 /// The value that a reference makes has at most the bytes that the reference takes from the room.
 pub fn a_reference_takes_what_it_makes()

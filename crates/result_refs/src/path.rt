@@ -7,7 +7,7 @@ ghost use Rattle.jm_json.specs.Pointer.{cut, child as child_of};
 ghost use Rattle.result_refs.specs.References.{own_items, gathered, step, walked, picked};
 ghost use Rattle.result_refs.specs.Parts.{later_parts};
 ghost use Rattle.result_refs.specs.Causes.{Fails};
-ghost use Rattle.result_refs.specs.Made.{gathered_bytes, step_bytes, parts_bytes, path_bytes, child_bytes};
+ghost use Rattle.result_refs.specs.Costs.{gathered_bytes, step_bytes, parts_bytes, path_bytes, child_bytes};
 
 use crate::RefFault;
 use crate::room::{copy_within, take_room, take_scan};

@@ -5,7 +5,7 @@ ghost use Rattle.jm_json.specs.Find.{find};
 ghost use Rattle.jm_json.specs.Invocations.{call_of};
 ghost use Rattle.result_refs.specs.References.{resolution, resolution_of, resolved, unless_both, arguments, argument, clashes, referred, asked, taken, response_of, text_at, is_marked};
 ghost use Rattle.result_refs.specs.Causes.{IsFaultOf, Fails};
-ghost use Rattle.result_refs.specs.Made.{reference_bytes, argument_bytes, arguments_bytes, referred_bytes, asked_bytes, taken_bytes};
+ghost use Rattle.result_refs.specs.Costs.{reference_bytes, argument_bytes, arguments_bytes, referred_bytes, asked_bytes, taken_bytes};
 
 use crate::RefFault;
 use crate::path::pick;

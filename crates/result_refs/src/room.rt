@@ -3,7 +3,7 @@ ghost use Rattle.std.specs.Prelude.{◌≡◌, ◌≤◌, ◌+◌, ◌*◌, ⊤,
 ghost use Rattle.jm_json.specs.Tree.{trees_of, fields_of};
 ghost use Rattle.jm_json.specs.Json.{tree_of, member_of};
 ghost use Rattle.result_refs.specs.Room.{value_bytes, items_bytes, members_bytes};
-ghost use Rattle.result_refs.specs.Made.{scan_bytes};
+ghost use Rattle.result_refs.specs.Costs.{scan_bytes};
 ghost use Rattle.result_refs.specs.declared.room.TheConstants.{VALUE_BYTES};
 
 use jm_base::NoMemory;

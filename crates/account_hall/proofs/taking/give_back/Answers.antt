@@ -1,7 +1,7 @@
 use Rattle.std.proofs.Common.{◌≡◌, None, Some, true, refl, slice_get, sym, ap, ◌∙◌, subst}
 use Rattle.std.proofs.Math.ListN.{set}
 use Rattle.account_lock.specs.Entries.{ExtendsUnder}
-use Rattle.account_hall.specs.Held.{entries_in}
+use Rattle.account_hall.specs.HeldAccounts.{entries_in}
 use Rattle.account_hall.proofs.Grips.{grip_lock, grip_there, one_there}
 use Rattle.account_hall.proofs.Releases.{released_is}
 use Rattle.account_hall.proofs.taking.give_back.Goals as goal

@@ -1,6 +1,6 @@
 use Rattle.std.proofs.Common.{None, map, sym, ap, ◌∙◌, subst, arith}
 use Rattle.account_hall.specs.Halls.{AreOf, room_view}
-use Rattle.account_hall.specs.Held.{MayRelease, released_to, turn_at}
+use Rattle.account_hall.specs.HeldAccounts.{MayRelease, released_to, turn_at}
 use Rattle.account_hall.proofs.Places.{flipped}
 use Rattle.account_hall.proofs.Releases.{has_turn, of_released, still_may}
 use Rattle.account_hall.proofs.taking.give_both.Goals as goal

@@ -1,6 +1,6 @@
 use Rattle.std.proofs.Common.{◌≡◌, Some, drop, get_or, refl, slice_get, sym, take, true, ap, ◌∙◌, subst, arith}
 use Rattle.account_lock.specs.Entries.{ExtendsUnder}
-use Rattle.account_hall.specs.Held.{entries_in, released, turn_at}
+use Rattle.account_hall.specs.HeldAccounts.{entries_in, released, turn_at}
 use Rattle.account_hall.proofs.Grips.{grip_first, grip_lock, grip_lower, grip_there, one_there, turn_is}
 use Rattle.account_hall.proofs.Places.{set_lent}
 use Rattle.account_hall.proofs.Releases.{released_is}

@@ -1,6 +1,6 @@
 use Rattle.std.proofs.Common.{◌≡◌, Some, drop, get_or, refl, slice_get, sym, take, ap, ◌∙◌, arith}
 use Rattle.account_hall.specs.Halls.{entries_of}
-use Rattle.account_hall.specs.Held.{holding, turn_at}
+use Rattle.account_hall.specs.HeldAccounts.{holding, turn_at}
 use Rattle.account_hall.proofs.Grips.{grip_first, grip_lock, grip_lower, grip_there, turn_is}
 use Rattle.account_hall.proofs.Places.{set_lent}
 use Rattle.account_hall.proofs.taking.take_higher.Goals as goal

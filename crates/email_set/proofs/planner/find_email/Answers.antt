@@ -1,6 +1,6 @@
 use Rattle.std.proofs.Common.{Bor, ◌≡◌, ◌∙◌, None, Some, option_map, sym, ap}
 use Rattle.jm_base.specs.declared.identifiers.Kind.TheVariants.{Email as OfEmail}
-use Rattle.mail_counts.specs.Overlaid.{last_edit}
+use Rattle.mail_counts.specs.Overlay.{last_edit}
 use Rattle.mail_counts.proofs.Laid.{email_found, email_kept, found_is}
 use Rattle.mail_records.specs.Contents.{email_at}
 use Rattle.mail_records.specs.declared.edits.Edit.{Edit}

@@ -1,6 +1,6 @@
 use Rattle.std.proofs.Common.{◌≡◌, ◌<◌, ◌≤◌, ◌-◌, ◌^◌, length}
 use Rattle.std.specs.Str.Parse.{digits_value, digits_value_after}
-use Rattle.http_parts.specs.Found.{AreHexDigits}
+use Rattle.http_parts.specs.ChunkParts.{AreHexDigits}
 use Rattle.http_parts.proofs.chunk_lines.read_digits.Given as goal
 
 abbrev pub invariant-digit : goal.invariant-digit

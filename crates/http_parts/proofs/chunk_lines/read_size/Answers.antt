@@ -1,5 +1,5 @@
 use Rattle.std.proofs.Common.{subst, sym, ℕ, take, ap, ◌∙◌}
-use Rattle.http_parts.specs.Found.{AreHexDigits}
+use Rattle.http_parts.specs.ChunkParts.{AreHexDigits}
 use Rattle.http_parts.proofs.ChunkLines.{hex_front}
 use Rattle.http_parts.proofs.chunk_lines.read_size.Goals as goal
 

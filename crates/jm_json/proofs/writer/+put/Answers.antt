@@ -9,7 +9,7 @@ use Rattle.serde_json.specs.Written.{comma_if, compact_text, items_text, members
 use Rattle.jm_json.specs.Tree.{trees_of, fields_of}
 use Rattle.jm_json.specs.Json.{tree_of, member_of}
 use Rattle.jm_json.specs.JsonValues.{data_of, items_of, members_of}
-use Rattle.jm_json.specs.Printed.{IsPrinted, ArePrinted, MembersPrinted}
+use Rattle.jm_json.specs.RoundTrips.{IsPrinted, ArePrinted, MembersPrinted}
 use Rattle.jm_json.proofs.Sizes.{item_size, member_size}
 use Rattle.jm_json.proofs.Values.{put_member}
 use Rattle.jm_json.proofs.Writings.{moved, joined, printed_null, printed_boolean, printed_none, printed_item, printed_array, printed_all, printed_member, printed_object}

@@ -5,7 +5,7 @@ use Rattle.jm_json.specs.Tree.{trees_of, fields_of}
 use Rattle.jm_json.specs.Size.{size_of, trees_size, fields_size}
 use Rattle.jm_json.specs.Json.{tree_of, member_of}
 use Rattle.jm_json.specs.JsonValues.{items_of, members_of}
-use Rattle.jm_json.specs.Printed.{ArePrinted, MembersPrinted}
+use Rattle.jm_json.specs.RoundTrips.{ArePrinted, MembersPrinted}
 use Rattle.jm_json.proofs.writer.+put.Given as goal
 
 abbrev pub decreases-put_tree : goal.decreases-put_tree

@@ -1,5 +1,5 @@
 use Rattle.std.proofs.Common.{Global, Vec, refl, sym, ◌∙◌, reverse, [], ◌++◌, map}
-use Rattle.account_hall.specs.declared.named.Named.{Named}
+use Rattle.account_hall.specs.declared.named_account.Named.{Named}
 use Rattle.jmap_server.specs.Deeds.{GotKeeper}
 use Rattle.jmap_server.specs.Openings.{keepers_of, openings_of}
 use Rattle.jmap_server.proofs.Told.{told_none, told_on}

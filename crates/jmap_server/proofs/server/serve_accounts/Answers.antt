@@ -1,6 +1,6 @@
 use Rattle.std.proofs.Common.{ap, subst, refl, inl, reverse, map, length, arith, List}
 use Rattle.std.proofs.lemmas.List.{length-map}
-use Rattle.account_hall.specs.declared.named.Named.{Named}
+use Rattle.account_hall.specs.declared.named_account.Named.{Named}
 use Rattle.jmap_server.specs.Deeds.{GotKeeper, IsTold}
 use Rattle.jmap_server.specs.Openings.{keepers_of, openings_of}
 use Rattle.jmap_server.specs.Lines.{sight_of}

@@ -1,4 +1,4 @@
-use Rattle.account_hall.specs.declared.named.Named.{Named}
+use Rattle.account_hall.specs.declared.named_account.Named.{Named}
 use Rattle.std.proofs.Common.{Global, Vec, subst, ◌++◌, ◌∙◌, List, ℕ, Ok, Err}
 use Rattle.jmap_server.specs.Lines.{sight_of}
 use Rattle.jmap_server.specs.Openings.{openings_of}

@@ -1,6 +1,6 @@
 use Rattle.std.proofs.Common.{◌≡◌, ◌++◌, drop}
 use Rattle.mail_records.specs.Contents.{mailbox_number}
-use Rattle.mail_counts.specs.Overlaid.{all_listed}
+use Rattle.mail_counts.specs.Overlay.{all_listed}
 use Rattle.mail_counts.specs.Steps.{counted_edits}
 use Rattle.mail_counts.proofs.following.add_count_edits.Given as goal
 

@@ -1,6 +1,6 @@
 use Rattle.std.proofs.Common.{◌≡◌, ◌++◌, OnOk, subst, ◌∙◌}
 use Rattle.mail_records.specs.Contents.{mailbox_number}
-use Rattle.mail_counts.specs.Overlaid.{all_listed}
+use Rattle.mail_counts.specs.Overlay.{all_listed}
 use Rattle.mail_counts.specs.Steps.{counted_edits}
 use Rattle.mail_counts.proofs.following.add_counted_edits.Goals as goal
 

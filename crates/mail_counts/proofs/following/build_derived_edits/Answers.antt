@@ -4,7 +4,7 @@ use Rattle.mail_records.specs.Contents.{email_number}
 use Rattle.mail_records.specs.Tables.{IsTable}
 use Rattle.mail_counts.specs.DerivedEdits.{count_edits}
 use Rattle.mail_counts.specs.Members.{member_cmp, thread_members}
-use Rattle.mail_counts.specs.Overlaid.{emails_among}
+use Rattle.mail_counts.specs.Overlay.{emails_among}
 use Rattle.mail_counts.specs.Steps.{listed_edits}
 use Rattle.mail_counts.specs.Touched.{sorted_once}
 use Rattle.mail_counts.proofs.Found.{HasAll, all_found, among_after, among_before, found_before, found_now}

@@ -1,7 +1,7 @@
 use Rattle.std.proofs.Common.{◌+◌, drop, map, option_map}
 use Rattle.std.proofs.lemmas.List.{drop_more}
 use Rattle.mail_records.specs.Contents.{email_number}
-use Rattle.mail_counts.specs.Overlaid.{if_of_threads}
+use Rattle.mail_counts.specs.Overlay.{if_of_threads}
 use Rattle.mail_counts.proofs.Turns.{number_turned}
 use Rattle.mail_counts.proofs.following.collect_emails_of_threads.Goals as goal
 

@@ -1,5 +1,5 @@
 use Rattle.std.proofs.Common.{◌≡◌, ◌++◌, drop, map}
-use Rattle.mail_counts.specs.Overlaid.{emails_among}
+use Rattle.mail_counts.specs.Overlay.{emails_among}
 use Rattle.mail_counts.proofs.following.collect_emails_of_threads.Given as goal
 
 abbrev pub invariant-loop-number : goal.invariant-loop-number

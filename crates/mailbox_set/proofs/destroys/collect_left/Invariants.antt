@@ -1,5 +1,5 @@
 use Rattle.std.proofs.Common.{◌≡◌, take}
-use Rattle.mailbox_updates.specs.Left.{mailboxes_but, mailboxes_left}
+use Rattle.mailbox_updates.specs.EmailsLeft.{mailboxes_but, mailboxes_left}
 use Rattle.mailbox_set.proofs.destroys.collect_left.Given as goal
 
 abbrev pub invariant-loop-mailbox : goal.invariant-loop-mailbox

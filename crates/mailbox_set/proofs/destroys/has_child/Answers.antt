@@ -2,7 +2,7 @@ use Rattle.std.proofs.Common.{◌≡◌, true, false, Some, ◌&&◌, ◌||◌, 
 use Rattle.std.specs.List.{list_any}
 use Rattle.mail_records.specs.declared.records.Mailbox.{Mailbox}
 use Rattle.mail_counts.specs.Tidy.{same_parent}
-use Rattle.mailbox_updates.specs.Present.{is_untouched}
+use Rattle.mailbox_updates.specs.PresentMailboxes.{is_untouched}
 use Rattle.mailbox_set.proofs.Ordered.{children_found}
 use Rattle.mailbox_updates.proofs.Present.{any_present}
 use Rattle.mailbox_set.proofs.destroys.has_child.Goals as goal

@@ -1,7 +1,7 @@
 use Rattle.std.proofs.Common.{◌≡◌, drop}
 use Rattle.std.specs.List.{list_any}
 use Rattle.mail_records.specs.declared.entries.Named.{Named}
-use Rattle.mailbox_updates.specs.Present.{is_untouched}
+use Rattle.mailbox_updates.specs.PresentMailboxes.{is_untouched}
 use Rattle.mailbox_set.proofs.destroys.has_untouched.Given as goal
 
 abbrev pub invariant-loop-child : goal.invariant-loop-child

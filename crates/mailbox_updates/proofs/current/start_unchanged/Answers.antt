@@ -3,8 +3,8 @@ use Rattle.mail_counts.specs.Touched.{is_one_of}
 use Rattle.mail_records.specs.Contents.{email_number, mailbox_number}
 use Rattle.mail_records.specs.Tables.{IsTable}
 use Rattle.mail_records.specs.declared.records.Mailbox.{Mailbox}
-use Rattle.mailbox_updates.specs.Left.{emails_left}
-use Rattle.mailbox_updates.specs.Present.{present_at}
+use Rattle.mailbox_updates.specs.EmailsLeft.{emails_left}
+use Rattle.mailbox_updates.specs.PresentMailboxes.{present_at}
 use Rattle.mailbox_updates.proofs.Showing.{emails_first}
 use Rattle.mailbox_updates.proofs.current.start_unchanged.Goals as goal
 

@@ -1,7 +1,7 @@
 use Rattle.std.proofs.Common.{◌≡◌, ◌&&◌, ◌==◌, not, drop}
 use Rattle.std.specs.List.{list_any}
 use Rattle.mail_records.specs.declared.entries.Roled.{Roled}
-use Rattle.mailbox_updates.specs.Present.{is_untouched}
+use Rattle.mailbox_updates.specs.PresentMailboxes.{is_untouched}
 use Rattle.mailbox_updates.proofs.rules.has_untouched_role.Given as goal
 
 abbrev pub invariant-loop-mailbox : goal.invariant-loop-mailbox

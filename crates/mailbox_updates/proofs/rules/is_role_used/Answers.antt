@@ -3,7 +3,7 @@ use Rattle.std.specs.List.{list_any}
 use Rattle.mail_records.specs.declared.records.Mailbox.{Mailbox}
 use Rattle.mail_counts.specs.Tidy.{same_role}
 use Rattle.mail_counts.proofs.Lookups.{roles_found}
-use Rattle.mailbox_updates.specs.Present.{is_untouched}
+use Rattle.mailbox_updates.specs.PresentMailboxes.{is_untouched}
 use Rattle.mailbox_updates.proofs.Breaking.{and_assoc, any_same}
 use Rattle.mailbox_updates.proofs.Present.{any_present}
 use Rattle.mailbox_updates.proofs.rules.is_role_used.Goals as goal

@@ -1,6 +1,6 @@
 use Rattle.std.proofs.Common.{◌≡◌, ◌++◌, length}
 use Rattle.mime_codec.specs.Base64.{letters, packed, base64}
-use Rattle.mime_codec.specs.Waiting.{before, AreSmall}
+use Rattle.mime_codec.specs.WaitingLetters.{before, AreSmall}
 use Rattle.mime_codec.proofs.base64.decode_base64.Given as goal
 
 abbrev pub invariant-loop-byte : goal.invariant-loop-byte

@@ -5,7 +5,7 @@ use Rattle.jm_json.specs.Json.{tree_of}
 use Rattle.result_refs.specs.References.{step, walked}
 use Rattle.result_refs.specs.Parts.{later_parts}
 use Rattle.result_refs.specs.Causes.{Fails}
-use Rattle.result_refs.specs.Made.{step_bytes, parts_bytes}
+use Rattle.result_refs.specs.Costs.{step_bytes, parts_bytes}
 use Rattle.result_refs.proofs.Steps.{step_plain, step_bytes_plain, parts_cut}
 use Rattle.result_refs.proofs.path.+walk.Goals as goal
 

@@ -2,7 +2,7 @@ use Rattle.std.proofs.Common.{◌≡◌, ◌≤◌, ◌+◌, ◌*◌, ◌++◌, 
 use Rattle.jm_json.specs.Json.{tree_of}
 use Rattle.result_refs.specs.References.{gathered, walked}
 use Rattle.result_refs.specs.Parts.{later_parts}
-use Rattle.result_refs.specs.Made.{parts_bytes, sum_bytes}
+use Rattle.result_refs.specs.Costs.{parts_bytes, sum_bytes}
 use Rattle.result_refs.specs.declared.room.TheConstants.{VALUE_BYTES}
 use Rattle.result_refs.proofs.path.+walk.Given as goal
 

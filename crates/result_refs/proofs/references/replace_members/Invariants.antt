@@ -2,7 +2,7 @@ use Rattle.std.proofs.Common.{◌≡◌, ◌≤◌, ◌+◌, [], map, length}
 use Rattle.jm_json.specs.Json.{member_of}
 use Rattle.jm_json.specs.Invocations.{call_of}
 use Rattle.result_refs.specs.References.{arguments}
-use Rattle.result_refs.specs.Made.{arguments_bytes}
+use Rattle.result_refs.specs.Costs.{arguments_bytes}
 use Rattle.result_refs.proofs.references.replace_members.Given as goal
 
 abbrev pub invariant-loop-member : goal.invariant-loop-member
