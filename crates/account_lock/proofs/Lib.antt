@@ -5,3 +5,4 @@ pub mod Naming
 pub mod Joining
 pub mod Closing
 pub mod Diaries
+pub mod Sending

@@ -1,5 +1,5 @@
 use denote.Param.Send.{sendable}
-use Rattle.measure.proofs.Sending.{pass_send}
+use Rattle.account_lock.proofs.Sending.{pass_send}
 use Rattle.measure.proofs.lock.by_account_lock.Goals as goal
 
 pub map_vec-requires-send-J : goal.map_vec-requires-send-J
