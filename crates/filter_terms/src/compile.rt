@@ -10,8 +10,8 @@ ghost use Rattle.filter_terms.specs.Compiled.{match_each, terms_match, MeanCondi
 use crate::compiled::Terms;
 use crate::conditions::{
     build_after_condition, build_before_condition, build_in_mailbox_condition,
-    build_in_mailbox_other_than_condition, build_max_size_condition, build_min_size_condition,
-    has_attachment, keyword, read_mailbox_condition,
+    build_in_mailbox_other_than_condition, build_keyword_condition, build_max_size_condition,
+    build_min_size_condition, has_attachment, read_mailbox_condition,
 };
 use crate::message_conditions::{build_header_condition, contains};
 use crate::terms::{EmailTerm, Operator, Term, find_term, read_operator};
@@ -33,7 +33,9 @@ fn read_email_term(alloc: Global, term: EmailTerm, value: &Json) -> Result<Terms
         EmailTerm::After => Ok(Terms::OfEmail(build_after_condition(value))),
         EmailTerm::MinSize => Ok(Terms::OfEmail(build_min_size_condition(value))),
         EmailTerm::MaxSize => Ok(Terms::OfEmail(build_max_size_condition(value))),
-        EmailTerm::Keyword(test) => Ok(Terms::OfEmail(keyword(alloc, test, value)?)),
+        EmailTerm::Keyword(test) => Ok(Terms::OfEmail(build_keyword_condition(
+            alloc, test, value,
+        )?)),
         EmailTerm::HasAttachment => Ok(Terms::OfEmail(has_attachment(value))),
         EmailTerm::Contains(place) => Ok(Terms::OfMessage(contains(alloc, place, value)?)),
         EmailTerm::Header => Ok(Terms::OfMessage(build_header_condition(alloc, value)?)),

@@ -163,7 +163,7 @@ pub(crate) fn has_attachment(value: &Json) -> EmailCondition
     }
 }
 
-pub(crate) fn keyword(
+pub(crate) fn build_keyword_condition(
     alloc: Global,
     test: KeywordTest,
     value: &Json,

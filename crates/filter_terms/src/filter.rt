@@ -11,10 +11,10 @@ ghost use Rattle.filter_terms.specs.ThreadScope;
 use crate::compile::compile;
 use crate::compiled::{Terms, match_email_terms, match_mailbox_terms};
 use crate::faults::TermFault;
-use crate::invalid::invalid;
+use crate::invalid::find_invalid_name;
 use crate::texts::Texts2;
 use crate::thread_scope::is_wide_tree;
-use crate::unsupported::unsupported;
+use crate::unsupported::find_unsupported_name;
 use jm_base::{Kind, NoMemory, Text};
 use jm_json::{Json, copy};
 use mail_records::{Content, Email, Mailbox};
@@ -59,10 +59,10 @@ pub fn read_filter(alloc: Global, kind: Kind, tree: &Json) -> Result<Filter, Ter
     ensures form { OnOk result (IsFilter kind (tree_of tree.now)) }
     ensures err { IfErr result (λ e. Refuses kind (tree_of tree.now) e) }
 {
-    if let Some(name) = invalid(kind, tree) {
+    if let Some(name) = find_invalid_name(kind, tree) {
         return Err(TermFault::Invalid(Text::from_str(alloc, name)?));
     }
-    if let Some(name) = unsupported(kind, tree) {
+    if let Some(name) = find_unsupported_name(kind, tree) {
         return Err(TermFault::Unsupported(Text::from_str(alloc, name)?));
     }
     let terms = compile(alloc, kind, tree)?;

@@ -131,7 +131,7 @@ fn find_invalid_operator(operator: &Json) -> Option<&'static str>
 /// Returns the name of the first member that is missing or whose value is of a wrong kind, the
 /// empty name if the tree is neither null nor an object, or `None`.
 #[cycle(invalid)]
-pub(crate) fn invalid(kind: Kind, tree: &Json) -> Option<&str>
+pub(crate) fn find_invalid_name(kind: Kind, tree: &Json) -> Option<&str>
     ensures { option_map (λ s. s.now) result ≡ invalid kind (tree_of tree.now) }
 {
     match tree {
@@ -186,7 +186,7 @@ fn find_invalid_in_items(kind: Kind, items: &[Json]) -> Option<&str>
         ≡ invalid_items kind (trees_of (map tree_of items.now)) }
 {
     for item in items {
-        if let Some(name) = invalid(kind, item) {
+        if let Some(name) = find_invalid_name(kind, item) {
             return Some(name);
         }
     }

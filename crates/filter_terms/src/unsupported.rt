@@ -29,7 +29,7 @@ fn keep_extra_name(name: &str) -> Option<&str>
 /// Returns the name of the first condition or member of an operator that no filter of the kind has,
 /// or `None`.
 #[cycle(unsupported)]
-pub(crate) fn unsupported(kind: Kind, tree: &Json) -> Option<&str>
+pub(crate) fn find_unsupported_name(kind: Kind, tree: &Json) -> Option<&str>
     ensures { option_map (λ s. s.now) result ≡ unsupported kind (tree_of tree.now) }
 {
     match tree {
@@ -91,7 +91,7 @@ fn find_unsupported_in_items(kind: Kind, items: &[Json]) -> Option<&str>
         ≡ unsupported_items kind (trees_of (map tree_of items.now)) }
 {
     for item in items {
-        if let Some(name) = unsupported(kind, item) {
+        if let Some(name) = find_unsupported_name(kind, item) {
             return Some(name);
         }
     }

@@ -142,7 +142,7 @@ fn read_all(alloc: Global, characters: &[char]) -> Result<Vec<AddressCharacter>,
     Ok(read)
 }
 
-fn characters(alloc: Global, text: &str) -> Result<Vec<char>, NoMemory>
+fn collect_characters(alloc: Global, text: &str) -> Result<Vec<char>, NoMemory>
     ensures { IfOk result (λ cs. cs.items ≡ chars text.now) }
 {
     Ok(text.chars().collect(alloc)?)
@@ -152,6 +152,6 @@ fn characters(alloc: Global, text: &str) -> Result<Vec<char>, NoMemory>
 pub fn read_characters(alloc: Global, text: &str) -> Result<Vec<AddressCharacter>, NoMemory>
     ensures { IfOk result (λ ms. ms.items ≡ address_characters text.now) }
 {
-    let all = characters(alloc, text)?;
+    let all = collect_characters(alloc, text)?;
     read_all(alloc, all.as_slice())
 }

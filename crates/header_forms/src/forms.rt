@@ -36,7 +36,7 @@ fn show_address(alloc: Global, address: Address) -> Result<Json, NoMemory>
     Ok(Json::Object(members))
 }
 
-fn address_items(alloc: Global, addresses: Addresses) -> Result<Items, NoMemory>
+fn show_addresses(alloc: Global, addresses: Addresses) -> Result<Items, NoMemory>
     ensures { IfOk result (λ ts. ts ≡ map Forms.address_tree addresses) }
 {
     let mut items = Items::with_room(alloc, addresses.len())?;
@@ -52,7 +52,7 @@ fn show_group(alloc: Global, group: Group) -> Result<Json, NoMemory>
     ensures { IfOk result (λ t. tree_of t ≡ Forms.group_tree group) }
 {
     let Group { name, addresses } = group;
-    let addresses = address_items(alloc, addresses)?;
+    let addresses = show_addresses(alloc, addresses)?;
     let mut members = Members::with_room(alloc, 2)?;
     members.set(alloc, "addresses", Json::List(addresses))?;
     members.set(alloc, "name", show_text_or_null(name))?;
@@ -113,7 +113,7 @@ fn read_address_list(alloc: Global, value: &[u8]) -> Result<Json, NoMemory>
 {
     let line = unfold_value(alloc, value)?;
     let addresses = parse_addresses(alloc, line.as_str())?;
-    Ok(Json::List(address_items(alloc, addresses)?))
+    Ok(Json::List(show_addresses(alloc, addresses)?))
 }
 
 fn read_group_list(alloc: Global, value: &[u8]) -> Result<Json, NoMemory>

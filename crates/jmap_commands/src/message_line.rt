@@ -14,7 +14,7 @@ use std::alloc::Global;
 /// Returns the line of a message: the properties that a client is shown where it asks for none, its
 /// structure, and the texts that are shown as plain text. The message is dropped before the line is
 /// written, so that the two are never held together.
-pub(crate) fn message_line(alloc: Global, message: Bytes) -> Result<Bytes, NoMemory>
+pub(crate) fn build_message_line(alloc: Global, message: Bytes) -> Result<Bytes, NoMemory>
     ensures { IfOk result (λ b. b ≡ read_out message) }
 {
     let tree = build_message_tree(alloc, message)?;

@@ -8,7 +8,7 @@ ghost use Rattle.jmap_commands.specs.Endings.{Explains, Unread, Written};
 
 use crate::arguments::Command;
 use crate::ending::Ending;
-use crate::message_line::message_line;
+use crate::message_line::build_message_line;
 use jm_base::{Bytes, READ_BUFFER_BYTES};
 use jm_edge::{Sink, Source, put_all};
 use std::alloc::Global;
@@ -34,7 +34,7 @@ fn write_message<O: Sink>(alloc: Global, message: Bytes, out: &mut O) -> Ending
     ensures { Written result (O.held out.old) (O.held out.new) (O.faults out.old)
         (O.faults out.new) (read_out message) }
 {
-    match message_line(alloc, message) {
+    match build_message_line(alloc, message) {
         Ok(line) => write_line(line.as_slice(), out),
         Err(_) => Ending::NoMemory,
     }

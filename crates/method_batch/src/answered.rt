@@ -7,7 +7,7 @@ ghost use Rattle.method_batch.specs.Outcome.{problem_tree};
 
 use crate::outcome::{Outcome, Problem};
 use crate::progress::Progress;
-use crate::response::{response, write_response};
+use crate::response::{build_response, write_response};
 use jm_base::{Bytes, NoMemory};
 use jm_json::{Scratch, write_with};
 use std::alloc::Global;
@@ -33,7 +33,7 @@ impl Answered {
             Answered::Rejected(problem) => Outcome::reject(alloc, problem),
             Answered::Performed(shows, after) => Ok(Outcome {
                 status: 200,
-                tree: response(alloc, shows, after)?,
+                tree: build_response(alloc, shows, after)?,
             }),
         }
     }

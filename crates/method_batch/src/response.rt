@@ -20,7 +20,7 @@ const SESSION_STATE: &str = "0";
 
 /// Returns the tree of the Response to a request that came this far, which is moved into it. It has
 /// `createdIds` if the request had them.
-pub(crate) fn response(alloc: Global, shows: bool, after: Progress) -> Result<Json, NoMemory>
+pub(crate) fn build_response(alloc: Global, shows: bool, after: Progress) -> Result<Json, NoMemory>
     ensures { IfOk result (λ t. tree_of t ≡ response_tree shows after) }
 {
     let Progress { responses, made } = after;
@@ -46,7 +46,7 @@ pub(crate) fn write_response(
     ensures err { OnErr result (out.new ≡ out.old) }
 {
     if shows {
-        let tree = response(alloc, shows, after)?;
+        let tree = build_response(alloc, shows, after)?;
         return write_with(alloc, scratch, out, &tree);
     }
     write_responses(

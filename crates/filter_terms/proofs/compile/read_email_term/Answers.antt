@@ -26,6 +26,6 @@ returns-in_ok-build_in_mailbox_other_than_condition-in-InMailboxOtherThan c =
     let found = c.in_ok-build_in_mailbox_other_than_condition-in-InMailboxOtherThan in
     email_term_means found.field-0 c.args.term InMailboxOtherThan (tree_of c.args.value.now) c.in-InMailboxOtherThan.is found.ensures
 
-pub returns-in_ok-keyword-in-Keyword : goal.returns-in_ok-keyword-in-Keyword
-returns-in_ok-keyword-in-Keyword c =
-    email_term_means c.in_ok-keyword-in-Keyword.field-0 c.args.term (Keyword c.in-Keyword.test) (tree_of c.args.value.now) c.in-Keyword.is c.in_ok-keyword-in-Keyword.ensures
+pub returns-in_ok-build_keyword_condition-in-Keyword : goal.returns-in_ok-build_keyword_condition-in-Keyword
+returns-in_ok-build_keyword_condition-in-Keyword c =
+    email_term_means c.in_ok-build_keyword_condition-in-Keyword.field-0 c.args.term (Keyword c.in-Keyword.test) (tree_of c.args.value.now) c.in-Keyword.is c.in_ok-build_keyword_condition-in-Keyword.ensures

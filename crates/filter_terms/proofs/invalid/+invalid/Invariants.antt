@@ -5,8 +5,8 @@ use Rattle.jm_json.specs.Json.{tree_of, member_of}
 use Rattle.filter_terms.specs.Forms.{invalid_conditions, invalid_items}
 use Rattle.filter_terms.proofs.invalid.+invalid.Given as goal
 
-abbrev pub decreases-invalid : goal.decreases-invalid
-decreases-invalid l = 4 * size_of (tree_of l.tree.now)
+abbrev pub decreases-find_invalid_name : goal.decreases-find_invalid_name
+decreases-find_invalid_name l = 4 * size_of (tree_of l.tree.now)
 
 abbrev pub decreases-find_invalid_in_object : goal.decreases-find_invalid_in_object
 decreases-find_invalid_in_object l = 4 * fields_size (fields_of l.members.now) + 3

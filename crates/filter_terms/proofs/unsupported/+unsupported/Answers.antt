@@ -7,7 +7,7 @@ find_unsupported_in_members-find_unsupported_in_member-requires t c =
     let h = member_size c.args.members.now c.loop-member.member-index c.member-item.result (omega arith) in
     (omega (arith, rw (sym c.member-item.is) at h, c.decreases), tt)
 
-pub find_unsupported_in_items-unsupported-requires : goal.find_unsupported_in_items-unsupported-requires
-find_unsupported_in_items-unsupported-requires t c =
+pub find_unsupported_in_items-find_unsupported_name-requires : goal.find_unsupported_in_items-find_unsupported_name-requires
+find_unsupported_in_items-find_unsupported_name-requires t c =
     let h = item_size c.args.items.now c.loop-item.item-index c.item-item.result (omega arith) in
     (omega (arith, rw (sym c.item-item.is) at h, c.decreases), tt)

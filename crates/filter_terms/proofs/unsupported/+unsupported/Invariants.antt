@@ -5,8 +5,8 @@ use Rattle.jm_json.specs.Json.{tree_of, member_of}
 use Rattle.filter_terms.specs.Forms.{unsupported_members, unsupported_items}
 use Rattle.filter_terms.proofs.unsupported.+unsupported.Given as goal
 
-abbrev pub decreases-unsupported : goal.decreases-unsupported
-decreases-unsupported l = 4 * size_of (tree_of l.tree.now)
+abbrev pub decreases-find_unsupported_name : goal.decreases-find_unsupported_name
+decreases-find_unsupported_name l = 4 * size_of (tree_of l.tree.now)
 
 abbrev pub decreases-find_unsupported_in_object : goal.decreases-find_unsupported_in_object
 decreases-find_unsupported_in_object l = 4 * fields_size (fields_of l.members.now) + 3
