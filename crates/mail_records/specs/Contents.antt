@@ -5,6 +5,7 @@ use Rattle.mail_records.specs.Tables.{lookup, IsTable, IsNumbered}
 use Rattle.mail_records.specs.declared.records.Mailbox.{Mailbox}
 use Rattle.mail_records.specs.declared.records.Email.{Email}
 use Rattle.mail_records.specs.declared.records.Thread.{Thread}
+use Rattle.mail_records.specs.declared.entries.EmailBlob.{EmailBlob}
 use Rattle.jm_base.specs.declared.identifiers.Kind.{Kind}
 use Rattle.jm_base.specs.declared.identifiers.Kind.TheVariants.{Mailbox as OfMailbox, Email as OfEmail, Thread as OfThread}
 
@@ -43,6 +44,10 @@ email_number e = e.number
 
 abbrev pub thread_number : Thread → ℕ
 thread_number t = t.number
+
+-- the number of an email, and that of the blob that is its message
+abbrev pub blob_of : Email → EmailBlob
+blob_of e = record { email = e.number; blob = e.blob }
 
 -- the mailbox, the email and the thread of a number
 abbrev pub mailbox_at : Content → ℕ → Option Mailbox

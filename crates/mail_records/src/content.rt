@@ -1,6 +1,6 @@
 // The content of an account: a table of each kind of record, and the next numbers.
-ghost use Rattle.std.specs.Prelude.{◌≡◌, ◌+◌, ◌*◌, ◌<◌, ◌≤◌, ◌^◌, false, Some, None, OnOk, OnErr, IfOk, MatchOption, length};
-ghost use Rattle.mail_records.specs.Contents.{mailbox_number, email_number, thread_number, mailbox_at, email_at, thread_at, next_of, empty_content};
+ghost use Rattle.std.specs.Prelude.{◌≡◌, ◌+◌, ◌*◌, ◌<◌, ◌≤◌, ◌^◌, false, Some, None, OnOk, OnErr, IfOk, MatchOption, length, map};
+ghost use Rattle.mail_records.specs.Contents.{blob_of, mailbox_number, email_number, thread_number, mailbox_at, email_at, thread_at, next_of, empty_content};
 ghost use Rattle.mail_records.specs.Edits.{Fits, HasNext, IsSmall, after_edit};
 ghost use Rattle.mail_records.specs.Orders.{AreByReceived, AreChildren, AreChildrenNamed, AreInMailbox, AreInThread, AreWithLink, AreWithRole};
 ghost use Rattle.mail_records.specs.Tables.{IsTable};
@@ -9,7 +9,9 @@ ghost use Rattle.mail_records.specs.declared.limits.TheConstants.{MAX_LINKS_PER_
 use crate::emails::Emails;
 use crate::limits::{MAX_LINKS_PER_EMAIL, MAX_MAILBOXES_PER_EMAIL};
 use crate::mailboxes::Mailboxes;
-use crate::{Dated, Edit, Email, Linked, Mailbox, Named, Placed, Roled, Table, Thread, Threaded};
+use crate::{
+    Dated, Edit, Email, EmailBlob, Linked, Mailbox, Named, Placed, Roled, Table, Thread, Threaded,
+};
 use jm_base::{Kind, NoMemory};
 use std::alloc::Global;
 use std::marker::Model;
@@ -95,6 +97,14 @@ impl Content {
         ensures table { IsTable email_number result.now }
     {
         self.emails.table().as_slice()
+    }
+
+    /// Lends the number of each email with that of the blob that is its message, in the order of
+    /// the emails' numbers. It holds 16 bytes an email, so a walk over it reads no record.
+    pub fn email_blobs(&self) -> &[EmailBlob]
+        ensures { result.now ≡ map blob_of self.now.content.emails }
+    {
+        self.emails.blobs()
     }
 
     /// Lends the threads, in number order.

@@ -1,22 +1,23 @@
-// The emails of a content: their table, and the orders by the time received, by thread, by
-// mailbox and by link.
-ghost use Rattle.std.specs.Prelude.{◌≡◌, ◌+◌, ◌≤◌, [], None, Some, OnOk, IfOk, ◌&&◌, length};
-ghost use Rattle.mail_records.specs.Contents.{email_number};
+// The emails of a content: their table, the blob of each, and the orders by the time received, by
+// thread, by mailbox and by link.
+ghost use Rattle.std.specs.Prelude.{◌≡◌, ◌+◌, ◌≤◌, [], None, Some, OnOk, IfOk, ◌&&◌, length, map};
+ghost use Rattle.mail_records.specs.Contents.{blob_of, email_number};
 ghost use Rattle.mail_records.specs.Orders.{AreKeys, any_key, has_text, is_in_group, keys_of, dated_key, dated_owner, link_keys, linked_key, linked_owner, mailbox_keys, placed_key, placed_owner, received_keys, thread_keys, threaded_key, threaded_owner};
 ghost use Rattle.mail_records.specs.Tables.{put, without};
 
-use crate::entries::{Dated, Linked, Placed, Threaded};
+use crate::entries::{Dated, EmailBlob, Linked, Placed, Threaded};
 use crate::orders::{copy_entries, find_group_entries, forget, leave, settle, with_text};
 use crate::{Email, Record, Table};
 use jm_base::NoMemory;
 use std::alloc::Global;
 use std::marker::Model;
 
-/// The emails by number, and their orders. Contracts see for how many puts, and for how many
-/// entries of the orders by mailbox and by link, there is room.
+/// The emails by number, the blob of each, and their orders. Contracts see for how many puts, and
+/// for how many entries of the orders by mailbox and by link, there is room.
 #[derive(Drop)]
 pub(crate) struct Emails {
     table: Table<Email>,
+    blobs: Table<EmailBlob>,
     by_received: Vec<Dated>,
     by_thread: Vec<Threaded>,
     by_mailbox: Vec<Placed>,
@@ -24,8 +25,8 @@ pub(crate) struct Emails {
 }
 
 impl Model for Emails {
-    ghost use Rattle.std.specs.Prelude.{◌-◌, min, vec_len, vec_capacity};
-    ghost use Rattle.mail_records.specs.Contents.{email_number};
+    ghost use Rattle.std.specs.Prelude.{◌≡◌, ◌-◌, map, min, vec_len, vec_capacity};
+    ghost use Rattle.mail_records.specs.Contents.{blob_of, email_number};
     ghost use Rattle.mail_records.specs.Orders.{AreKeys, any_key, keys_of, dated_key, dated_owner, link_keys, linked_key, linked_owner, mailbox_keys, placed_key, placed_owner, received_keys, thread_keys, threaded_key, threaded_owner};
     ghost use Rattle.mail_records.specs.Views.{EmailRows};
 
@@ -34,13 +35,15 @@ impl Model for Emails {
     ghost view = { λ e. record {
       rows = e.table.rows;
       spare = min e.table.spare
+          (min e.blobs.spare
           (min (vec_capacity e.by_received - vec_len e.by_received)
-          (vec_capacity e.by_thread - vec_len e.by_thread));
+          (vec_capacity e.by_thread - vec_len e.by_thread)));
       placed = vec_capacity e.by_mailbox - vec_len e.by_mailbox;
       linked = vec_capacity e.by_link - vec_len e.by_link;
     } };
 
-    ghost invariant = { λ e. AreKeys any_key email_number received_keys e.table.rows
+    ghost invariant = { λ e. (e.blobs.rows ≡ map blob_of e.table.rows)
+        × AreKeys any_key email_number received_keys e.table.rows
         (keys_of email_number dated_owner dated_key e.table.rows e.by_received.items)
         × AreKeys any_key email_number thread_keys e.table.rows
         (keys_of email_number threaded_owner threaded_key e.table.rows e.by_thread.items)
@@ -57,6 +60,7 @@ impl Emails {
     {
         Emails {
             table: Table::new(alloc),
+            blobs: Table::new(alloc),
             by_received: Vec::new(alloc),
             by_thread: Vec::new(alloc),
             by_mailbox: Vec::new(alloc),
@@ -69,12 +73,14 @@ impl Emails {
         ensures { IfOk result (λ e. e.rows ≡ self.now.rows) }
     {
         let table = self.table.copy(alloc)?;
+        let blobs = self.blobs.copy(alloc)?;
         let by_received = copy_entries(alloc, &self.by_received)?;
         let by_thread = copy_entries(alloc, &self.by_thread)?;
         let by_mailbox = copy_entries(alloc, &self.by_mailbox)?;
         let by_link = copy_entries(alloc, &self.by_link)?;
         Ok(Emails {
             table,
+            blobs,
             by_received,
             by_thread,
             by_mailbox,
@@ -87,6 +93,13 @@ impl Emails {
         ensures { result.now.rows ≡ self.now.rows }
     {
         &self.table
+    }
+
+    /// Lends the number of each email with that of its blob, in number order.
+    pub(crate) fn blobs(&self) -> &[EmailBlob]
+        ensures { result.now ≡ map blob_of self.now.rows }
+    {
+        self.blobs.as_slice()
     }
 
     /// Makes room for so many more emails, and so many entries by mailbox and by link.
@@ -104,6 +117,7 @@ impl Emails {
             × (self.old.linked ≤ self.new.linked) }
     {
         self.table.reserve(more)?;
+        self.blobs.reserve(more)?;
         self.by_received.reserve(more)?;
         self.by_thread.reserve(more)?;
         self.by_mailbox.reserve(placed)?;
@@ -122,11 +136,16 @@ impl Emails {
         ensures linked { self.old.linked ≤ self.new.linked + length item.summary.links }
     {
         let number = item.number;
+        let blob = EmailBlob {
+            email: number,
+            blob: item.blob,
+        };
         let dated = leave(&self.table, &mut self.by_received, &item);
         let threaded = leave(&self.table, &mut self.by_thread, &item);
         let placed = leave(&self.table, &mut self.by_mailbox, &item);
         let linked = leave(&self.table, &mut self.by_link, &item);
         self.table.put_ready(item);
+        self.blobs.put_ready(blob);
         settle(&self.table, &mut self.by_received, number, dated);
         settle(&self.table, &mut self.by_thread, number, threaded);
         settle(&self.table, &mut self.by_mailbox, number, placed);
@@ -145,6 +164,7 @@ impl Emails {
         forget(&self.table, &mut self.by_mailbox, number);
         forget(&self.table, &mut self.by_link, number);
         self.table.take_out(number);
+        self.blobs.take_out(number);
     }
 
     /// Lends all emails in the order of the time received, then number.

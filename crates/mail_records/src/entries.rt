@@ -1,4 +1,9 @@
-// The entries of the orders that a content keeps next to its tables.
+// The entries of the orders and of the list of blobs that a content keeps next to its tables.
+ghost use Rattle.std.specs.Prelude.{◌≡◌, IfOk};
+
+use crate::table::Record;
+use jm_base::NoMemory;
+use std::alloc::Global;
 
 /// A mailbox in the order of mailboxes by parent and name.
 #[derive(Clone, Copy, Debug, PartialEq, Eq)]
@@ -53,4 +58,25 @@ pub struct Linked {
     pub email: u64,
     /// The index of the link in the email's summary.
     pub place: u64,
+}
+
+/// An email in the list of blobs by email.
+#[derive(Clone, Copy, Debug, PartialEq, Eq)]
+pub struct EmailBlob {
+    /// The number of the email.
+    pub email: u64,
+    /// The number of the blob that is its message.
+    pub blob: u64,
+}
+
+impl Record for EmailBlob {
+    ghost number = { λ b. b.email };
+
+    fn number(&self) -> u64 {
+        self.email
+    }
+
+    fn copy(&self, _alloc: Global) -> Result<EmailBlob, NoMemory> {
+        Ok(*self)
+    }
 }

@@ -22,7 +22,7 @@ mod table;
 
 pub use content::{Content, apply};
 pub use edits::{Commit, Edit, Edits, Stamp, copy_edits};
-pub use entries::{Dated, Linked, Named, Placed, Roled, Threaded};
+pub use entries::{Dated, EmailBlob, Linked, Named, Placed, Roled, Threaded};
 pub use fitting::{Applied, apply_all_ready, apply_fitting, fits, keeps_thread};
 pub use laws::{
     histories_are_founded, histories_are_sound, histories_grow, keys_tell_lists,
