@@ -25,6 +25,9 @@ found_put number item old rows is = ap (lookup number (number item)) is ∙ look
 pub least_of_three : (old a b c d e f : ℕ) → min a (min b c) ≡ old → a ≤ d + 1 → b ≤ e + 1 → c ≤ f + 1 → old ≤ min d (min e f) + 1
 least_of_three old a b c d e f is x y z = omega arith
 
+pub least_of_four : (old a b c d e f g h : ℕ) → min a (min b (min c d)) ≡ old → a ≤ e + 1 → b ≤ f + 1 → c ≤ g + 1 → d ≤ h + 1 → old ≤ min e (min f (min g h)) + 1
+least_of_four old a b c d e f g h is w x y z = omega arith
+
 -- room in a vector from which some entries were taken and into which at most n were put
 pub room_after : (cap len mid new cap2 cap3 n : ℕ) → mid ≤ len → new ≤ mid + n → cap2 ≡ cap → cap3 ≡ cap2 → cap - len ≤ (cap3 - new) + n
 room_after cap len mid new cap2 cap3 n a b c d = omega arith

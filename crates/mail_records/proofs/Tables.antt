@@ -1,5 +1,5 @@
 -- What a put and a removal change in a table.
-use Rattle.std.proofs.Common.{◌≡◌, ℕ, ◌<◌, ◌≤◌, arith, not, Bool, true, false, cond, eqb, ltb, List, [], ◌∷◌, filter, Some, None, refl, sym, ap, ◌∙◌, subst, ⊎_elim, eq-eqb}
+use Rattle.std.proofs.Common.{◌≡◌, ℕ, ◌<◌, ◌≤◌, arith, not, Bool, true, false, cond, eqb, ltb, List, [], ◌∷◌, filter, map, Some, None, refl, sym, ap, ◌∙◌, subst, ⊎_elim, eq-eqb}
 use Rattle.std.specs.List.{AllByRecursion}
 use Rattle.std.proofs.lemmas.Bool.{cases_Bool, ne_eqb, eqb-true, eqb-false, ltb-true, ltb-false}
 use Rattle.mail_records.specs.Tables.{IsTable, lookup, put, without}
@@ -147,3 +147,30 @@ IsTable-without number n (x ∷ xs) table =
     (λ (s : eqb (number x) n ≡ true). rw s (IsTable-without number n xs table.1))
     (λ (s : eqb (number x) n ≡ false). rw s (All-kept (λ y. number x < number y) (λ y. not (eqb (number y) n)) xs table.0, IsTable-without number n xs table.1))
     (cases_Bool (eqb (number x) n))
+
+-- A function over a table's records that keeps their numbers goes through a put and a removal.
+pub map_put : {R S : Type 0} (number : R → ℕ) (key : S → ℕ) (f : R → S) → ((x : R) → key (f x) ≡ number x) → (r : R) (xs : List R)
+    → map f (put number r xs) ≡ put key (f r) (map f xs)
+map_put number key f same r [] = refl
+map_put number key f same r (x ∷ xs) =
+    rw (same r)
+    (rw (same x)
+    (⊎_elim
+    (λ (lt : ltb (number r) (number x) ≡ true). rw lt refl)
+    (λ (lt : ltb (number r) (number x) ≡ false).
+    rw lt
+    (⊎_elim
+    (λ (s : eqb (number r) (number x) ≡ true). rw s refl)
+    (λ (s : eqb (number r) (number x) ≡ false). rw s (ap (λ zs. f x ∷ zs) (map_put number key f same r xs)))
+    (cases_Bool (eqb (number r) (number x)))))
+    (cases_Bool (ltb (number r) (number x)))))
+
+pub map_without : {R S : Type 0} (number : R → ℕ) (key : S → ℕ) (f : R → S) → ((x : R) → key (f x) ≡ number x) → (n : ℕ) (xs : List R)
+    → map f (without number n xs) ≡ without key n (map f xs)
+map_without number key f same n [] = refl
+map_without number key f same n (x ∷ xs) =
+    rw (same x)
+    (⊎_elim
+    (λ (s : eqb (number x) n ≡ true). rw s (map_without number key f same n xs))
+    (λ (s : eqb (number x) n ≡ false). rw s (ap (λ zs. f x ∷ zs) (map_without number key f same n xs)))
+    (cases_Bool (eqb (number x) n)))

@@ -1,10 +1,11 @@
-use Rattle.std.proofs.Common.{◌≡◌, ◌≤◌, ◌+◌, ◌-◌, Some, ap, sym, ◌∙◌, subst, arith, length, vec_len, vec_capacity}
+use Rattle.std.proofs.Common.{◌≡◌, ◌≤◌, ◌+◌, ◌-◌, Some, map, refl, ap, sym, ◌∙◌, subst, arith, length, vec_len, vec_capacity}
 use Rattle.std.proofs.lemmas.List.{length-map}
-use Rattle.mail_records.specs.Contents.{email_number}
+use Rattle.mail_records.specs.Contents.{blob_of, email_number}
 use Rattle.mail_records.specs.Orders.{mailbox_keys, link_keys, placed_key_of}
-use Rattle.mail_records.specs.Tables.{lookup}
+use Rattle.mail_records.specs.Tables.{lookup, put}
 use Rattle.mail_records.proofs.Links.{link_count}
-use Rattle.mail_records.proofs.Rooms.{fits_found, found_put, least_of_three, room_after}
+use Rattle.mail_records.proofs.Rooms.{fits_found, found_put, least_of_four, room_after}
+use Rattle.mail_records.proofs.Tables.{map_put}
 use Rattle.mail_records.proofs.emails.Emails.put_ready.Goals as goal
 
 pub settle-requires-3-clause-room : goal.settle-requires-3-clause-room
@@ -33,7 +34,7 @@ returns-clause-spare c =
     let item = c.args.item in
     let found : lookup email_number item.number c.put_ready.new.self.rows ≡ Some item =
     found_put email_number item inside.table.rows c.put_ready.new.self.rows c.put_ready.ensures.rows in
-    least_of_three c.args.self.now.spare _ _ _ _ _ _ (ap (λ v. v.spare) c.self.view_is) c.put_ready.ensures.spare
+    least_of_four c.args.self.now.spare _ _ _ _ _ _ _ _ (ap (λ v. v.spare) c.self.view_is) c.put_ready.ensures.spare c.put_ready-2.ensures.spare
     (room_after (vec_capacity inside.by_received) _ _ _ _ _ 1 c.leave-dated.ensures.len (c.settle.ensures.len item found) c.leave-dated.ensures.capacity c.settle.ensures.capacity)
     (room_after (vec_capacity inside.by_thread) _ _ _ _ _ 1 c.leave-threaded.ensures.len (c.settle-2.ensures.len item found) c.leave-threaded.ensures.capacity c.settle-2.ensures.capacity)
 
@@ -60,3 +61,14 @@ returns-clause-linked c =
     let least : vec_len c.settle-4.new.entries ≤ vec_len c.leave-linked.new.entries + length item.summary.links = omega arith in
     subst (λ n. n ≤ vec_capacity c.settle-4.new.entries - vec_len c.settle-4.new.entries + length item.summary.links) (ap (λ v. v.linked) c.self.view_is)
     (room_after (vec_capacity inside.by_link) _ _ _ _ _ (length item.summary.links) c.leave-linked.ensures.len least c.leave-linked.ensures.capacity c.settle-4.ensures.capacity)
+
+pub invariant_of-self : goal.invariant_of-self
+invariant_of-self c = (
+  c.put_ready-2.ensures.rows
+      ∙ (ap (put (λ b. b.email) (blob_of c.args.item)) c.self.invariant.0
+      ∙ (sym (map_put email_number (λ b. b.email) blob_of (λ x. refl) c.args.item c.self.inside.table.rows) ∙ sym (ap (map blob_of) c.put_ready.ensures.rows))),
+  c.settle.ensures.exact,
+  c.settle-2.ensures.exact,
+  c.settle-3.ensures.exact,
+  c.settle-4.ensures.exact,
+)
