@@ -11,7 +11,7 @@ pub fn copy_numbers(alloc: Global, numbers: &Numbers) -> Result<Numbers, NoMemor
     Ok(Numbers::from_vec(Vec::from_slice(alloc, numbers.as_slice())?))
 }
 
-fn copies(alloc: Global, texts: &[Text]) -> Result<Vec<Text>, NoMemory>
+fn collect_text_copies(alloc: Global, texts: &[Text]) -> Result<Vec<Text>, NoMemory>
     ensures { IfOk result (λ v. v.items ≡ texts.now) }
 {
     let mut all = Vec::with_capacity(alloc, texts.len())?;
@@ -25,7 +25,7 @@ fn copies(alloc: Global, texts: &[Text]) -> Result<Vec<Text>, NoMemory>
 pub fn copy_texts(alloc: Global, texts: &Texts) -> Result<Texts, NoMemory>
     ensures { IfOk result (λ t. t ≡ texts.now) }
 {
-    Ok(Texts::from_vec(copies(alloc, texts.as_slice())?))
+    Ok(Texts::from_vec(collect_text_copies(alloc, texts.as_slice())?))
 }
 
 /// Returns a copy of the string, in memory of its own, if there is one.

@@ -102,7 +102,7 @@ pub struct Commit {
     pub stamp: Stamp,
 }
 
-fn copies(alloc: Global, edits: &[Edit]) -> Result<Vec<Edit>, NoMemory>
+fn collect_edit_copies(alloc: Global, edits: &[Edit]) -> Result<Vec<Edit>, NoMemory>
     ensures { IfOk result (λ v. v.items ≡ edits.now) }
 {
     let mut all = Vec::with_capacity(alloc, edits.len())?;
@@ -116,5 +116,5 @@ fn copies(alloc: Global, edits: &[Edit]) -> Result<Vec<Edit>, NoMemory>
 pub fn copy_edits(alloc: Global, edits: &[Edit]) -> Result<Edits, NoMemory>
     ensures { IfOk result (λ e. e ≡ edits.now) }
 {
-    Ok(Edits::from_vec(copies(alloc, edits)?))
+    Ok(Edits::from_vec(collect_edit_copies(alloc, edits)?))
 }

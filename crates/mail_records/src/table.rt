@@ -166,7 +166,7 @@ fn take_out<R: Record>(rows: &mut Vec<R>, number: u64)
 }
 
 // Returns a copy of the records, in memory of its own.
-fn copies<R: Record>(alloc: Global, rows: &[R]) -> Result<Vec<R>, NoMemory>
+fn collect_row_copies<R: Record>(alloc: Global, rows: &[R]) -> Result<Vec<R>, NoMemory>
     ensures { IfOk result (λ v. v.items ≡ rows.now) }
 {
     let mut all = Vec::with_capacity(alloc, rows.len())?;
@@ -211,7 +211,7 @@ impl<R: Record> Table<R> {
         ensures { IfOk result (λ t. t.rows ≡ self.now.rows) }
     {
         Ok(Table {
-            rows: copies(alloc, &self.rows)?,
+            rows: collect_row_copies(alloc, &self.rows)?,
         })
     }
 

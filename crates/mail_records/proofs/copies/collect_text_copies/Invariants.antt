@@ -1,5 +1,5 @@
 use Rattle.std.proofs.Common.{◌≡◌, take}
-use Rattle.mail_records.proofs.copies.copies.Given as goal
+use Rattle.mail_records.proofs.copies.collect_text_copies.Given as goal
 
 abbrev pub invariant-loop-text : goal.invariant-loop-text
 invariant-loop-text l = l.all.items ≡ take l.text-index l.texts
