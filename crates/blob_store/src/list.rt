@@ -1,23 +1,29 @@
 // A list of blobs, with their bytes counted and with room that may be reserved.
 ghost use Rattle.std.specs.Prelude.{◌≡◌, ◌≢◌, ◌↔◌, ◌⊎◌, ◌+◌, ◌≤◌, ◌<◌, [], ◌∷◌, ◌++◌, length, Some, None, Err, IsTrue, IfOk, IfErr, OnOk, OnErr};
+ghost use Rattle.blob_store.specs.Authors.{AreSearched};
 ghost use Rattle.blob_store.specs.Blobs.{AreBlobsFew, HasRoomFor, blob_numbered};
 ghost use Rattle.blob_store.specs.declared.faults.BlobFault.TheVariants as fault;
 
+use crate::authors::catch_up;
 use crate::{BlobFault, MAX_BLOB_BYTES_PER_ACCOUNT, MAX_BLOBS_PER_ACCOUNT};
 use jm_base::{Bytes, NoMemory};
 use std::alloc::Global;
 use std::marker::Model;
+use text_column::TextColumn;
 
 /// The blobs of one account, oldest first. They are always within the limits of an account.
 #[derive(Drop)]
 pub struct BlobList {
     blobs: Vec<Bytes>,
     total_bytes: u64,
+    // The authors' texts of the first blobs, or of all.
+    authors: TextColumn,
 }
 
 impl Model for BlobList {
     ghost use Rattle.std.specs.Prelude.{◌≡◌, ◌-◌, vec_len, vec_capacity};
     ghost use Rattle.blob_store.specs.Views.{BlobRows};
+    ghost use Rattle.blob_store.specs.Authors.{AreSearched};
     ghost use Rattle.blob_store.specs.Blobs.{AreBlobsFew, byte_count};
 
     ghost Value = { BlobRows };
@@ -28,7 +34,8 @@ impl Model for BlobList {
     } };
 
     ghost invariant = { λ b. (b.total_bytes ≡ byte_count b.blobs.items)
-        × AreBlobsFew b.blobs.items };
+        × AreBlobsFew b.blobs.items
+        × AreSearched b.authors b.blobs.items };
 }
 
 impl BlobList {
@@ -39,6 +46,7 @@ impl BlobList {
         BlobList {
             blobs: Vec::new(alloc),
             total_bytes: 0,
+            authors: TextColumn::new(alloc),
         }
     }
 
@@ -47,6 +55,25 @@ impl BlobList {
         ensures { result.now ≡ self.now.blobs }
     {
         self.blobs.as_slice()
+    }
+
+    /// Lends the texts by which messages are found in a search for an author, in the order of the
+    /// blobs: of each blob the Text form of its one field From in lower case, or the empty text if
+    /// it has no such field. A text is left out where a blob has two such fields or is too large.
+    /// The last blobs may have no text yet.
+    pub fn authors(&self) -> &TextColumn
+        ensures { AreSearched result.now self.now.blobs }
+    {
+        &self.authors
+    }
+
+    // Adds the authors' texts of those blobs that have none, as far as there is memory.
+    fn add_authors(&mut self)
+        ensures blobs { self.new.blobs ≡ self.old.blobs }
+        ensures spare { self.new.spare ≡ self.old.spare }
+    {
+        let alloc = *self.blobs.allocator();
+        let _lags = catch_up(alloc, self.blobs.as_slice(), &mut self.authors);
     }
 
     /// Lends the blob with this number. The oldest has number 1. Fails with `NoSuchBlob` if and
@@ -91,7 +118,9 @@ impl BlobList {
         if self.blobs.reserve(1).is_err() {
             return Err(BlobFault::NoMemory);
         }
-        Ok(self.push_ready(blob))
+        let number = self.push_ready(blob);
+        self.add_authors();
+        Ok(number)
     }
 
     /// Makes room for these blobs, so that as many can be added by
@@ -102,6 +131,7 @@ impl BlobList {
         ensures spare { OnOk result (length blobs.now ≤ self.new.spare) }
         ensures no_less { self.old.spare ≤ self.new.spare }
     {
+        self.add_authors();
         self.blobs.reserve(blobs.len())?;
         Ok(())
     }
