@@ -5,8 +5,8 @@
 //! under which it is found. A blob is never changed or removed. Contracts see the list of blobs,
 //! each as a list of bytes, and for how many more there is room.
 //!
-//! Next to the blobs the list keeps the authors' texts, by which the messages of an author are found
-//! without a look into each ([`BlobList::authors`]). They may lag behind the blobs.
+//! Next to the blobs the list keeps the authors' texts, by which the messages of an author are
+//! found without a look into each ([`BlobList::authors`]). They may lag behind the blobs.
 #![tactic(auto)]
 
 mod authors;

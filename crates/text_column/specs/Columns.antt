@@ -5,8 +5,8 @@ use Rattle.memchr.specs.Find.{OccursAt}
 use Rattle.text_column.specs.declared.mark.Mark.{Mark}
 use Rattle.text_column.specs.declared.mark.Mark.TheVariants.{HasNot, Has, Open}
 
--- the text of a column that is in the bytes from `start` up to `end`; none where the blank mark says
--- that it is left out
+-- the text of a column that is in the bytes from `start` up to `end`; none where the blank mark
+-- says that it is left out
 abbrev pub text_in : List ℕ → ℕ → ℕ → Mark → Option (List ℕ)
 text_in bytes start end HasNot = Some (slice_range bytes start end)
 text_in bytes start end Has = Some (slice_range bytes start end)
@@ -61,7 +61,8 @@ abbrev pub AreMarks : List ℕ → List (Option (List ℕ)) → List Mark → Ty
 AreMarks needle [] [] = Unit {0}
 AreMarks needle [] (mark ∷ marks) = ⊥
 AreMarks needle (text ∷ texts) [] = ⊥
-AreMarks needle (text ∷ texts) (mark ∷ marks) = IsMark needle text mark × AreMarks needle texts marks
+AreMarks needle (text ∷ texts) (mark ∷ marks) =
+    IsMark needle text mark × AreMarks needle texts marks
 
 -- the mark of the text with this number, counted from 1; `Open` if no text has the number
 abbrev pub mark_of : List Mark → ℕ → Mark
