@@ -7,5 +7,7 @@ pub mod Lowered
 pub mod Operators
 pub mod FieldTests
 pub mod Certain
+pub mod Places
+mod Required
 pub mod FirstByte
 mod LastByte

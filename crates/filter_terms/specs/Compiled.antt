@@ -12,7 +12,8 @@ use Rattle.filter_terms.specs.EmailTerms.{is_same, keyword_holds}
 use Rattle.filter_terms.specs.MailboxTerms.{has_role}
 use Rattle.filter_terms.specs.Filters.{conditions_match, holds, if_term_holds, items_match, joined, list_matches, members_hold}
 use Rattle.filter_terms.specs.Targets.{EmailInThread, Target, AnEmail, AMailbox}
-use Rattle.filter_terms.specs.Texts.{MessageTexts, has_field, has_text}
+use Rattle.filter_terms.specs.Texts.{IsRequired, MessageTexts, has_field, has_text}
+use Rattle.filter_terms.specs.declared.texts.Place.{Place}
 use Rattle.filter_terms.specs.declared.conditions.EmailCondition.{EmailCondition}
 use Rattle.filter_terms.specs.declared.conditions.EmailCondition.TheVariants.{Never, InMailbox, InMailboxOtherThan, Before, After, MinSize, MaxSize, Keyword, HasAttachment}
 use Rattle.filter_terms.specs.declared.message_conditions.MessageCondition.{MessageCondition}
@@ -106,6 +107,20 @@ all_true bs = list_all (λ b. b) bs
 
 abbrev pub some_true : List Bool → Bool
 some_true bs = list_any (λ b. b) bs
+
+-- Whether these terms, or a test of the list that says of each of these terms whether it matches,
+-- ask for a text at a place.
+abbrev pub IsRequiredIn : Terms → Place → List ℕ → Bool → Type 0
+IsRequiredIn terms place needle alone =
+    (texts : ℕ → MessageTexts) (s : EmailInThread)
+    → IsRequired alone (has_text (texts s.email.blob) place needle)
+    (terms_match terms (AnEmail texts s))
+
+abbrev pub IsRequiredOf : (List Bool → Bool) → List Terms → Place → List ℕ → Bool → Type 0
+IsRequiredOf test ts place needle alone =
+    (texts : ℕ → MessageTexts) (s : EmailInThread)
+    → IsRequired alone (has_text (texts s.email.blob) place needle)
+    (test (match_each ts (AnEmail texts s)))
 
 -- the terms match what the tree, the list, the conditions or the members match
 abbrev pub Means : Kind → Terms → Tree → Type 0

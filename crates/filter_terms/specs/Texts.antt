@@ -1,5 +1,7 @@
 -- What the conditions of a filter look at in a message (RFC 8621, 4.4.1).
-use Rattle.std.specs.Prelude.{ℕ, List, ◌++◌, length, Bool, not, ◌==◌, Option, Some, None, codes}
+use Rattle.std.specs.Prelude.{◌≡◌, ℕ, List, ◌++◌, length, Bool, true, false, not, ◌==◌, ⊤, Option, Some, None, codes}
+use Rattle.text_column.specs.declared.mark.Mark.{Mark}
+use Rattle.text_column.specs.declared.mark.Mark.TheVariants.{HasNot, Has, Open}
 use Rattle.filter_terms.specs.Contains.{some_contains}
 use Rattle.filter_terms.specs.declared.texts.Place.{Place}
 use Rattle.filter_terms.specs.declared.texts.Place.TheVariants.{Text, From, To, Cc, Bcc, Subject, Body}
@@ -30,3 +32,15 @@ has_text m place needle = some_contains needle (texts_at m place)
 abbrev pub has_field : MessageTexts → List ℕ → Option (List ℕ) → Bool
 has_field m name None = not (length (m.fields name) == 0)
 has_field m name (Some needle) = some_contains needle (m.fields name)
+
+-- a mark agrees with whether a text is there; an open one says nothing
+abbrev pub Agrees : Mark → Bool → Type 0
+Agrees Has b = b ≡ true
+Agrees HasNot b = b ≡ false
+Agrees Open b = ⊤
+
+-- A filter asks for a text: it holds only if the text is there, and if it asks for nothing else, it
+-- holds if and only if the text is there.
+abbrev pub IsRequired : Bool → Bool → Bool → Type 0
+IsRequired true has holds = holds ≡ has
+IsRequired false has holds = holds ≡ true → has ≡ true

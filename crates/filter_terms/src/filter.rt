@@ -1,18 +1,19 @@
 // A filter, and what it matches.
-ghost use Rattle.std.specs.Prelude.{◌≡◌, ℕ, IfErr, IfOk, OnOk};
+ghost use Rattle.std.specs.Prelude.{◌≡◌, ℕ, IfErr, IfOk, IfSome, OnOk};
 ghost use Rattle.jm_base.specs.declared.identifiers.Kind.TheVariants.{Email as OfEmails, Mailbox as OfMailboxes};
-ghost use Rattle.filter_terms.specs.Texts.{MessageTexts};
+ghost use Rattle.filter_terms.specs.Texts.{IsRequired, MessageTexts, has_text};
 ghost use Rattle.jm_json.specs.Json.{tree_of};
 ghost use Rattle.filter_terms.specs.Filters.{holds, matches};
 ghost use Rattle.filter_terms.specs.Forms.{IsFilter, Refuses};
-ghost use Rattle.filter_terms.specs.Targets.{AMailbox, AnEmail, email_in_thread};
+ghost use Rattle.filter_terms.specs.Targets.{AMailbox, AnEmail, EmailInThread, email_in_thread};
 ghost use Rattle.filter_terms.specs.ThreadScope;
 
 use crate::compile::compile;
 use crate::compiled::{Terms, match_email_terms, match_mailbox_terms};
 use crate::faults::TermFault;
 use crate::invalid::find_invalid_name;
-use crate::texts::Texts2;
+use crate::required_text::{RequiredText, find_text_in_terms};
+use crate::texts::{Place, Texts2};
 use crate::thread_scope::is_wide_tree;
 use crate::unsupported::find_unsupported_name;
 use jm_base::{Kind, NoMemory, Text};
@@ -80,6 +81,16 @@ pub fn is_wide(filter: &Filter) -> bool
     ensures { result ≡ ThreadScope.is_wide filter.now.kind filter.now.tree }
 {
     filter.over_thread
+}
+
+/// Returns a text that a filter asks for at a place: the one that it looks for, or the first of
+/// those that an AND joins with other conditions. Returns `None` if the filter asks for none.
+pub fn find_required_text(filter: &Filter, place: Place) -> Option<RequiredText<'_>>
+    ensures { IfSome result (λ r. (texts : ℕ → MessageTexts) (s : EmailInThread)
+        → IsRequired r.alone (has_text (texts s.email.blob) place r.needle.now)
+        (holds filter.now.kind (AnEmail texts s) filter.now.tree)) }
+{
+    find_text_in_terms(&filter.terms, place)
 }
 
 /// Returns whether a filter of emails matches an email of a content, whose messages contain what

@@ -17,6 +17,7 @@ mod invalid;
 mod laws;
 mod mailboxes;
 mod message_conditions;
+mod required_text;
 mod terms;
 mod texts;
 mod thread_scope;
@@ -27,6 +28,9 @@ mod without_texts;
 pub use containment::contains;
 pub use emails::{has_all_in_thread, has_keyword, has_some_in_thread};
 pub use faults::TermFault;
-pub use filter::{Filter, is_wide, matches, matches_email, matches_mailbox, read_filter};
+pub use filter::{
+    Filter, find_required_text, is_wide, matches, matches_email, matches_mailbox, read_filter,
+};
 pub use laws::{filters_see_only_their_record, operators_join_their_conditions};
+pub use required_text::RequiredText;
 pub use texts::{OpenedMessage, Place, Texts2};

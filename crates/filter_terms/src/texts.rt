@@ -1,8 +1,10 @@
 // What a filter asks about messages (RFC 8621, section 4.4.1).
-ghost use Rattle.std.specs.Prelude.{◌≡◌, ℕ, IfOk, option_map};
-ghost use Rattle.filter_terms.specs.Texts.{MessageTexts, has_field, has_text};
+ghost use Rattle.std.specs.Prelude.{◌≡◌, ℕ, IfOk, IfSome, option_map};
+ghost use Rattle.text_column.specs.Columns.{mark_of};
+ghost use Rattle.filter_terms.specs.Texts.{Agrees, MessageTexts, has_field, has_text};
 
 use jm_base::NoMemory;
+use text_column::Mark;
 
 /// Where in a message a condition looks for a text.
 #[derive(Clone, Copy, Debug, PartialEq, Eq)]
@@ -52,4 +54,14 @@ pub trait Texts2 {
     /// if the conditions that look at no text leave open whether it matches.
     fn open(&self, blob: u64) -> Result<Self::Message, NoMemory>
         ensures { IfOk result (λ m. Self.Message.contents m ≡ texts self.now blob) };
+
+    /// Returns for the blobs of the account, from number 1 on, whether one of the texts that a
+    /// condition looks at contains the needle, or `Open` where only the message shows that. Blobs
+    /// past the end are `Open` too. Returns `None` if nothing is known without opening messages.
+    fn find_marks(&self, place: Place, needle: &[u8]) -> Result<Option<Vec<Mark>>, NoMemory>
+        ensures { IfOk result (λ o. IfSome o (λ marks. (blob : ℕ) → Agrees
+            (mark_of marks.items blob) (has_text (texts self.now blob) place needle.now))) }
+    {
+        Ok(None)
+    }
 }

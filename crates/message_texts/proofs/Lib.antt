@@ -1,5 +1,6 @@
 pub mod Found
 pub mod Parts
+pub mod Authors
 mod Stay
 pub mod PlainText
 pub mod HeaderLines

@@ -1,6 +1,7 @@
 // A message in a blob, of which each field and each body is decoded at most once.
-ghost use Rattle.std.specs.Prelude.{◌≡◌, ◌==◌, not, IfOk, length};
+ghost use Rattle.std.specs.Prelude.{◌≡◌, ◌==◌, not, IfOk, length, option_map};
 ghost use Rattle.std.specs.List.{list_any};
+ghost use Rattle.blob_store.specs.Authors.{IsSearched};
 ghost use Rattle.mime_tree.specs.PartLimit.{parts_of, walked};
 ghost use Rattle.filter_terms.specs.Contains.{some_contains};
 ghost use Rattle.filter_terms.specs.Texts.{has_text};
@@ -11,18 +12,20 @@ use crate::bodies::{has_in_texts, read_bodies};
 use crate::header_field::HeaderField;
 use crate::header_scan::scan_header;
 use crate::headers::{has_in_named_fields, is_any_named, read_header_fields};
-use filter_terms::{OpenedMessage, Place};
+use filter_terms::{OpenedMessage, Place, contains};
 use jm_base::{NoMemory, Texts};
 use std::alloc::Global;
 use std::marker::Model;
 
-/// A message that was opened: the fields of its header, once a condition looked at more than one of
-/// them or at one that needs decoding, and the texts of its text parts, once a condition looked at
-/// them. Contracts see the bytes of the message.
+/// A message that was opened: the text by which it is found in a search for its author, if that is
+/// kept; the fields of its header, once a condition looked at more than one of them or at one that
+/// needs decoding; and the texts of its text parts, once a condition looked at them. Contracts see
+/// the bytes of the message.
 #[derive(Drop)]
 pub struct BlobMessage<'a> {
     alloc: Global,
     bytes: &'a [u8],
+    from: Option<&'a [u8]>,
     fields: Option<Vec<HeaderField<'a>>>,
     bodies: Option<Texts>,
 }
@@ -38,17 +41,24 @@ impl<'a> Model for BlobMessage<'a> {
 
     ghost use Rattle.std.specs.Prelude.{option_map};
 
-    ghost invariant = { λ m. IsOpened m.bytes.now
+    ghost invariant = { λ m. IsOpened m.bytes.now (option_map (λ t. t.now) m.from)
         (option_map (λ fields. fields.items) m.fields) m.bodies };
 }
 
-/// Opens the message with these bytes. Looks at none of them, and allocates nothing.
-pub(crate) fn open_message<'a>(alloc: Global, bytes: &'a [u8]) -> BlobMessage<'a>
+/// Opens the message with these bytes, and the text by which it is found in a search for its
+/// author, if that is kept. Looks at none of them, and allocates nothing.
+pub(crate) fn open_message<'a>(
+    alloc: Global,
+    bytes: &'a [u8],
+    from: Option<&'a [u8]>,
+) -> BlobMessage<'a>
+    requires { IsSearched bytes.now (option_map (λ t. t.now) from) }
     ensures { result ≡ bytes.now }
 {
     BlobMessage {
         alloc,
         bytes,
+        from,
         fields: None,
         bodies: None,
     }
@@ -84,6 +94,21 @@ impl<'a> BlobMessage<'a> {
             }
         }
         self.has_in_header(&[name], needle)
+    }
+
+    // Returns whether a field From contains the needle. If the message's text for a search is kept,
+    // that alone is looked through for a needle that is not empty.
+    fn has_in_from(&mut self, needle: &[u8]) -> Result<bool, NoMemory>
+        ensures value { IfOk result (λ b. b ≡ has_text (message_texts self.old) at.From
+            needle.now) }
+        ensures same { self.new ≡ self.old }
+    {
+        if !needle.is_empty() {
+            if let Some(text) = self.from {
+                return Ok(contains(text, needle));
+            }
+        }
+        self.has_in_field(b"From", needle)
     }
 
     // Returns whether there is a header field of this name. No value is decoded.
@@ -150,7 +175,7 @@ impl OpenedMessage for BlobMessage<'_> {
 
     fn has(&mut self, place: Place, needle: &[u8]) -> Result<bool, NoMemory> {
         match place {
-            Place::From => self.has_in_field(b"From", needle),
+            Place::From => self.has_in_from(needle),
             Place::To => self.has_in_field(b"To", needle),
             Place::Cc => self.has_in_field(b"Cc", needle),
             Place::Bcc => self.has_in_field(b"Bcc", needle),

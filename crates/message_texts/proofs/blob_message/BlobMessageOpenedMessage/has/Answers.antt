@@ -3,10 +3,10 @@ use Rattle.message_texts.specs.Texts.{message_texts}
 use Rattle.message_texts.proofs.blob_message.BlobMessageOpenedMessage.has.Goals as goal
 
 pub returns-in-From-clause-same : goal.returns-in-From-clause-same
-returns-in-From-clause-same c = ap message_texts c.has_in_field.ensures.same
+returns-in-From-clause-same c = ap message_texts c.has_in_from.ensures.same
 
 pub returns-in-To-clause-same : goal.returns-in-To-clause-same
-returns-in-To-clause-same c = ap message_texts c.has_in_field-in-To.ensures.same
+returns-in-To-clause-same c = ap message_texts c.has_in_field.ensures.same
 
 pub returns-in-Cc-clause-same : goal.returns-in-Cc-clause-same
 returns-in-Cc-clause-same c = ap message_texts c.has_in_field-in-Cc.ensures.same
