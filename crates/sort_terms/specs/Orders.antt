@@ -1,6 +1,6 @@
 -- Which of two records is before the other: by the comparators, then by number, ascending
 -- (RFC 8620, 5.5, which asks that the order is the same each time).
-use Rattle.std.specs.Prelude.{ℕ, Bool, List}
+use Rattle.std.specs.Prelude.{ℕ, Bool, List, length, ◌==◌}
 use Rattle.std.specs.List.{list_any}
 use Rattle.std.specs.Option.{option_cmp}
 use Rattle.std.specs.Ordering.{is_lt, nat_cmp, on, then_cmp}
@@ -27,6 +27,10 @@ numbers_cmp kind t c = then_cmp (records_cmp kind (comparators_of kind t) c) nat
 -- the record of the first number is before that of the second
 abbrev pub is_before : Kind → Tree → Content → ℕ → ℕ → Bool
 is_before kind t c a b = is_lt (numbers_cmp kind t c a b)
+
+-- there is no comparator, so records that are there are in the order of their numbers
+abbrev pub is_by_number : Kind → Tree → Bool
+is_by_number kind t = length (comparators_of kind t) == 0
 
 -- some comparator looks at the thread
 abbrev pub is_wide : Kind → Tree → Bool

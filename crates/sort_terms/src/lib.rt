@@ -15,5 +15,6 @@ mod properties;
 pub use comparators::is_ascending;
 pub use laws::{orders_are_strict, orders_see_only_their_records};
 pub use order::{
-    Order, before, compare_emails, compare_mailboxes, compare_numbers, is_wide, read_order,
+    Order, before, compare_emails, compare_mailboxes, compare_numbers, is_by_number, is_wide,
+    read_order,
 };

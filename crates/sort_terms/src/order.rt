@@ -96,6 +96,14 @@ pub fn is_wide(order: &Order) -> bool
     order.over_thread
 }
 
+/// Returns whether an order has no comparator. Records that are there are then ordered by their
+/// numbers alone.
+pub fn is_by_number(order: &Order) -> bool
+    ensures { result ≡ Orders.is_by_number order.now.kind order.now.tree }
+{
+    order.comparators.is_empty()
+}
+
 /// Compares two emails of a content by an order of emails; ties are broken by number, ascending.
 pub fn compare_emails(order: &Order, content: &Content, left: &Email, right: &Email) -> Ordering
     ensures { result ≡ ordering_then (emails_cmp (comparators_of order.now.kind order.now.tree)
