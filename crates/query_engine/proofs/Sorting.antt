@@ -1,27 +1,36 @@
 -- The numbers that match, sorted, are the list of matches.
-use Rattle.std.proofs.Common.{◌≡◌, ℕ, ◌+◌, ◌<◌, Bool, true, false, ◌&&◌, eqb, ltb, lt-ltb, List, [], ◌∷◌, get_or, map, filter, option_map, refl, sym, ap, ◌∙◌, subst, arith, Ordering, Less, Equal, Greater, is_lt, ne_eqb, nat_cmp, IsPermutation, ⊎_elim}
+use Rattle.std.proofs.Common.{◌≡◌, ℕ, ◌+◌, ◌<◌, Bool, true, false, ◌&&◌, eqb, eq-eqb, ltb, lt-ltb, List, [], ◌∷◌, get_or, length, map, filter, Option, Some, None, is_some, option_map, refl, sym, ap, ◌∙◌, subst, arith, Ordering, Less, Equal, Greater, is_lt, ne_eqb, nat_cmp, IsPermutation, ⊎_elim}
+use Rattle.std.specs.Prelude.{◌==◌}
 use Rattle.std.specs.Cmp.{IsTotalOrder}
-use Rattle.std.specs.Ordering.{ordering_reverse}
+use Rattle.std.specs.Option.{option_cmp}
+use Rattle.std.specs.Ordering.{ordering_reverse, ordering_then}
 use Rattle.std.specs.List.{AllByRecursion, IsDistinct}
 use Rattle.std.specs.List.Sorted.{IsSortedBy, IsStrictlySortedBy, IsStrictlyIncreasing}
-use Rattle.std.proofs.lemmas.Bool.{cases_Bool, false≢true, eqb-false}
+use Rattle.std.proofs.lemmas.Bool.{and_parts, cases_Bool, false≢true, eqb-false}
+use Rattle.std.proofs.lemmas.Bool.Decides.{nat_tests}
+use Rattle.std.proofs.lemmas.List.Folds.{list_any_at}
 use Rattle.std.proofs.lemmas.List.Kept.{AllPairs-from_increasing, IsStrictlyIncreasing-filter}
 use Rattle.std.proofs.lemmas.List.Sorted.{list_any-IsPermutation}
 use Rattle.std.proofs.lemmas.Map.Keys.{IsStrictlyIncreasing-from_sorted, sorted_from_all_adjacent, apart_from_distinct, IsDistinct-from_apart, IsDistinct-IsPermutation}
 use Rattle.jm_base.specs.Splices.{has}
 use Rattle.jm_base.specs.declared.identifiers.Kind.{Kind}
 use Rattle.jm_base.specs.declared.identifiers.Kind.TheVariants.{Mailbox as OfMailboxes, Email as OfEmails, Thread as OfThreads}
-use Rattle.mail_records.specs.Contents.{Content, email_number, mailbox_number}
+use Rattle.jm_base.proofs.Spliced.{has-filter}
+use Rattle.jm_json.specs.Tree.{Tree}
+use Rattle.mail_records.specs.Contents.{Content, email_at, email_number, mailbox_at, mailbox_number}
 use Rattle.mail_records.specs.Tables.{IsTable}
 use Rattle.method_args.specs.Arguments.{passes}
 use Rattle.filter_terms.specs.Filters.{holds}
-use Rattle.filter_terms.specs.Targets.{AMailbox, AnEmail, email_in_thread}
+use Rattle.filter_terms.specs.Targets.{AMailbox, AnEmail, email_in_thread, email_in_thread_at}
 use Rattle.filter_terms.specs.Texts.{MessageTexts}
 use Rattle.filter_terms.proofs.Lists.{in_found}
+use Rattle.sort_terms.specs.Comparators.{emails_cmp, mailboxes_cmp}
+use Rattle.sort_terms.specs.Forms.{comparators_of}
+use Rattle.sort_terms.specs.Orders.{is_by_number, numbers_cmp, records_cmp}
 use Rattle.query_engine.specs.Queries.{numbers_of, order_of}
 use Rattle.query_engine.specs.Views.{QueryTree}
 use Rattle.query_engine.specs.Walks.{is_match, kept_emails, kept_mailboxes, matches_list}
-use Rattle.query_engine.proofs.Results.{apart, sorted_is, total}
+use Rattle.query_engine.proofs.Results.{apart, has_numbers, sorted_is, total}
 use Rattle.query_engine.proofs.Walked.{all_of_in}
 
 less_from : (o p : Ordering) → p ≡ ordering_reverse o → is_lt p ≡ false → (o ≡ Equal → ⊥) → o ≡ Less
@@ -99,3 +108,45 @@ matched_mailboxes q c texts table k =
 
 pub matched_threads : (q : QueryTree) (c : Content) (texts : ℕ → MessageTexts) → q.kind ≡ OfThreads → [] ≡ filter (is_match q c texts) (numbers_of q.kind c)
 matched_threads q c texts k = ap (λ kind. filter (is_match q c texts) (numbers_of kind c)) (sym k)
+
+-- ---- orders without comparators
+
+both_there : {X : Type 0} (R : X → X → Ordering) (o p : Option X) → ((x y : X) → R x y ≡ Equal) → is_some o ≡ true → is_some p ≡ true → option_cmp R o p ≡ Equal
+both_there R None p equal i j = absurd (false≢true i)
+both_there R (Some x) None equal i j = absurd (false≢true j)
+both_there R (Some x) (Some y) equal i j = equal x y
+
+still_there : {X Y : Type 0} (f : X → Y) (o : Option X) → is_some o ≡ true → is_some (option_map f o) ≡ true
+still_there f None i = i
+still_there f (Some x) i = i
+
+no_items : {X : Type 0} (xs : List X) → (length xs == 0) ≡ true → xs ≡ []
+no_items [] e = refl
+no_items (x ∷ xs) e = absurd (false≢true (sym (ne_eqb (length (x ∷ xs)) 0 (λ (z : length (x ∷ xs) ≡ 0). omega (arith, z))) ∙ e))
+
+records_tie : (kind : Kind) (c : Content) (a b : ℕ) → has (numbers_of kind c) a ≡ true → has (numbers_of kind c) b ≡ true → records_cmp kind [] c a b ≡ Equal
+records_tie OfMailboxes c a b i j =
+    both_there (mailboxes_cmp []) (mailbox_at c a) (mailbox_at c b) (λ x y. refl)
+    (sym (has_numbers mailbox_number c.mailboxes a) ∙ i) (sym (has_numbers mailbox_number c.mailboxes b) ∙ j)
+records_tie OfEmails c a b i j =
+    both_there (emails_cmp []) (email_in_thread_at c.emails a) (email_in_thread_at c.emails b) (λ x y. refl)
+    (still_there (email_in_thread c.emails) (email_at c a) (sym (has_numbers email_number c.emails a) ∙ i))
+    (still_there (email_in_thread c.emails) (email_at c b) (sym (has_numbers email_number c.emails b) ∙ j))
+records_tie OfThreads c a b i j = refl
+
+not_below : (a b : ℕ) → a < b → is_lt (nat_cmp b a) ≡ false
+not_below a b less = let k : ltb b a ≡ false = grind (arith, nat_tests, less) in let j : eqb b a ≡ false = ne_eqb b a (λ e. omega (arith, e, less)) in rw (k, j) refl
+
+-- without a comparator the numbers of records are sorted as they are
+pub by_number_sorted : (kind : Kind) (t : Tree) (c : Content) (keep : ℕ → Bool) → IsTable mailbox_number c.mailboxes → IsTable email_number c.emails → is_by_number kind t ≡ true
+    → IsSortedBy (λ a b. is_lt (numbers_cmp kind t c a b)) (filter keep (numbers_of kind c))
+by_number_sorted kind t c keep m e none i n le lt =
+    let ns = filter keep (numbers_of kind c) in
+    let a : ℕ = get_or ns i n in
+    let b : ℕ = get_or ns (i + 1) n in
+    let there : (k : ℕ) → k < length ns → has (numbers_of kind c) (get_or ns k n) ≡ true = λ k below.
+    (and_parts (keep (get_or ns k n)) (has (numbers_of kind c) (get_or ns k n))
+    (sym (has-filter keep (numbers_of kind c) (get_or ns k n)) ∙ list_any_at (λ x. eqb x (get_or ns k n)) ns k n below (eq-eqb (get_or ns k n) (get_or ns k n) refl))).1 in
+    let less : a < b = AllPairs-from_increasing ns (IsStrictlyIncreasing-filter keep (numbers_of kind c) (numbers_rise kind c m e)) i (i + 1) n (omega arith) lt in
+    ap (λ cs. is_lt (ordering_then (records_cmp kind cs c b a) (nat_cmp b a))) (no_items (comparators_of kind t) none)
+    ∙ (ap (λ r. is_lt (ordering_then r (nat_cmp b a))) (records_tie kind c b a (there (i + 1) lt) (there i (omega arith))) ∙ not_below a b less)

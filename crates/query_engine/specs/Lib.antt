@@ -4,5 +4,6 @@ pub mod Threads
 pub mod Windows
 pub mod Responses
 pub mod Walks
+pub mod Narrowed
 pub mod Replies
 pub mod Laws

@@ -7,6 +7,7 @@ ghost use Rattle.mail_records.specs.Orders.{dated_owner};
 ghost use Rattle.mail_records.specs.Tables.{IsTable};
 ghost use Rattle.query_engine.specs.Walks.{Follows, IsSortedByReceived, dated_cmp, kept_dated, matches_list};
 
+use crate::narrowed::{collect_narrowed_dated, narrow};
 use crate::page::Page;
 use crate::query::Query;
 use crate::run::put_numbers;
@@ -16,8 +17,9 @@ use mail_records::{Content, Dated};
 use std::alloc::Global;
 use std::cmp::Ordering;
 
-// Returns the emails that the filter matches with the times received, in number order.
-fn collect_dated<T: Texts2>(
+// Returns the emails that the filter matches with the times received, in number order, by a look at
+// each.
+fn collect_each_dated<T: Texts2>(
     alloc: Global,
     query: &Query,
     content: &Content,
@@ -39,6 +41,24 @@ fn collect_dated<T: Texts2>(
         }
     }
     Ok(all)
+}
+
+// Returns the emails that the filter matches with the times received, in number order.
+fn collect_dated<T: Texts2>(
+    alloc: Global,
+    query: &Query,
+    content: &Content,
+    texts: &T,
+) -> Result<Vec<Dated>, NoMemory>
+    requires { query.now.kind ≡ OfEmails }
+    ensures entries { IfOk result (λ v. v.items ≡ kept_dated query.now content.now.content
+        (T.texts texts.now) content.now.content.emails) }
+    ensures table { IsTable email_number content.now.content.emails }
+{
+    match narrow(query, texts)? {
+        Some(narrowed) => collect_narrowed_dated(alloc, &narrowed, query, content, texts),
+        None => collect_each_dated(alloc, query, content, texts),
+    }
 }
 
 // Compares two emails by the time received, ascending or descending, then by number, ascending.

@@ -12,6 +12,7 @@ mod faults;
 mod frame;
 mod laws;
 mod limits;
+mod narrowed;
 mod page;
 mod query;
 mod response;

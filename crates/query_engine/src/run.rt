@@ -1,15 +1,16 @@
 // The result list of a query.
-ghost use Rattle.std.specs.Prelude.{◌≡◌, filter, IfOk, OnOk};
+ghost use Rattle.std.specs.Prelude.{◌≡◌, filter, true, IfOk, OnOk};
 ghost use Rattle.mail_records.specs.Contents.{email_number, mailbox_number};
 ghost use Rattle.mail_records.specs.Tables.{IsTable};
 ghost use Rattle.std.specs.List.Sorted.{IsPermutation, IsSorted};
 ghost use Rattle.jm_base.specs.declared.identifiers.Kind.TheVariants.{Email as OfEmails, Mailbox as OfMailboxes};
-ghost use Rattle.sort_terms.specs.Orders.{numbers_cmp};
+ghost use Rattle.sort_terms.specs.Orders.{is_by_number, numbers_cmp};
 ghost use Rattle.query_engine.specs.Queries.{numbers_of, result_list};
 ghost use Rattle.query_engine.specs.Walks.{Follows, at_most, collapses, is_match, kept_emails, kept_mailboxes, matches_list, IsSortedByReceived};
 ghost use Rattle.query_engine.specs.Threads.{thread_of};
 
 use crate::by_time::put_emails_by_time;
+use crate::narrowed::{collect_narrowed_numbers, narrow};
 use crate::page::{Page, finish, is_full, new_page, put_number};
 use crate::query::Query;
 use crate::rows::walk;
@@ -17,11 +18,11 @@ use crate::walks::Walk;
 use filter_terms::{Texts2, matches_email, matches_mailbox};
 use jm_base::{Kind, NoMemory, Numbers};
 use mail_records::Content;
-use sort_terms::{Order, compare_numbers};
+use sort_terms::{Order, compare_numbers, is_by_number};
 use std::alloc::Global;
 
-// Returns the numbers of the emails that the filter matches, in number order.
-fn collect_matching_emails<T: Texts2>(
+// Returns the numbers of the emails that the filter matches, in number order, by a look at each.
+fn collect_each_email<T: Texts2>(
     alloc: Global,
     query: &Query,
     content: &Content,
@@ -40,6 +41,24 @@ fn collect_matching_emails<T: Texts2>(
         }
     }
     Ok(numbers)
+}
+
+// Returns the numbers of the emails that the filter matches, in number order.
+fn collect_matching_emails<T: Texts2>(
+    alloc: Global,
+    query: &Query,
+    content: &Content,
+    texts: &T,
+) -> Result<Vec<u64>, NoMemory>
+    requires { query.now.kind ≡ OfEmails }
+    ensures numbers { IfOk result (λ v. v.items ≡ kept_emails query.now content.now.content
+        (T.texts texts.now) content.now.content.emails) }
+    ensures table { IsTable email_number content.now.content.emails }
+{
+    match narrow(query, texts)? {
+        Some(narrowed) => collect_narrowed_numbers(alloc, &narrowed, query, content, texts),
+        None => collect_each_email(alloc, query, content, texts),
+    }
 }
 
 // Returns the numbers of the mailboxes that the filter matches, in number order.
@@ -81,12 +100,27 @@ fn collect_matching_numbers<T: Texts2>(
     }
 }
 
-fn sort_numbers(order: &Order, content: &Content, numbers: &mut Vec<u64>)
+fn sort_by_comparators(order: &Order, content: &Content, numbers: &mut Vec<u64>)
     ensures same { IsPermutation numbers.old.items numbers.new.items }
     ensures sorted { IsSorted (numbers_cmp order.now.kind order.now.tree content.now.content)
         numbers.new.items }
 {
     numbers.sort_unstable_by(|a, b| compare_numbers(order, content, *a, *b));
+}
+
+// Sorts numbers of records by an order. Without a comparator they are in the order already.
+fn sort_numbers(order: &Order, content: &Content, numbers: &mut Vec<u64>)
+    requires { is_by_number order.now.kind order.now.tree ≡ true
+        → IsSorted (numbers_cmp order.now.kind order.now.tree content.now.content)
+        numbers.old.items }
+    ensures same { IsPermutation numbers.old.items numbers.new.items }
+    ensures sorted { IsSorted (numbers_cmp order.now.kind order.now.tree content.now.content)
+        numbers.new.items }
+{
+    if is_by_number(order) {
+        return;
+    }
+    sort_by_comparators(order, content, numbers);
 }
 
 pub(crate) fn find_thread_number(content: &Content, number: u64) -> u64
@@ -96,6 +130,16 @@ pub(crate) fn find_thread_number(content: &Content, number: u64) -> u64
         Some(email) => email.thread,
         None => 0,
     }
+}
+
+// Returns the thread of an email, if a page collapses threads.
+fn find_thread_for(page: &Page, content: &Content, number: u64) -> u64
+    ensures { page.now.collapse ≡ true → thread_of content.now.content number ≡ result }
+{
+    if !page.collapse {
+        return 0;
+    }
+    find_thread_number(content, number)
 }
 
 pub(crate) fn put_numbers(
@@ -109,7 +153,7 @@ pub(crate) fn put_numbers(
         if is_full(page) {
             return Ok(());
         }
-        put_number(page, find_thread_number(content, *number), *number)?;
+        put_number(page, find_thread_for(page, content, *number), *number)?;
     }
     Ok(())
 }

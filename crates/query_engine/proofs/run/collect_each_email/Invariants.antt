@@ -1,6 +1,6 @@
 use Rattle.std.proofs.Common.{◌≡◌, ◌++◌, drop}
 use Rattle.query_engine.specs.Walks.{kept_emails}
-use Rattle.query_engine.proofs.run.collect_matching_emails.Given as goal
+use Rattle.query_engine.proofs.run.collect_each_email.Given as goal
 
 abbrev pub invariant-loop-email : goal.invariant-loop-email
 invariant-loop-email g l =

@@ -1,6 +1,6 @@
 use Rattle.std.proofs.Common.{◌≡◌, ◌++◌, drop}
 use Rattle.query_engine.specs.Walks.{kept_dated}
-use Rattle.query_engine.proofs.by_time.collect_dated.Given as goal
+use Rattle.query_engine.proofs.by_time.collect_each_dated.Given as goal
 
 abbrev pub invariant-loop-email : goal.invariant-loop-email
 invariant-loop-email g l =

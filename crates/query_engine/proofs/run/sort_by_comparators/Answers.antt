@@ -3,7 +3,7 @@ use Rattle.std.proofs.lemmas.Fn.{always_returns_same}
 use Rattle.std.proofs.lemmas.List.Sorted.{ranks_by}
 use Rattle.sort_terms.specs.Orders.{numbers_cmp}
 use Rattle.sort_terms.proofs.Total.{numbers_total}
-use Rattle.query_engine.proofs.run.sort_numbers.Goals as goal
+use Rattle.query_engine.proofs.run.sort_by_comparators.Goals as goal
 
 pub returns-clause-sorted : goal.returns-clause-sorted
 returns-clause-sorted c =
