@@ -55,6 +55,7 @@ fn collect_matching_emails<T: Texts2>(
         (T.texts texts.now) content.now.content.emails) }
     ensures table { IsTable email_number content.now.content.emails }
 {
+    let _emails = content.emails();
     match narrow(query, texts)? {
         Some(narrowed) => collect_narrowed_numbers(alloc, &narrowed, query, content, texts),
         None => collect_each_email(alloc, query, content, texts),
