@@ -20,6 +20,8 @@ mod record_codec_tests;
 #[cfg(test)]
 mod state_log_tests;
 #[cfg(test)]
+mod text_column_tests;
+#[cfg(test)]
 mod thread_assign_tests;
 #[cfg(test)]
 mod tidy_check_tests;
