@@ -2,7 +2,8 @@
 ghost use Rattle.std.specs.Prelude.{[], ◌∷◌, cond, bytes_eq, codes};
 
 use filter_terms::{
-    OpenedMessage, Place, TermFault, Texts2, contains, is_wide, matches, read_filter,
+    OpenedMessage, Place, RequiredText, TermFault, Texts2, contains, find_required_text, is_wide,
+    matches, read_filter,
 };
 use jm_base::{Kind, NoMemory, Numbers, Text, Texts, UtcDate};
 use jm_json::{Items, Json, Members, read};
@@ -534,6 +535,54 @@ fn texts_are_looked_at_last(rt: HostRuntime) -> Result<(), Fail> {
     for row in TEXTLESS_ROWS {
         let found = without_texts(rt.alloc(), &content, row.0)?;
         assert!(rt; found == row.1, "{}", row.0);
+    }
+    Ok(())
+}
+
+fn letter_of(required: RequiredText<'_>) -> char {
+    if required.needle != "ann".as_bytes() {
+        '?'
+    } else if required.alone {
+        '='
+    } else {
+        '<'
+    }
+}
+
+// `=` if a filter asks for an author "ann" and for nothing else, `<` if it asks for more, `-` if it
+// asks for no author, and `?` if for another one.
+fn required_author(alloc: Global, filter: &str) -> Result<char, NoMemory> {
+    match read_filter(alloc, Kind::Email, &tree_of(alloc, filter)?) {
+        Ok(filter) => match find_required_text(&filter, Place::From) {
+            Some(required) => Ok(letter_of(required)),
+            None => Ok('-'),
+        },
+        Err(_) => Err(NoMemory),
+    }
+}
+
+const AUTHOR_ROWS: [(&str, char); 9] = [
+    (r#"{"from":"Ann"}"#, '='),
+    (r#"{"from":"Ann","minSize":1}"#, '<'),
+    (
+        r#"{"operator":"AND","conditions":[{"to":"b"},{"from":"Ann"},{"from":"b"}]}"#,
+        '<',
+    ),
+    (
+        r#"{"operator":"AND","conditions":[null,{"operator":"AND","conditions":[{"from":"Ann"}]}]}"#,
+        '<',
+    ),
+    (r#"{"operator":"OR","conditions":[{"from":"Ann"}]}"#, '-'),
+    (r#"{"operator":"NOT","conditions":[{"from":"Ann"}]}"#, '-'),
+    (r#"{"to":"Ann"}"#, '-'),
+    (r#"{"text":"Ann"}"#, '-'),
+    (r#"{"header":["From","Ann"]}"#, '-'),
+];
+
+#[test]
+fn an_author_is_required_alone_or_with_more(rt: HostRuntime) -> Result<(), Fail> {
+    for row in AUTHOR_ROWS {
+        assert!(rt; required_author(rt.alloc(), row.0)? == row.1, "{}", row.0);
     }
     Ok(())
 }

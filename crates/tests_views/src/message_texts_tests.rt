@@ -6,6 +6,7 @@ use jm_base::{Bytes, NoMemory};
 use message_texts::BlobTexts;
 use std::alloc::Global;
 use std::test::Fail;
+use text_column::Mark;
 
 // Of its parts the plain text, the HTML and the table are text parts.
 const LETTER: &str = "\
@@ -252,6 +253,58 @@ fn an_opened_message_answers_again(rt: HostRuntime) -> Result<(), Fail> {
     for row in &rows {
         let found = message.has(row.place, row.needle.as_bytes())?;
         assert_eq!(rt; found, row.wanted);
+    }
+    Ok(())
+}
+
+// A message with an author, one without, one with two, and an empty author.
+fn letters(alloc: Global) -> Result<BlobList, NoMemory> {
+    let mut blobs = BlobList::new(alloc);
+    for message in [LETTER, "", "From: Ann\nFrom: J\u{f6}rg\n", "From:\n"] {
+        blobs
+            .push(Bytes::from_slice(alloc, message.as_bytes())?)
+            .ok();
+    }
+    Ok(blobs)
+}
+
+fn letter_of(mark: Mark) -> char {
+    match mark {
+        Mark::Has => 'y',
+        Mark::HasNot => 'n',
+        Mark::Open => '?',
+    }
+}
+
+// A letter for each message; none if nothing is known without opening them.
+fn marks_of(texts: &BlobTexts<'_>, place: Place, needle: &str) -> Result<String, NoMemory> {
+    let mut letters = String::new(texts.alloc);
+    if let Some(marks) = texts.find_marks(place, needle.as_bytes())? {
+        for mark in &marks {
+            letters.push(letter_of(*mark))?;
+        }
+    }
+    Ok(letters)
+}
+
+#[test]
+fn authors_are_marked(rt: HostRuntime) -> Result<(), Fail> {
+    let alloc = rt.alloc();
+    let blobs = letters(alloc)?;
+    let texts = BlobTexts {
+        alloc,
+        blobs: &blobs,
+    };
+    let rows = [
+        (Place::From, "J\u{f6}RG <joe", "yn?n"),
+        (Place::From, "utf-8", "nn?n"),
+        (Place::From, "", ""),
+        (Place::To, "ann", ""),
+        (Place::Text, "joerg", ""),
+    ];
+    for row in &rows {
+        let found = marks_of(&texts, row.0, row.1)?;
+        assert!(rt; found.as_str() == row.2, "{}", row.1);
     }
     Ok(())
 }
