@@ -280,7 +280,7 @@ fn letter_of(mark: Mark) -> char {
 fn marks_of(texts: &BlobTexts<'_>, place: Place, needle: &str) -> Result<String, NoMemory> {
     let mut letters = String::new(texts.alloc);
     if let Some(marks) = texts.find_marks(place, needle.as_bytes())? {
-        for mark in &marks {
+        for mark in marks.as_slice() {
             letters.push(letter_of(*mark))?;
         }
     }
