@@ -10,6 +10,8 @@ mod query_changes_test_records;
 #[cfg(test)]
 mod query_changes_tests;
 #[cfg(test)]
+mod query_engine_author_tests;
+#[cfg(test)]
 mod query_engine_fault_tests;
 #[cfg(test)]
 mod query_engine_list_tests;

@@ -205,8 +205,19 @@ pub(crate) fn answer(
     content: &Content,
     args: &str,
 ) -> Result<String, NoMemory> {
+    answer_with(alloc, kind, content, &NoTexts {}, args)
+}
+
+// The same where messages contain these texts.
+pub(crate) fn answer_with<T: Texts2>(
+    alloc: Global,
+    kind: Kind,
+    content: &Content,
+    texts: &T,
+    args: &str,
+) -> Result<String, NoMemory> {
     let args = tree_of(alloc, args)?;
-    match answer_query(alloc, kind, 7, content, &NoTexts {}, &args) {
+    match answer_query(alloc, kind, 7, content, texts, &args) {
         Ok(reply) => {
             let bytes = write(alloc, &reply)?.into_vec();
             match String::from_utf8(bytes) {
