@@ -2,6 +2,8 @@
 #![tactic(auto)]
 
 #[cfg(test)]
+mod blob_authors_tests;
+#[cfg(test)]
 mod blob_ids_tests;
 #[cfg(test)]
 mod blob_store_tests;

@@ -4,11 +4,12 @@ use mail_records::{Content, Edit, Email, Mailbox, Summary, apply_fitting};
 use std::alloc::Global;
 use std::test::Fail;
 
-// An email by its number, thread, time received, mailboxes and links.
+// An email by its number, thread, blob, time received, mailboxes and links.
 #[derive(Clone, Copy)]
 struct Row {
     number: u64,
     thread: u64,
+    blob: u64,
     received: i64,
     mailboxes: &'static [u64],
     links: &'static [&'static str],
@@ -18,6 +19,7 @@ const EMAILS: [Row; 4] = [
     Row {
         number: 1,
         thread: 1,
+        blob: 5,
         received: 30,
         mailboxes: &[1, 2],
         links: &["a", "b"],
@@ -25,6 +27,7 @@ const EMAILS: [Row; 4] = [
     Row {
         number: 2,
         thread: 1,
+        blob: 6,
         received: 10,
         mailboxes: &[2],
         links: &["b"],
@@ -32,6 +35,7 @@ const EMAILS: [Row; 4] = [
     Row {
         number: 3,
         thread: 2,
+        blob: 5,
         received: 20,
         mailboxes: &[1],
         links: &[],
@@ -39,6 +43,7 @@ const EMAILS: [Row; 4] = [
     Row {
         number: 4,
         thread: 1,
+        blob: 7,
         received: 10,
         mailboxes: &[1, 2],
         links: &["a"],
@@ -57,7 +62,7 @@ fn put_email(alloc: Global, row: &Row, was: bool) -> Result<Edit, NoMemory> {
     let item = Email {
         number: row.number,
         thread: row.thread,
-        blob: 1,
+        blob: row.blob,
         mailboxes,
         keywords: Texts::new(alloc),
         size: 7,
@@ -76,7 +81,8 @@ fn put_email(alloc: Global, row: &Row, was: bool) -> Result<Edit, NoMemory> {
     Ok(Edit::PutEmail { item, was })
 }
 
-// The four emails; then the third is put into the second mailbox, and the second is dropped.
+// The four emails; then the third is put into the second mailbox, with another blob, and the second
+// is dropped.
 fn email_edits(alloc: Global) -> Result<Vec<Edit>, NoMemory> {
     let mut edits = Vec::new(alloc);
     for row in &EMAILS {
@@ -85,6 +91,7 @@ fn email_edits(alloc: Global) -> Result<Vec<Edit>, NoMemory> {
     let moved = Row {
         number: 3,
         thread: 2,
+        blob: 8,
         received: 20,
         mailboxes: &[2],
         links: &["a"],
@@ -143,6 +150,29 @@ fn orders_of_emails_follow_edits(rt: HostRuntime) -> Result<(), Fail> {
     let last = lists_after(rt.alloc(), edits.as_slice())?;
     let want = [4, 3, 1, 0, 4, 1, 0, 4, 1, 0, 4, 3, 1, 0, 1, 3, 4, 0, 1, 0];
     assert_eq!(rt; last.as_slice(), want.as_slice());
+    Ok(())
+}
+
+// Each email with its blob after the first edits.
+fn blobs_after(alloc: Global, edits: &[Edit]) -> Result<Vec<u64>, NoMemory> {
+    let mut all = Vec::new(alloc);
+    if let Some(applied) = apply_fitting(alloc, Content::new(alloc), edits)? {
+        for entry in applied.content.email_blobs() {
+            all.push(entry.email)?;
+            all.push(entry.blob)?;
+        }
+    }
+    Ok(all)
+}
+
+#[test]
+fn blobs_of_emails_follow_edits(rt: HostRuntime) -> Result<(), Fail> {
+    let edits = email_edits(rt.alloc())?;
+    assert!(rt; edits.len() == 6);
+    let first = blobs_after(rt.alloc(), &edits[..4])?;
+    assert_eq!(rt; first.as_slice(), [1, 5, 2, 6, 3, 5, 4, 7].as_slice());
+    let last = blobs_after(rt.alloc(), edits.as_slice())?;
+    assert_eq!(rt; last.as_slice(), [1, 5, 3, 8, 4, 7].as_slice());
     Ok(())
 }
 
