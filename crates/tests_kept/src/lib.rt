@@ -6,6 +6,8 @@ mod asking;
 #[cfg(test)]
 mod mail_calls_ask_tests;
 #[cfg(test)]
+mod mail_calls_author_tests;
+#[cfg(test)]
 mod mail_calls_count_tests;
 #[cfg(test)]
 mod mail_calls_kept_tests;
