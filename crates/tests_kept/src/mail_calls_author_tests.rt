@@ -9,28 +9,32 @@ use mail_calls::MailRules;
 use std::alloc::Global;
 use std::process::Abort;
 
-// Each row has what is done, and the emails whose author is then an Ann.
-const STEPS: &[(Asking, &str)] = &[
+// Each row has what is done, the emails whose author is then an Ann, and of how many blobs the
+// authors are then kept: the next change reads the blob that an upload brings.
+const STEPS: &[(Asking, &str, usize)] = &[
     (
         Method(
             "Mailbox/set",
             "{\"accountId\":\"A\",\"create\":{\"a\":{\"name\":\"A\"},\"b\":{\"name\":\"B\"}}}",
         ),
         "",
+        0,
     ),
-    (Upload("From: Ann <a@x>\n\none"), ""),
-    (Upload("From: Bob <b@x>\nTo: Ann <a@x>\n\ntwo"), ""),
-    (Upload("From: Ann <a@x>\nFrom: Cy <c@x>\n\nthree"), ""),
+    (Upload("From: Ann <a@x>\n\none"), "", 0),
+    (Upload("From: Bob <b@x>\nTo: Ann <a@x>\n\ntwo"), "", 1),
+    (Upload("From: Ann <a@x>\nFrom: Cy <c@x>\n\nthree"), "", 2),
     (
         Method(
             "Email/import",
             "{\"accountId\":\"A\",\"emails\":{\"1\":{\"blobId\":\"b1\",\"mailboxIds\":{\"M1\":true}},\"2\":{\"blobId\":\"b2\",\"mailboxIds\":{\"M1\":true}},\"3\":{\"blobId\":\"b3\",\"mailboxIds\":{\"M2\":true}}}}",
         ),
         "\"E1\",\"E3\"",
+        3,
     ),
     (
         Upload("Subject: four\nFrom: JoAnne <d@x>\n\n"),
         "\"E1\",\"E3\"",
+        3,
     ),
     (
         Method(
@@ -38,6 +42,7 @@ const STEPS: &[(Asking, &str)] = &[
             "{\"accountId\":\"A\",\"emails\":{\"4\":{\"blobId\":\"b4\",\"mailboxIds\":{\"M1\":true}},\"5\":{\"blobId\":\"b1\",\"mailboxIds\":{\"M2\":true}}}}",
         ),
         "\"E1\",\"E3\",\"E4\",\"E5\"",
+        4,
     ),
     (
         Method(
@@ -45,6 +50,7 @@ const STEPS: &[(Asking, &str)] = &[
             "{\"accountId\":\"A\",\"destroy\":[\"E1\",\"E2\"],\"update\":{\"E3\":{\"keywords/$seen\":true}}}",
         ),
         "\"E3\",\"E4\",\"E5\"",
+        4,
     ),
 ];
 
@@ -92,10 +98,11 @@ fn expect_each<A: Abort, K: Keeper, R: Rules>(
     rt: &A,
     alloc: Global,
     book: &mut Book<K, R>,
-    steps: &[(Asking, &'static str)],
+    steps: &[(Asking, &'static str, usize)],
 ) {
-    for (asking, ids) in steps {
+    for (asking, ids, authors) in steps {
         let _ = answer_of(rt, alloc, book, *asking);
+        assert_eq!(rt; book.account().blobs().authors().len(), *authors);
         expect_emails(rt, alloc, book, ids);
     }
 }
