@@ -16,7 +16,7 @@ use Rattle.jm_json.specs.declared.invocation.Created.{Created}
 use Rattle.mail_counts.specs.Touched.{sorted_once}
 use Rattle.mail_counts.specs.Views.{mailbox_id}
 use Rattle.mail_counts.specs.declared.limits.TheConstants.{MAX_KEYWORDS_PER_EMAIL}
-use Rattle.mail_records.specs.declared.limits.TheConstants.{MAX_MAILBOXES_PER_EMAIL}
+use Rattle.jm_base.specs.declared.limits.TheConstants.{MAX_MAILBOXES_PER_EMAIL}
 use Rattle.set_parts.specs.CreationIds.{last_made, reference}
 use Rattle.set_parts.specs.Names.{keywords_in, mailboxes_in, set_tree}
 use Rattle.set_parts.specs.declared.set_errors.SetError.TheVariants.{InvalidPatch, InvalidProperties, TooManyKeywords, TooManyMailboxes}

@@ -13,10 +13,10 @@ ghost use Rattle.email_set.specs.Patches.{bad_names, filing_tree, fixed_names, m
 
 use crate::filing::{Filing, Refiled};
 use crate::paths::{build_meant_path, is_fixed, read_property};
-use jm_base::{NoMemory, Numbers, Text, Texts};
+use jm_base::{MAX_MAILBOXES_PER_EMAIL, NoMemory, Numbers, Text, Texts};
 use jm_json::{Json, Member, Members, PatchFault, copy, patch};
 use mail_counts::MAX_KEYWORDS_PER_EMAIL;
-use mail_records::{Content, Email, MAX_MAILBOXES_PER_EMAIL};
+use mail_records::{Content, Email};
 use set_parts::{
     CreatedRecords, CreatedTexts, SetError, build_keyword_set, build_mailbox_set, read_keywords,
     read_mailboxes, sort_names,

@@ -8,15 +8,15 @@ use Rattle.jiff_core.proofs.MarchLemmas.{day_count-early}
 use Rattle.jiff_core.proofs.CalendarLemmas.{days_from_civil-day_count, day_count-lt_year, day_count-lt_month, day_count-day, day_count-day_of_year, day_count_bounds}
 use Rattle.jm_base.specs.UtcDates.{last_of, year_of, month_of, day_of, IsDay}
 
-le_as : (a b : ℤ) (t : Bool) → int_le a b ≡ t → a ≤ℤ b → t ≡ true
+pub le_as : (a b : ℤ) (t : Bool) → int_le a b ≡ t → a ≤ℤ b → t ≡ true
 le_as a b true same le = refl
 le_as a b false same le = absurd (omega (arith, signed_arith, same, le))
 
-gt_as : (a b : ℤ) (t : Bool) → int_le a b ≡ t → b <ℤ a → t ≡ false
+pub gt_as : (a b : ℤ) (t : Bool) → int_le a b ≡ t → b <ℤ a → t ≡ false
 gt_as a b false same gt = refl
 gt_as a b true same gt = absurd (omega (arith, signed_arith, same, gt))
 
-le_is : (a b : ℤ) → a ≤ℤ b → int_le a b ≡ true
+pub le_is : (a b : ℤ) → a ≤ℤ b → int_le a b ≡ true
 le_is a b le = le_as a b (int_le a b) refl le
 
 gt_is : (a b : ℤ) → b <ℤ a → int_le a b ≡ false
@@ -33,7 +33,7 @@ last_of_is holds n (suc bound) some within here above =
       | inr (inr gt) ↦ absurd (omega arith)
     ]
 
-day_count-first : day_count (pos 1) 1 1 ≡ 3_652_791
+pub day_count-first : day_count (pos 1) 1 1 ≡ 3_652_791
 day_count-first = day_count-early (pos 1) 10000 1 1 refl (omega arith) (omega arith) (omega arith)
 
 -- a civil date of the years 1 to 9999 begins its year, its month and no later one

@@ -148,3 +148,10 @@ pub record IsUtcText (text : List ℕ) (date : UtcDate) : Type 0 where
   pub ends : is_end (drop 19 text) ≡ true
   pub date_time : IsDateTime (date_time_in text)
   pub seconds : date.seconds ≡ date_time_seconds (date_time_in text)
+
+-- the text of a date is a text of that date, and of no other
+abbrev pub DatesReadBack : Type 0
+DatesReadBack =
+    (date : UtcDate) → IsUtcDate date
+    → IsUtcText (utc_text date) date
+    × ((other : UtcDate) → IsUtcText (utc_text date) other → other ≡ date)

@@ -1,6 +1,6 @@
 // The texts of identifiers and of states (RFC 8620, sections 1.2 and 5.1).
 ghost use Rattle.std.specs.Prelude.{◌≡◌, ◌≢◌, ◌<◌, ◌^◌, ℕ, ◌↔◌, Err, IfOk, IsTrue, IfErr, OnErr, MatchOption, length, slice_index};
-ghost use Rattle.jm_base.specs.Ids.{IsId, IsNumberText, IsState, id_text, state_text};
+ghost use Rattle.jm_base.specs.Ids.{IsDecimal, IsId, IsNumberText, IsState, id_text, state_text};
 ghost use Rattle.jm_base.specs.declared.identifiers.Id.{Id as TheId};
 
 use crate::{FormFault, Id, Kind, NUMBER_LIMIT, NoMemory, Text};
@@ -23,16 +23,24 @@ fn parse_number(text: &str) -> Option<u64>
     requires some { 0 < length text.now }
     requires no_plus { slice_index text.now 0 ≢ 43 }
     requires no_zero { slice_index text.now 0 ≡ 48 → length text.now ≡ 1 }
-    ensures { MatchOption result ((n : ℕ) → ¬ (IsNumberText text.now n)) (IsNumberText text.now) }
+    ensures { MatchOption result ((n : ℕ) → ¬ (IsDecimal text.now n)) (IsDecimal text.now) }
 {
     match text.parse::<u64>() {
-        Ok(number) => {
-            if number < NUMBER_LIMIT {
-                Some(number)
-            } else {
-                None
-            }
-        }
+        Ok(number) => Some(number),
+        Err(_) => None,
+    }
+}
+
+/// Returns the number below 2^64 of which a string is the decimal, without a sign and without a
+/// leading zero, or `None` if the string is no such decimal.
+pub fn read_decimal(text: &[u8]) -> Option<u64>
+    ensures { MatchOption result ((n : ℕ) → ¬ (IsDecimal text.now n)) (IsDecimal text.now) }
+{
+    if !is_number_candidate(text) {
+        return None;
+    }
+    match str::from_utf8(text) {
+        Ok(text) => parse_number(text),
         Err(_) => None,
     }
 }
@@ -41,12 +49,13 @@ fn parse_number(text: &str) -> Option<u64>
 fn read_number(text: &[u8]) -> Option<u64>
     ensures { MatchOption result ((n : ℕ) → ¬ (IsNumberText text.now n)) (IsNumberText text.now) }
 {
-    if !is_number_candidate(text) {
-        return None;
-    }
-    match str::from_utf8(text) {
-        Ok(text) => parse_number(text),
-        Err(_) => None,
+    match read_decimal(text) {
+        Some(number) => if number < NUMBER_LIMIT {
+            Some(number)
+        } else {
+            None
+        },
+        None => None,
     }
 }
 

@@ -1,5 +1,7 @@
 // What the definitions of a change to a list come to (RFC 8620, section 5.6).
 ghost use Rattle.jm_base.specs.Splices.{NothingChanges, BecomesTheOther, BringsUpToDate};
+ghost use Rattle.jm_base.specs.UtcDates.{DatesReadBack};
+ghost use Rattle.jm_base.specs.Ids.{TextsTellIds, TextsTellStates};
 
 /// Shows that a change without removed and added items leaves every list as it is.
 pub fn show_that_nothing_changes_nothing()
@@ -15,4 +17,19 @@ pub fn show_that_a_list_becomes_the_other()
 /// one of the two lists alone, and one item of each pair whose order differs.
 pub fn show_that_a_change_brings_up_to_date()
     ensures { BringsUpToDate }
+{}
+
+/// Shows that the text of a date is a text of that date, and of no other (RFC 8620, section 1.4).
+pub fn show_that_dates_read_back()
+    ensures { DatesReadBack }
+{}
+
+/// Shows that different identifiers have different texts (RFC 8620, section 1.2).
+pub fn show_that_texts_tell_ids()
+    ensures { TextsTellIds }
+{}
+
+/// Shows that different states have different texts (RFC 8620, section 5.1).
+pub fn show_that_texts_tell_states()
+    ensures { TextsTellStates }
 {}

@@ -8,8 +8,8 @@ use Rattle.method_batch.specs.declared.limits.TheConstants.{MAX_CALLS_PER_REQUES
 use Rattle.method_args.specs.declared.TheConstants.{MAX_OBJECTS_PER_CALL}
 use Rattle.server_users.specs.declared.users.User.{User}
 use Rattle.server_users.specs.declared.users.UserAccount.{UserAccount}
-use Rattle.mail_records.specs.declared.limits.TheConstants.{MAX_MAILBOXES_PER_EMAIL}
-use Rattle.mail_counts.specs.declared.limits.TheConstants.{MAX_MAILBOX_NAME_BYTES}
+use Rattle.jm_base.specs.declared.limits.TheConstants.{MAX_MAILBOXES_PER_EMAIL}
+use Rattle.jm_base.specs.declared.limits.TheConstants.{MAX_MAILBOX_NAME_BYTES}
 
 -- ---- capabilities
 

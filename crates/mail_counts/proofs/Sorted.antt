@@ -135,6 +135,10 @@ eqb_ties x y = sym (unsigned_tied x y)
 pub rising-dedup : (xs sorted : List ℕ) → IsPermutation xs sorted → IsSorted nat_cmp sorted → dedup eqb sorted ≡ rising xs
 rising-dedup xs sorted moved in_order = sorted_once-dedup nat_cmp_total nat_equal eqb_ties xs sorted moved in_order
 
+-- numbers that rise and are the same numbers
+pub rising-is : (xs ys : List ℕ) → IsStrictlySortedBy nat_cmp ys → ((n : ℕ) → is_one_of ys n ≡ is_one_of xs n) → ys ≡ rising xs
+rising-is xs ys rise same = sorted_once-is nat_cmp_total nat_equal xs ys rise (λ n. has_number n ys ∙ (same n ∙ sym (has_number n xs)))
+
 -- ---- how many there are
 
 above_none : (n : ℕ) (xs : List ℕ) → AllByRecursion (λ y. nat_cmp n y ≡ Less) xs → has_by nat_cmp n xs ≡ false

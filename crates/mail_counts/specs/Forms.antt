@@ -1,7 +1,8 @@
 -- The forms of names, roles and keywords (RFC 8621, 2 and 4.1.1).
 use Rattle.std.specs.Prelude.{ℕ, List, [], ◌∷◌, length, Bool, ◌&&◌, ◌||◌, not, ◌==◌, nat_le, nat_lt, codes, bytes_eq}
 use Rattle.std.specs.List.{list_any, list_all}
-use Rattle.mail_counts.specs.declared.limits.TheConstants.{MAX_KEYWORD_CHARACTERS, MAX_MAILBOX_NAME_BYTES, SORT_ORDER_LIMIT}
+use Rattle.jm_base.specs.declared.limits.TheConstants.{MAX_MAILBOX_NAME_BYTES}
+use Rattle.mail_counts.specs.declared.limits.TheConstants.{MAX_KEYWORD_CHARACTERS, SORT_ORDER_LIMIT}
 
 -- a byte of a text without control characters: in UTF-8 a byte below 32, and 127, means that
 -- character alone

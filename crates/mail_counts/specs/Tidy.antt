@@ -13,7 +13,7 @@ use Rattle.mail_records.specs.Commits.{NumbersRise, TextsRise}
 use Rattle.mail_records.specs.declared.records.Mailbox.{Mailbox}
 use Rattle.mail_records.specs.declared.records.Email.{Email}
 use Rattle.mail_records.specs.declared.records.Thread.{Thread}
-use Rattle.mail_records.specs.declared.limits.TheConstants.{MAX_MAILBOXES_PER_EMAIL}
+use Rattle.jm_base.specs.declared.limits.TheConstants.{MAX_MAILBOXES_PER_EMAIL}
 use Rattle.mail_counts.specs.declared.limits.TheConstants.{MAX_EMAILS_PER_ACCOUNT, MAX_KEYWORDS_PER_EMAIL}
 use Rattle.mail_counts.specs.Forms.{is_name, is_role, is_sort_order, is_keyword}
 use Rattle.mail_counts.specs.Counts.{HasCounts, HasNoCounts}

@@ -7,7 +7,7 @@ use Rattle.jm_base.specs.declared.identifiers.Kind.TheVariants.{Mailbox as OfMai
 use Rattle.jm_json.specs.Tree.{Tree, null, boolean, number, text, object, fields_of}
 use Rattle.jm_base.specs.declared.identifiers.TheConstants.{NUMBER_LIMIT}
 use Rattle.mail_records.specs.declared.records.Mailbox.{Mailbox}
-use Rattle.mail_counts.specs.declared.limits.TheConstants.{MAX_JSON_INTEGER}
+use Rattle.jm_base.specs.declared.limits.TheConstants.{MAX_JSON_INTEGER}
 
 -- the text of a mailbox's identifier
 abbrev pub mailbox_id : ℕ → List ℕ

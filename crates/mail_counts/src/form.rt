@@ -3,7 +3,8 @@ ghost use Rattle.std.specs.Prelude.{◌≡◌};
 ghost use Rattle.std.specs.List.{list_all};
 ghost use Rattle.mail_counts.specs.Forms.{is_plain_byte, is_name, is_role, is_sort_order};
 
-use crate::limits::{MAX_MAILBOX_NAME_BYTES, SORT_ORDER_LIMIT};
+use crate::limits::SORT_ORDER_LIMIT;
+use jm_base::MAX_MAILBOX_NAME_BYTES;
 
 fn is_plain_byte(byte: u8) -> bool
     ensures { result ≡ is_plain_byte byte }

@@ -23,12 +23,12 @@ pub use following::derived;
 pub use form::{is_name, is_role, is_sort_order};
 pub use laws::{derived_edits_make_tidy, state_after_edits_is_that_of_the_grown_history};
 pub use limits::{
-    MAX_EMAILS_PER_ACCOUNT, MAX_JSON_INTEGER, MAX_KEYWORD_CHARACTERS, MAX_KEYWORDS_PER_EMAIL,
-    MAX_MAILBOX_NAME_BYTES, SORT_ORDER_LIMIT,
+    MAX_EMAILS_PER_ACCOUNT, MAX_KEYWORD_CHARACTERS, MAX_KEYWORDS_PER_EMAIL, SORT_ORDER_LIMIT,
 };
 pub use mailbox_counts::MailboxCounts;
 pub use plan::{SetFault, SetPlan};
 pub use state::find_state_after;
 pub use tally::Tally;
 pub use thread_lists::ThreadLists;
+pub use touched::put_in_order;
 pub use view::{build_mailbox_view, build_rights};

@@ -13,12 +13,11 @@ use mail_records::{Content, Edit, Threaded};
 use std::alloc::Global;
 
 /// Sorts numbers, and leaves each once.
-pub(crate) fn put_in_order(numbers: &mut Vec<u64>)
+pub fn put_in_order(numbers: &mut Vec<u64>)
     ensures is { numbers.new.items ≡ rising numbers.old.items }
     ensures rise { NumbersRise numbers.new.items }
 {
-    numbers.sort_unstable();
-    numbers.dedup();
+    jm_base::put_in_order(numbers);
 }
 
 /// Returns whether a number is one of these, which are in order, each once.

@@ -5,8 +5,7 @@ ghost use Rattle.jm_json.specs.Order.{put};
 ghost use Rattle.jm_json.specs.Tree.{boolean, text};
 ghost use Rattle.mail_counts.specs.Views.{count_tree, mailbox_members, parent_tree, rights_members, rights_tree, role_tree};
 
-use crate::limits::MAX_JSON_INTEGER;
-use jm_base::{Id, Kind, NoMemory, Text, id_text};
+use jm_base::{Id, Kind, MAX_JSON_INTEGER, NoMemory, Text, id_text};
 use jm_json::{Json, Members};
 use mail_records::Mailbox;
 use std::alloc::Global;

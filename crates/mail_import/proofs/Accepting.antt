@@ -9,7 +9,7 @@ use Rattle.jm_json.specs.Tree.{Tree}
 use Rattle.jm_json.specs.Find.{find}
 use Rattle.mail_records.specs.Contents.{Content}
 use Rattle.mail_records.specs.declared.records.Email.{Email}
-use Rattle.mail_records.specs.declared.limits.TheConstants.{MAX_MAILBOXES_PER_EMAIL}
+use Rattle.jm_base.specs.declared.limits.TheConstants.{MAX_MAILBOXES_PER_EMAIL}
 use Rattle.mail_counts.specs.declared.limits.TheConstants.{MAX_EMAILS_PER_ACCOUNT, MAX_KEYWORDS_PER_EMAIL}
 use Rattle.mail_counts.specs.Tidy.{IsTidyEmail, IsThere}
 use Rattle.account_book.specs.Plans.{last_moment}

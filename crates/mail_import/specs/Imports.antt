@@ -7,7 +7,7 @@ use Rattle.jm_base.specs.declared.identifiers.Kind.TheVariants.{Email as OfEmail
 use Rattle.jm_json.specs.Tree.{Tree, number, text}
 use Rattle.blob_ids.specs.BlobIds.{blob_id_text}
 use Rattle.mail_counts.specs.declared.limits.TheConstants.{MAX_EMAILS_PER_ACCOUNT, MAX_KEYWORDS_PER_EMAIL}
-use Rattle.mail_records.specs.declared.limits.TheConstants.{MAX_MAILBOXES_PER_EMAIL}
+use Rattle.jm_base.specs.declared.limits.TheConstants.{MAX_MAILBOXES_PER_EMAIL}
 use Rattle.mail_records.specs.declared.records.Email.{Email}
 use Rattle.mail_records.specs.declared.records.Summary.{Summary}
 use Rattle.mail_records.specs.declared.edits.Edit.TheVariants.{PutEmail}

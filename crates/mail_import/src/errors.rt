@@ -4,9 +4,8 @@ ghost use Rattle.mail_import.specs.Imports.{error_of, faults_of, invalid_names, 
 ghost use Rattle.mail_import.specs.Views.{sent_of};
 
 use crate::properties::Sent;
-use jm_base::{NoMemory, Numbers, Text, Texts};
+use jm_base::{MAX_MAILBOXES_PER_EMAIL, NoMemory, Numbers, Text, Texts};
 use mail_counts::{MAX_EMAILS_PER_ACCOUNT, MAX_KEYWORDS_PER_EMAIL};
-use mail_records::MAX_MAILBOXES_PER_EMAIL;
 use set_parts::SetError;
 use std::alloc::Global;
 

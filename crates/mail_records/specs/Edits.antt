@@ -8,7 +8,8 @@ use Rattle.mail_records.specs.declared.edits.Edit.TheVariants.{PutMailbox, DropM
 use Rattle.jm_base.specs.declared.identifiers.Kind.{Kind}
 use Rattle.jm_base.specs.declared.identifiers.Kind.TheVariants.{Mailbox as OfMailbox, Email as OfEmail, Thread as OfThread}
 use Rattle.jm_base.specs.declared.identifiers.Id.{Id}
-use Rattle.mail_records.specs.declared.limits.TheConstants.{MAX_LINKS_PER_EMAIL, MAX_MAILBOXES_PER_EMAIL}
+use Rattle.jm_base.specs.declared.limits.TheConstants.{MAX_MAILBOXES_PER_EMAIL}
+use Rattle.mail_records.specs.declared.limits.TheConstants.{MAX_LINKS_PER_EMAIL}
 
 -- the record that an edit puts or drops
 abbrev pub id_of : Edit → Id

@@ -4,10 +4,11 @@ ghost use Rattle.mail_records.specs.Contents.{blob_of, mailbox_number, email_num
 ghost use Rattle.mail_records.specs.Edits.{Fits, HasNext, IsSmall, after_edit};
 ghost use Rattle.mail_records.specs.Orders.{AreByReceived, AreChildren, AreChildrenNamed, AreInMailbox, AreInThread, AreWithLink, AreWithRole};
 ghost use Rattle.mail_records.specs.Tables.{IsTable};
-ghost use Rattle.mail_records.specs.declared.limits.TheConstants.{MAX_LINKS_PER_EMAIL, MAX_MAILBOXES_PER_EMAIL};
+ghost use Rattle.jm_base.specs.declared.limits.TheConstants.{MAX_MAILBOXES_PER_EMAIL};
+ghost use Rattle.mail_records.specs.declared.limits.TheConstants.{MAX_LINKS_PER_EMAIL};
 
 use crate::emails::Emails;
-use crate::limits::{MAX_LINKS_PER_EMAIL, MAX_MAILBOXES_PER_EMAIL};
+use crate::limits::MAX_LINKS_PER_EMAIL;
 use crate::mailboxes::Mailboxes;
 use crate::{
     Dated, Edit, Email, EmailBlob, Linked, Mailbox, Named, Placed, Roled, Table, Thread, Threaded,
@@ -31,7 +32,8 @@ pub struct Content {
 impl Model for Content {
     ghost use Rattle.std.specs.Prelude.{min, ◌/◌};
     ghost use Rattle.mail_records.specs.Contents.{Held};
-    ghost use Rattle.mail_records.specs.declared.limits.TheConstants.{MAX_LINKS_PER_EMAIL, MAX_MAILBOXES_PER_EMAIL};
+    ghost use Rattle.jm_base.specs.declared.limits.TheConstants.{MAX_MAILBOXES_PER_EMAIL};
+    ghost use Rattle.mail_records.specs.declared.limits.TheConstants.{MAX_LINKS_PER_EMAIL};
 
     ghost Value = { Held };
 

@@ -28,6 +28,6 @@ pub use laws::{
     histories_are_founded, histories_are_sound, histories_grow, keys_tell_lists,
     states_tell_records,
 };
-pub use limits::{MAX_LINKS_PER_EMAIL, MAX_MAILBOXES_PER_EMAIL};
+pub use limits::MAX_LINKS_PER_EMAIL;
 pub use records::{Email, Mailbox, Summary, Thread};
 pub use table::{Record, Table};

@@ -20,6 +20,7 @@ ghost use Rattle.set_parts.specs.Views.{AreMade};
 ghost use Rattle.set_parts.specs.declared.steps.Step.TheVariants.{Done, Rejected};
 
 use jm_base::{NoMemory, Numbers};
+use mail_counts::put_in_order;
 use mail_records::{Content, Edit, Email, Mailbox, Named, Placed, Record};
 use mailbox_updates::{Current, Setting, find_meant, is_untouched};
 use set_parts::{SetError, find_reported_id};
@@ -93,23 +94,15 @@ fn collect_numbers(alloc: Global, placed: &[Placed]) -> Result<Vec<u64>, NoMemor
     Ok(numbers)
 }
 
-// Sorts numbers, and leaves each once.
-fn put_in_order(numbers: Vec<u64>) -> Vec<u64>
-    ensures { result.items ≡ rising numbers.items }
-{
-    let mut numbers = numbers;
-    numbers.sort_unstable();
-    numbers.dedup();
-    numbers
-}
-
 // Returns the numbers of the emails in a mailbox, rising, as they were at the beginning.
 fn find_emails(alloc: Global, content: &Content, mailbox: u64) -> Result<Vec<u64>, NoMemory>
     ensures { IfOk result (λ v. v.items
         ≡ map email_number (emails_in mailbox content.now.content.emails)) }
 {
     let _in_order = content.emails();
-    Ok(put_in_order(collect_numbers(alloc, content.find_in_mailbox(mailbox))?))
+    let mut numbers = collect_numbers(alloc, content.find_in_mailbox(mailbox))?;
+    put_in_order(&mut numbers);
+    Ok(numbers)
 }
 
 // Returns the mailboxes that are neither this one nor among the destroyed ones.

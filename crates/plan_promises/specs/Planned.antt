@@ -13,7 +13,7 @@ use Rattle.jm_base.specs.UtcDates.{IsUtcDate}
 use Rattle.mail_records.specs.Commits.{NumbersRise, TextsRise}
 use Rattle.mail_records.specs.Contents.{Content, email_at}
 use Rattle.mail_records.specs.Edits.{AllFit, after_edit, after_edits}
-use Rattle.mail_records.specs.declared.limits.TheConstants.{MAX_MAILBOXES_PER_EMAIL}
+use Rattle.jm_base.specs.declared.limits.TheConstants.{MAX_MAILBOXES_PER_EMAIL}
 use Rattle.mail_records.specs.declared.records.Email.{Email}
 use Rattle.mail_records.specs.declared.records.Summary.{Summary}
 use Rattle.mail_records.specs.declared.edits.Edit.{Edit}

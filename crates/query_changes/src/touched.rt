@@ -11,7 +11,7 @@ ghost use Rattle.query_changes.specs.Notes.{is_in_threads, threads_named};
 ghost use Rattle.query_changes.specs.Touched.{looks_at_threads, touched};
 
 use crate::delta::Added;
-use jm_base::{AddedItem, Kind, NoMemory};
+use jm_base::{AddedItem, Kind, NoMemory, put_in_order};
 use mail_records::Content;
 use query_engine::Query;
 use state_log::{Log, Note};
@@ -28,15 +28,6 @@ fn list_threads(alloc: Global, notes: &[Note]) -> Result<Vec<u64>, NoMemory>
         }
     }
     Ok(threads)
-}
-
-// Puts numbers in order, each once.
-fn put_in_order(numbers: &mut Vec<u64>)
-    ensures rise { IsStrictlyIncreasing numbers.new.items }
-    ensures same { (n : ℕ) → has numbers.new.items n ≡ has numbers.old.items n }
-{
-    numbers.sort_unstable();
-    numbers.dedup();
 }
 
 // Adds the numbers of the emails of a thread.

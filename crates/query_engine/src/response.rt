@@ -17,9 +17,8 @@ use crate::query::Query;
 use crate::run::run_query_upto;
 use crate::windows::{find_greatest_count, limit_of, window};
 use filter_terms::Texts2;
-use jm_base::{Kind, NoMemory, Text, state_text};
+use jm_base::{Kind, MAX_JSON_INTEGER, NoMemory, Text, state_text};
 use jm_json::{Json, Members};
-use mail_counts::MAX_JSON_INTEGER;
 use mail_records::Content;
 use method_args::make_ids;
 use std::alloc::Global;
@@ -27,7 +26,7 @@ use std::alloc::Global;
 /// Returns a number as JSON has it, which has no greater one than [`MAX_JSON_INTEGER`] (RFC 8620,
 /// section 1.3).
 ///
-/// [`MAX_JSON_INTEGER`]: mail_counts::MAX_JSON_INTEGER
+/// [`MAX_JSON_INTEGER`]: jm_base::MAX_JSON_INTEGER
 pub fn make_count(value: u64) -> Json
     ensures { tree_of result ≡ count_tree value }
 {

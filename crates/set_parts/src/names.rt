@@ -21,6 +21,7 @@ use crate::creation_ids::{CreatedIds, find_id, read_mailbox_number, read_referen
 use crate::keywords::read_keyword;
 use jm_base::{Id, Kind, NoMemory, Numbers, Text, Texts, id_text};
 use jm_json::{Json, Member, Members};
+use mail_counts::put_in_order;
 use mail_records::Content;
 use std::alloc::Global;
 
@@ -98,13 +99,12 @@ fn collect_mailboxes<'a>(
     Ok(Some(numbers))
 }
 
-// Sorts numbers, and leaves each once.
-fn put_in_order(numbers: Vec<u64>) -> Numbers
+// Returns numbers in order, each once.
+fn order_numbers(numbers: Vec<u64>) -> Numbers
     ensures { result ≡ rising numbers.items }
 {
     let mut numbers = numbers;
-    numbers.sort_unstable();
-    numbers.dedup();
+    put_in_order(&mut numbers);
     Numbers::from_vec(numbers)
 }
 
@@ -117,7 +117,7 @@ fn order_mailboxes(numbers: Option<Vec<u64>>) -> Option<Numbers>
         Some(numbers) => if numbers.is_empty() {
             None
         } else {
-            Some(put_in_order(numbers))
+            Some(order_numbers(numbers))
         },
         None => None,
     }

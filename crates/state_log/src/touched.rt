@@ -1,13 +1,11 @@
 // The numbers of a kind that notes name, in order.
-ghost use Rattle.std.specs.Prelude.{◌≡◌, ℕ, IfOk, ◌==◌};
-ghost use Rattle.std.specs.List.{list_any};
-ghost use Rattle.std.specs.List.Sorted.{IsStrictlyIncreasing};
+ghost use Rattle.std.specs.Prelude.{◌≡◌, IfOk};
 ghost use Rattle.mail_records.specs.States.{AreNamed};
 ghost use Rattle.state_log.specs.Logs.{ids_in, numbers_named};
 
 use crate::Note;
 use crate::notes::is_of;
-use jm_base::{Kind, NoMemory, Numbers};
+use jm_base::{Kind, NoMemory, Numbers, put_in_order};
 use std::alloc::Global;
 
 fn collect_named_numbers(alloc: Global, notes: &[Note], kind: Kind) -> Result<Vec<u64>, NoMemory>
@@ -20,16 +18,6 @@ fn collect_named_numbers(alloc: Global, notes: &[Note], kind: Kind) -> Result<Ve
         }
     }
     Ok(numbers)
-}
-
-// Puts numbers in order, each once.
-fn put_in_order(numbers: &mut Vec<u64>)
-    ensures rise { IsStrictlyIncreasing numbers.new.items }
-    ensures same { (n : ℕ) → list_any (λ x. x == n) numbers.new.items
-        ≡ list_any (λ x. x == n) numbers.old.items }
-{
-    numbers.sort_unstable();
-    numbers.dedup();
 }
 
 /// Returns the numbers of a kind that the notes name, in number order.

@@ -15,7 +15,7 @@ use Rattle.jm_base.specs.declared.utc_dates.TheConstants.{FIRST_TIMESTAMP, LAST_
 use Rattle.mail_records.specs.Contents.{AreTables, Content, email_number, mailbox_number, thread_at, thread_number}
 use Rattle.mail_records.specs.Commits.{NumbersRise, TextsRise}
 use Rattle.mail_records.specs.Tables.{IsNumbered, IsTable}
-use Rattle.mail_records.specs.declared.limits.TheConstants.{MAX_MAILBOXES_PER_EMAIL}
+use Rattle.jm_base.specs.declared.limits.TheConstants.{MAX_MAILBOXES_PER_EMAIL}
 use Rattle.mail_records.specs.declared.records.Mailbox.{Mailbox}
 use Rattle.mail_records.specs.declared.records.Email.{Email}
 use Rattle.mail_records.specs.declared.records.Thread.{Thread}

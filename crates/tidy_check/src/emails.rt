@@ -7,8 +7,8 @@ use crate::keywords::are_keywords;
 use crate::mailboxes::is_mailbox;
 use crate::numbers::is_in_use;
 use crate::rising::are_numbers_rising;
-use jm_base::{FIRST_TIMESTAMP, Kind, LAST_TIMESTAMP, UtcDate};
-use mail_records::{Content, Email, MAX_MAILBOXES_PER_EMAIL};
+use jm_base::{FIRST_TIMESTAMP, Kind, LAST_TIMESTAMP, MAX_MAILBOXES_PER_EMAIL, UtcDate};
+use mail_records::{Content, Email};
 
 fn has_only_mailboxes(content: &Content, numbers: &[u64]) -> bool
     ensures { result ≡ list_all (is_mailbox content.now.content) numbers.now }

@@ -1,10 +1,13 @@
-use Rattle.std.proofs.lemmas.Bool.{false≢true}
-use Rattle.jm_base.proofs.Decimals.{decimal_begins, decimal_utf8}
+use Rattle.std.proofs.Common.{arith, sym, ◌∙◌, ◌≡◌}
+use Rattle.std.proofs.lemmas.Fmt.{decimal_injective}
 use Rattle.jm_base.proofs.id_texts.read_number.Goals as goal
 
-pub returns-then-not-is_number_candidate : goal.returns-then-not-is_number_candidate
-returns-then-not-is_number_candidate c n is =
-    let b = decimal_begins c.args.text.now n is in false≢true (c.if-not-is_number_candidate.ensures.1 (b.some, b.no_plus, b.no_zero))
+pub returns-else-number-lt-NUMBER_LIMIT : goal.returns-else-number-lt-NUMBER_LIMIT
+returns-else-number-lt-NUMBER_LIMIT c n is =
+    let lt = is.0 in
+    let small = c.in-Some.ensures.0 in
+    let same : n ≡ c.in-Some.number = decimal_injective n c.in-Some.number (omega (arith, lt)) small (sym is.1 ∙ c.in-Some.ensures.1) in
+    omega (arith, lt, same)
 
-pub returns-in-Err : goal.returns-in-Err
-returns-in-Err c n is = c.in-Err.ensures.cases.0 (decimal_utf8 c.args.text.now n is)
+pub returns-in-None : goal.returns-in-None
+returns-in-None c n is = let lt = is.0 in c.in-None.ensures n (omega (arith, lt), is.1)

@@ -3,8 +3,8 @@ use Rattle.std.specs.List.Sorted.{IsStrictlyIncreasing}
 use Rattle.std.proofs.lemmas.List.Filters.{dedup_is}
 use Rattle.std.proofs.lemmas.Map.Keys.{IsStrictlyIncreasing-dedup}
 use Rattle.jm_base.specs.Splices.{has}
-use Rattle.state_log.proofs.Named.{any-dedup}
-use Rattle.query_changes.proofs.touched.put_in_order.Goals as goal
+use Rattle.jm_base.proofs.Ordered.{any-dedup}
+use Rattle.jm_base.proofs.numbers.put_in_order.Goals as goal
 
 pub returns-clause-rise : goal.returns-clause-rise
 returns-clause-rise c =

@@ -1,0 +1,5 @@
+use Rattle.jm_base.proofs.Decimals.{texts_tell_ids}
+use Rattle.jm_base.proofs.laws.show_that_texts_tell_ids.Goals as goal
+
+pub returns : goal.returns
+returns c = texts_tell_ids
