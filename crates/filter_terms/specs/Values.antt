@@ -3,12 +3,11 @@ use Rattle.std.specs.Prelude.{ℕ, ℤ, List, [], ◌∷◌, Option, Some, None,
 use Rattle.jm_json.specs.Tree.{Tree, null, boolean, number, text, list, object}
 use Rattle.jm_json.specs.Find.{as_text}
 use Rattle.method_args.specs.Arguments.{as_strings}
-use Rattle.utc_dates.specs.Dates.{first_second}
+use Rattle.jm_base.specs.UtcSeconds.{utc_seconds}
 
--- a UTCDate (RFC 8620, 1.4), as the first whole second that is not before it: emails are received
--- at whole seconds, of which one is before the date if and only if it is before that second
+-- a UTCDate (RFC 8620, 1.4), in Unix seconds; a fraction of a second is dropped, as in every date
 abbrev pub as_date : Tree → Option ℤ
-as_date t = option_and_then first_second (as_text t)
+as_date t = option_and_then utc_seconds (as_text t)
 
 -- a string, or null
 abbrev pub as_nullable : Tree → Option (Option (List ℕ))

@@ -6,18 +6,17 @@ ghost use Rattle.method_args.specs.Arguments.{as_count, as_flag, passes};
 ghost use Rattle.filter_terms.specs.EmailTerms.{is_mailbox_id};
 ghost use Rattle.filter_terms.specs.Values.{as_date};
 
-use jm_base::{Kind, read_id};
+use jm_base::{Kind, read_id, read_utc_seconds};
 use jm_json::Json;
 use method_args::check_unsigned;
-use utc_dates::read_first_second;
 
-/// Returns the first whole second that is not before the date of a value, in Unix seconds, or
-/// `None` if the value is no UTCDate.
+/// Returns the date of a value in Unix seconds, without its fraction of a second, or `None` if the
+/// value is no UTCDate.
 pub(crate) fn as_date(value: &Json) -> Option<i64>
     ensures { result ≡ as_date (tree_of value.now) }
 {
     match value.as_text() {
-        Some(text) => read_first_second(text.as_bytes()),
+        Some(text) => read_utc_seconds(text.as_bytes()),
         None => None,
     }
 }

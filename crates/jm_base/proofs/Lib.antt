@@ -1,8 +1,9 @@
 pub mod Decimals
 pub mod Days
-pub mod DateTexts
+pub mod DayParts
 pub mod WrittenDates
 pub mod LaidOut
 pub mod Spliced
 pub mod Ordered
 pub mod Searched
+pub mod DateTests

@@ -1,3 +1,4 @@
 pub mod Ids
 pub mod UtcDates
+pub mod UtcSeconds
 pub mod Splices

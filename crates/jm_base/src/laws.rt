@@ -1,6 +1,9 @@
 // What the definitions of a change to a list come to (RFC 8620, section 5.6).
 ghost use Rattle.jm_base.specs.Splices.{NothingChanges, BecomesTheOther, BringsUpToDate};
-ghost use Rattle.jm_base.specs.UtcDates.{DatesReadBack};
+ghost use Rattle.std.specs.Prelude.{◌≡◌, ℕ, ℤ, List, Some};
+ghost use Rattle.jm_base.specs.UtcDates.{DatesReadBack, IsUtcText};
+ghost use Rattle.jm_base.specs.UtcSeconds.{utc_seconds};
+ghost use Rattle.jm_base.specs.declared.identifiers.UtcDate.{UtcDate};
 ghost use Rattle.jm_base.specs.Ids.{TextsTellIds, TextsTellStates};
 
 /// Shows that a change without removed and added items leaves every list as it is.
@@ -32,4 +35,13 @@ pub fn show_that_texts_tell_ids()
 /// Shows that different states have different texts (RFC 8620, section 5.1).
 pub fn show_that_texts_tell_states()
     ensures { TextsTellStates }
+{}
+
+/// Shows that the test of dates tells a string's date: a string has the seconds of a date if and
+/// only if it is a string of that date.
+pub fn show_that_the_test_tells_dates()
+    ensures dated { (text : List ℕ) (date : UtcDate) → IsUtcText text date
+        → utc_seconds text ≡ Some date.seconds }
+    ensures read { (text : List ℕ) (seconds : ℤ) → utc_seconds text ≡ Some seconds
+        → IsUtcText text (record { seconds = seconds }) }
 {}

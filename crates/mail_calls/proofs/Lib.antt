@@ -5,5 +5,4 @@ pub mod Changes
 pub mod Queries
 pub mod ValidityTested
 pub mod SharedMessages
-pub mod StateChanges
 pub mod RightFlags

@@ -1,10 +1,7 @@
 // What the rules of mail rest on, as laws: messages have summaries that can be kept, and what a
-// planner promises keeps an account valid. Clients rest on the last one: a state changes if and
-// only if a record of its kind was edited.
-ghost use Rattle.std.specs.Prelude.{ℕ, List, [], ◌++◌, ◌≡◌, ◌<◌};
-ghost use Rattle.jm_base.specs.declared.identifiers.Kind.{Kind};
-ghost use Rattle.mail_records.specs.Histories.{History, Entry, Committed, IsFounded, blobs_of, content_of, entry_edits, grown};
-ghost use Rattle.mail_records.specs.States.{edits_of_kind, state_of};
+// planner promises keeps an account valid.
+ghost use Rattle.std.specs.Prelude.{ℕ, List, ◌++◌};
+ghost use Rattle.mail_records.specs.Histories.{History, Committed, blobs_of, content_of, grown};
 ghost use Rattle.mail_records.specs.declared.edits.Stamp.{Stamp};
 ghost use Rattle.mail_counts.specs.CountsFlag.{AreCountsFlagsRight};
 ghost use Rattle.mail_summary.specs.Summaries.{summary};
@@ -39,14 +36,4 @@ pub fn planned_edits_keep_accounts_valid()
 pub fn plans_say_which_puts_change_only_counts()
     ensures { (h : History) (call : Call) (moment : ℕ) → IsWholeMail h
         → AreCountsFlagsRight (content_of h) (call_plan h call moment).edits }
-{}
-
-/// The state of a kind of records is as before after an entry without an edit of the kind, as after
-/// each refusal, and is a later one after a commit with such an edit (RFC 8620, section 5.1).
-pub fn states_change_at_edits_of_their_kind()
-    ensures unchanged { (h : History) (kind : Kind) (e : Entry)
-        → edits_of_kind kind (entry_edits e) ≡ [] → state_of (grown h e) kind ≡ state_of h kind }
-    ensures later { (h : History) (kind : Kind) (e : Entry) → IsFounded h
-        → ¬ (edits_of_kind kind (entry_edits e) ≡ [])
-        → state_of h kind < state_of (grown h e) kind }
 {}

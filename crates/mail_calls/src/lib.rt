@@ -12,7 +12,7 @@ mod validity;
 
 pub use laws::{
     planned_edits_keep_accounts_valid, plans_say_which_puts_change_only_counts,
-    states_change_at_edits_of_their_kind, summaries_can_be_kept,
+    summaries_can_be_kept,
 };
 pub use methods::{CopyMethod, Method};
 pub use rules::MailRules;

@@ -24,7 +24,7 @@ use Rattle.set_parts.specs.Responses.{member_named}
 use Rattle.set_parts.specs.declared.set_errors.SetError.{SetError}
 use Rattle.set_parts.proofs.Parts.{bound, mapped, there, unwrapped}
 use Rattle.set_parts.proofs.Sets.{AreKeywords, all_in_set, keywords_good, mailboxes_good}
-use Rattle.utc_dates.specs.Dates.{utc_seconds}
+use Rattle.jm_base.specs.UtcSeconds.{utc_seconds}
 use Rattle.mail_import.specs.Imports.{Progress, email_of, error_of, received_at}
 use Rattle.mail_import.specs.Properties.{NamedBlob, Sent, date_named, date_of}
 use Rattle.mail_import.proofs.Accepting.{IsNewEmail, accepted}

@@ -13,7 +13,7 @@ use Rattle.jm_base.specs.UtcDates.{DateTime, IsDay, IsTime, IsUtcDate, date_time
 use Rattle.jm_base.specs.declared.identifiers.UtcDate.{UtcDate}
 use Rattle.jm_base.specs.declared.utc_dates.TheConstants.{FIRST_TIMESTAMP, LAST_TIMESTAMP}
 use Rattle.jm_base.proofs.Days.{day_bounds}
-use Rattle.utc_dates.specs.Dates.{is_day, is_time, is_utc_text, utc_seconds}
+use Rattle.jm_base.specs.UtcSeconds.{is_day, is_time, is_utc_text, utc_seconds}
 use Rattle.header_forms.specs.Dates.{if_in_range, date_time_in as zoned_in, unix_seconds, utc_of}
 use Rattle.header_forms.specs.Texts.{on_one_line}
 use Rattle.header_forms.specs.declared.date_time.ZonedDateTime.{ZonedDateTime}

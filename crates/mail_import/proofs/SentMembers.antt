@@ -9,7 +9,7 @@ use Rattle.jm_json.specs.Find.{as_text}
 use Rattle.blob_ids.specs.BlobIds.{blob_id_in}
 use Rattle.blob_ids.specs.declared.ids.BlobId.{BlobId}
 use Rattle.blob_store.specs.Blobs.{blob_numbered}
-use Rattle.utc_dates.specs.Dates.{utc_seconds}
+use Rattle.jm_base.specs.UtcSeconds.{utc_seconds}
 use Rattle.set_parts.proofs.Parts.{bound, mapped}
 use Rattle.mail_import.specs.Properties.{NamedBlob, blob_in, blob_named, date_named, date_of, received_in, whole_blob}
 use Rattle.mail_import.proofs.Dates.{sent_date}

@@ -10,7 +10,7 @@ use Rattle.blob_ids.specs.declared.ids.BlobId.{BlobId}
 use Rattle.blob_store.specs.Blobs.{blob_numbered}
 use Rattle.mail_records.specs.Contents.{Content, mailbox_number}
 use Rattle.set_parts.specs.Names.{keywords_in, mailboxes_in}
-use Rattle.utc_dates.specs.Dates.{utc_seconds}
+use Rattle.jm_base.specs.UtcSeconds.{utc_seconds}
 
 -- ---- blobId
 

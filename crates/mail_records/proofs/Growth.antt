@@ -25,7 +25,7 @@ found P number n x (y ∷ ys) all is =
     (λ (t : eqb (number y) n ≡ false). found P number n x ys all.1 (rw t at is))
     (cases_Bool (eqb (number y) n))
 
-there : {R : Type 0} (o : Option R) → is_some o ≡ true → (x : R) × (o ≡ Some x)
+pub there : {R : Type 0} (o : Option R) → is_some o ≡ true → (x : R) × (o ≡ Some x)
 there None h = absurd (false≢true h)
 there (Some x) h = (x, refl)
 

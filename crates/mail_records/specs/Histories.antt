@@ -1,8 +1,9 @@
 -- The history of an account: a base, and the commits and refusals after it. A position counts the
 -- edits of the commits.
-use Rattle.std.specs.Prelude.{◌≡◌, ℕ, ◌+◌, ◌-◌, ◌≤◌, ◌^◌, Bool, true, false, List, [], ◌∷◌, ◌++◌, take, drop, length, map, flat_map, ⊤}
+use Rattle.std.specs.Prelude.{◌≡◌, ℕ, ◌+◌, ◌-◌, ◌<◌, ◌≤◌, ◌^◌, Bool, true, false, List, [], ◌∷◌, ◌++◌, take, drop, length, map, flat_map, ⊤}
 use Rattle.std.specs.List.{AllByRecursion}
-use Rattle.mail_records.specs.Contents.{Content, empty_content, AreTables, AreNumbered, NextAtMost}
+use Rattle.mail_records.specs.Commits.{IsFormedEdit, IsFormedEmail}
+use Rattle.mail_records.specs.Contents.{Content, empty_content, AreTables, AreNumbered, NextAtMost, next_of}
 use Rattle.mail_records.specs.Edits.{id_of, after_edits, AllFit}
 use Rattle.mail_records.specs.declared.records.Email.{Email}
 use Rattle.mail_records.specs.declared.edits.Edit.{Edit}
@@ -171,6 +172,15 @@ pub record IsFounded (h : History) : Type 0 where
   pub tables : AreTables h.base
   pub numbered : AreNumbered h.base
   pub next : NextAtMost (h.floor + 1) h.base
+
+-- the number is from 1 and below the next number of its kind
+abbrev pub IsNamedBelow : Content → Id → Type 0
+IsNamedBelow c i = (1 ≤ i.number) × (i.number < next_of c i.kind)
+
+-- the emails of the base are formed, and so is each email that an edit puts
+pub record IsFormedHistory (h : History) : Type 0 where
+  pub base : AllByRecursion IsFormedEmail h.base.emails
+  pub edits : AllByRecursion IsFormedEdit (edits_of h)
 
 -- the thread that the edit names for its email is this one
 abbrev pub NamesThread : (ℕ → ℕ) → Edit → Type 0

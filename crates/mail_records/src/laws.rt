@@ -1,14 +1,17 @@
 // What holds of all histories: laws of the definitions, each as the contract of a function that
 // does nothing.
-ghost use Rattle.std.specs.Prelude.{◌≡◌, ◌+◌, ◌++◌, ◌≤◌, Bool, ℕ, List, length};
+ghost use Rattle.std.specs.Prelude.{◌≡◌, ◌+◌, ◌++◌, ◌<◌, ◌≤◌, Bool, ℕ, List, [], drop, length};
+ghost use Rattle.std.specs.List.{AllByRecursion};
 ghost use Rattle.jm_base.specs.declared.identifiers.Kind.{Kind};
 ghost use Rattle.mail_records.specs.Contents.{AreNumbered, AreTables, NextAtMost, SameRecords, email_number, mailbox_number};
 ghost use Rattle.mail_records.specs.Orders.{AreKeys, Key};
 ghost use Rattle.mail_records.specs.declared.records.Email.{Email};
 ghost use Rattle.mail_records.specs.declared.records.Mailbox.{Mailbox};
+ghost use Rattle.mail_records.specs.Commits.{IsFormedEdit, IsFormedEmail};
 ghost use Rattle.mail_records.specs.Edits.{AllFit, AllKeepThread, after_edits};
-ghost use Rattle.mail_records.specs.Histories.{Committed, Entry, FloorsAtMost, History, IsFounded, IsSound, Refused, account_after, blobs_of, content_at, content_of, edits_of, empty_history, end_after, end_of, entry_blobs, entry_edits, grown, grown_by};
-ghost use Rattle.mail_records.specs.States.{Reaches, state_at, state_of};
+ghost use Rattle.mail_records.specs.FloorMoves.{moved_up};
+ghost use Rattle.mail_records.specs.Histories.{Committed, Entry, FloorsAtMost, History, IsFormedHistory, IsFounded, IsNamedBelow, IsSound, Refused, account_after, blobs_of, content_at, content_of, edits_between, edits_in, edits_of, empty_history, end_after, end_of, entry_blobs, entry_edits, grown, grown_by, ids_of};
+ghost use Rattle.mail_records.specs.States.{Reaches, edits_of_kind, ids_between, state_at, state_of};
 ghost use Rattle.mail_records.specs.declared.edits.Commit.{Commit};
 ghost use Rattle.mail_records.specs.declared.edits.Stamp.{Stamp};
 
@@ -76,6 +79,60 @@ pub fn states_tell_records()
     ensures same { (h : History) (kind : Kind) (j k : ℕ) → FloorsAtMost h.floors h.floor → j ≤ k
         → state_at h kind j ≡ state_at h kind k → SameRecords kind (content_at h k)
         (content_at h j) }
+{}
+
+/// The states of the account after some of its entries are those of the whole account, up to the
+/// end of these entries, and so are its edits. States don't fall as positions grow, and with the
+/// other entries the account is the whole one again.
+pub fn points_are_of_one_history()
+    ensures rises { (h : History) (kind : Kind) (j k : ℕ) → FloorsAtMost h.floors h.floor → j ≤ k
+        → state_at h kind j ≤ state_at h kind k }
+    ensures state { (h : History) (kind : Kind) (c k : ℕ) → k ≤ end_after h c
+        → state_at (account_after h c) kind k ≡ state_at h kind k }
+    ensures edits { (h : History) (c from upto : ℕ) → upto ≤ end_after h c
+        → edits_between (account_after h c) from upto ≡ edits_between h from upto }
+    ensures ids { (h : History) (c from upto : ℕ) → upto ≤ end_after h c
+        → ids_between h.floor from upto (ids_of (account_after h c))
+        ≡ ids_between h.floor from upto (ids_of h) }
+    ensures whole { (h : History) (c : ℕ) → grown_by (account_after h c) (drop c h.entries) ≡ h }
+{}
+
+/// The state of a kind of records is as before after entries without an edit of the kind, as after
+/// refusals, and is a later one after entries with such an edit (RFC 8620, section 5.1).
+pub fn states_change_at_edits_of_their_kind()
+    ensures unchanged { (h : History) (kind : Kind) (more : List Entry)
+        → edits_of_kind kind (edits_in more) ≡ []
+        → state_of (grown_by h more) kind ≡ state_of h kind }
+    ensures later { (h : History) (kind : Kind) (more : List Entry)
+        → FloorsAtMost h.floors h.floor → ¬ (edits_of_kind kind (edits_in more) ≡ [])
+        → state_of h kind < state_of (grown_by h more) kind }
+{}
+
+/// If the floor of a history moves up to the end of its first entries, the records of a kind are the
+/// same as before at each position from the kind's new floor position up to the new floor.
+pub fn records_stay_below_a_floor_that_moved_up()
+    ensures { (h : History) (kind : Kind) (c k : ℕ) → FloorsAtMost h.floors h.floor
+        → state_at h kind (end_after h c) ≤ k → k ≤ end_after h c
+        → SameRecords kind (content_at (moved_up h c) k) (content_at h k) }
+{}
+
+/// Each record that an edit of a history names has a number from 1 and below its kind's next one.
+pub fn edits_name_numbers_below_the_next()
+    ensures { (h : History) → IsFounded h → AllFit h.base (edits_of h)
+        → AllByRecursion (IsNamedBelow (content_of h)) (ids_of h) }
+{}
+
+/// A history whose base and commits are formed has formed emails at each position. The empty
+/// history is formed, it stays so with entries whose edits are formed, and it was so after each
+/// entry.
+pub fn histories_stay_formed()
+    ensures empty { IsFormedHistory empty_history }
+    ensures grown { (h : History) (more : List Entry) → IsFormedHistory h
+        → AllByRecursion IsFormedEdit (edits_in more) → IsFormedHistory (grown_by h more) }
+    ensures before { (h : History) (count : ℕ) → IsFormedHistory h
+        → IsFormedHistory (account_after h count) }
+    ensures emails { (h : History) (k : ℕ) → IsFormedHistory h
+        → AllByRecursion IsFormedEmail (content_at h k).emails }
 {}
 
 /// The keys of a part of an order are one list: two lists that rise and have exactly the same keys

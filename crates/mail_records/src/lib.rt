@@ -25,7 +25,9 @@ pub use edits::{Commit, Edit, Edits, Stamp, copy_edits};
 pub use entries::{Dated, EmailBlob, Linked, Named, Placed, Roled, Threaded};
 pub use fitting::{Applied, apply_all_ready, apply_fitting, fits, keeps_thread};
 pub use laws::{
-    histories_are_founded, histories_are_sound, histories_grow, keys_tell_lists,
+    edits_name_numbers_below_the_next, histories_are_founded, histories_are_sound, histories_grow,
+    histories_stay_formed, keys_tell_lists, points_are_of_one_history,
+    records_stay_below_a_floor_that_moved_up, states_change_at_edits_of_their_kind,
     states_tell_records,
 };
 pub use limits::MAX_LINKS_PER_EMAIL;

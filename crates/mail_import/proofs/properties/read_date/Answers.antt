@@ -1,5 +1,5 @@
 use Rattle.std.proofs.Common.{ap, option_map}
-use Rattle.utc_dates.proofs.DateTexts.{dated, undated}
+use Rattle.jm_base.proofs.DateTests.{dated, undated}
 use Rattle.mail_import.specs.Properties.{date_of}
 use Rattle.mail_import.proofs.properties.read_date.Goals as goal
 

@@ -1,8 +1,8 @@
 use Rattle.std.proofs.Common.{arith, w64}
 use Rattle.jiff_core.proofs.SignedLemmas.{signed_arith}
 use Rattle.std.proofs.lemmas.Int.{to_z-of_z}
-use Rattle.utc_dates.proofs.DateTexts.{dated, undated}
-use Rattle.utc_dates.proofs.dates.read_utc_seconds.Goals as goal
+use Rattle.jm_base.proofs.DateTests.{dated, undated}
+use Rattle.jm_base.proofs.utc_seconds.read_utc_seconds.Goals as goal
 
 pub returns-in-Ok : goal.returns-in-Ok
 returns-in-Ok c =

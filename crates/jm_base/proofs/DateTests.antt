@@ -6,7 +6,7 @@ use Rattle.std.proofs.lemmas.Bool.Decides.{nat_tests}
 use Rattle.jiff_core.specs.Calendar.{days_in_month}
 use Rattle.jm_base.specs.UtcDates.{DateTime, IsDay, IsTime, IsUtcText, date_time_in, date_time_seconds}
 use Rattle.jm_base.specs.declared.identifiers.UtcDate.{UtcDate}
-use Rattle.utc_dates.specs.Dates.{is_day, is_time, is_utc_text, utc_seconds}
+use Rattle.jm_base.specs.UtcSeconds.{is_day, is_time, is_utc_text, utc_seconds}
 
 le_true : (a b : ℕ) → a ≤ b → nat_le a b ≡ true
 le_true a b h = grind (arith, nat_tests)
