@@ -205,17 +205,16 @@ impl<'a, A: Asks> Port for HallPort<'a, A> {
 
     ghost stays = { hall_stays A.calls };
 
-    fn call(&mut self, alloc: Global, call: &Invocation, made: &Made) -> Result<Replied, NoMemory> {
+    fn call(&mut self, alloc: Global, call: Invocation, made: &Made) -> Result<Replied, NoMemory> {
         let users = self.users;
         let accounts = find_accounts(users, self.user);
-        match find_target(accounts, call) {
-            Err(kind) => build_error_reply(alloc, kind, call),
+        match find_target(accounts, &call) {
+            Err(kind) => build_error_reply(alloc, kind, &call),
             Ok(to) => {
-                let copy = call.copy(alloc)?;
                 let made = copy_made(alloc, made)?;
-                match find_source(accounts, call) {
-                    None => self.perform(alloc, to, copy, made),
-                    Some(from) => self.copy_to(alloc, from, to, copy, made),
+                match find_source(accounts, &call) {
+                    None => self.perform(alloc, to, call, made),
+                    Some(from) => self.copy_to(alloc, from, to, call, made),
                 }
             }
         }

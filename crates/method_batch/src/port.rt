@@ -20,12 +20,12 @@ pub trait Port: Drop {
     /// memory, which leaves the second state.
     ghost stops: { Self → Call → List Created → Self → Type 0 };
 
-    /// Performs a call. If it ends out of memory, the port is in a state in which `stops` allows
+    /// Performs a call, and takes it away. If it ends out of memory, the port is in a state in which `stops` allows
     /// such a call to leave it.
-    fn call(&mut self, alloc: Global, call: &Invocation, made: &Made) -> Result<Replied, NoMemory>
+    fn call(&mut self, alloc: Global, call: Invocation, made: &Made) -> Result<Replied, NoMemory>
         ensures answer { IfOk result
-            (λ r. answers self.old (call_of call.now) made.now r self.new) }
-        ensures stopped { OnErr result (stops self.old (call_of call.now) made.now self.new) };
+            (λ r. answers self.old (call_of call) made.now r self.new) }
+        ensures stopped { OnErr result (stops self.old (call_of call) made.now self.new) };
 
     /// A call that ends out of memory may leave the state as it was.
     ghost stays: { (s : Self) (c : Call) (made : List Created) → stops s c made s };

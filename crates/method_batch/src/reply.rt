@@ -69,7 +69,7 @@ fn reply_ready<P: Port>(
     if is_echo(&call) {
         return build_single_reply(alloc, call);
     }
-    port.call(alloc, &call, made)
+    port.call(alloc, call, made)
 }
 
 fn is_echo(call: &Invocation) -> bool

@@ -28,7 +28,7 @@ impl Port for Shows {
     fn call(
         &mut self,
         alloc: Global,
-        call: &Invocation,
+        call: Invocation,
         _made: &Made,
     ) -> Result<Replied, NoMemory> {
         let mut args = Members::new(alloc);

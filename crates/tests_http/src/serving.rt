@@ -24,7 +24,7 @@ impl Port for Quiet {
     fn call(
         &mut self,
         alloc: Global,
-        _call: &Invocation,
+        _call: Invocation,
         _made: &Made,
     ) -> Result<Replied, NoMemory> {
         Ok(Replied {

@@ -22,7 +22,7 @@ impl Port for Maker {
 
     ghost stays = { λ s c made. refl };
 
-    fn call(&mut self, alloc: Global, call: &Invocation, made: &Made) -> Result<Replied, NoMemory> {
+    fn call(&mut self, alloc: Global, call: Invocation, made: &Made) -> Result<Replied, NoMemory> {
         let mut args = Members::new(alloc);
         let count = made.len().min(1000) as i64;
         args.set(alloc, "asked", copy(alloc, &call.args)?)?;
@@ -61,7 +61,7 @@ impl Port for Empty {
     fn call(
         &mut self,
         _alloc: Global,
-        _call: &Invocation,
+        _call: Invocation,
         _made: &Made,
     ) -> Result<Replied, NoMemory> {
         Err(NoMemory)

@@ -10,13 +10,13 @@ pub perform-requires : goal.perform-requires
 perform-requires g c =
     let users = c.self.inside.users.now in
     let own : c.in-Ok.to.now.number < length users.account_ids =
-    (target_among (IsNumbered users.account_ids) c.find_accounts-accounts.result.now (call_of c.args.call.now) c.in-Ok.to.now c.find_accounts-accounts.ensures.numbered c.in-Ok.ensures.ok).0 in
+    (target_among (IsNumbered users.account_ids) c.find_accounts-accounts.result.now (call_of c.args.call) c.in-Ok.to.now c.find_accounts-accounts.ensures.numbered c.in-Ok.ensures.ok).0 in
     record { account = subst (λ (s : PortView). c.in-Ok.to.now.number < length s.users.account_ids) c.self.view_is own }
 
 pub copy_to-requires : goal.copy_to-requires
 copy_to-requires g c =
     let users = c.self.inside.users.now in
-    let call = call_of c.args.call.now in
+    let call = call_of c.args.call in
     let accounts = c.find_accounts-accounts.result.now in
     let source : source_of accounts call ≡ Some c.in-Some.from.now = sym c.in-Some.ensures in
     let to : c.in-Ok.to.now.number < length users.account_ids =
