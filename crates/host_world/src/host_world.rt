@@ -4,15 +4,15 @@ ghost use Rattle.std.specs.Prelude.{◌≡◌, ◌≤◌};
 ghost use Rattle.jm_edge.specs.Causes.{Rose};
 
 use crate::counted_keeper::CountedKeeper;
-use jm_base::{Bytes, LAST_TIMESTAMP, Text};
-use jm_edge::{Clock, EdgeFault, Failed, NoGate, TcpLink};
+use host_edges::{HostClock, TcpLink};
+use jm_base::{Bytes, Text};
+use jm_edge::{EdgeFault, Failed, NoGate};
 use jmap_server::{Finished, World};
 use keep_sqlite::{AtPath, Opens, SqliteKeeper};
 use sqlite::{Alter, File, FileStore};
 use std::alloc::{AllocError, Global};
 use std::io::Write;
 use std::net::{Ipv4Addr, TcpListener};
-use std::time::{SystemTime, UNIX_EPOCH};
 use std::{fs, io};
 
 /// Makes the keeper of an account that is kept in the database of a file.
@@ -41,28 +41,6 @@ impl MakesKeepers for HostFiles {
 
     fn make(&self, path: Text) -> SqliteKeeper<FileStore<File>, AtPath> {
         SqliteKeeper::open_later(&self.rt, path)
-    }
-}
-
-/// The clock of the host. Where it can't be read, or is set before 1970, it shows 0.
-#[derive(Drop)]
-pub struct HostClock {
-    rt: HostRuntime,
-}
-
-impl Clock for HostClock {
-    ghost use Rattle.std.specs.Prelude.{None};
-
-    ghost times = { λ _. None };
-
-    fn now(&mut self) -> u64 {
-        match SystemTime::now(&self.rt) {
-            Ok(time) => match time.duration_since(UNIX_EPOCH) {
-                Ok(since) => since.as_secs().min(LAST_TIMESTAMP),
-                Err(_) => 0,
-            },
-            Err(_) => 0,
-        }
     }
 }
 
@@ -245,7 +223,7 @@ impl<M: MakesKeepers> World for HostWorld<M> {
     }
 
     fn clock(&mut self) -> HostClock {
-        HostClock { rt: self.rt }
+        HostClock::new(&self.rt)
     }
 
     fn gate(&mut self) -> NoGate {

@@ -9,4 +9,4 @@ mod counted_keeper;
 mod host_world;
 
 pub use counted_keeper::CountedKeeper;
-pub use host_world::{HostClock, HostFiles, HostWorld, MAX_ACCEPT_TRIES, MakesKeepers};
+pub use host_world::{HostFiles, HostWorld, MAX_ACCEPT_TRIES, MakesKeepers};

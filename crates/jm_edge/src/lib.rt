@@ -6,7 +6,6 @@
 //! and then the clauses on content say nothing.
 #![tactic(auto)]
 
-mod adapter;
 mod arrival;
 mod attempts;
 mod clock;
@@ -20,10 +19,7 @@ mod memory_socket;
 mod message_link;
 mod sink;
 mod source;
-mod tcp;
-mod tcp_socket;
 
-pub use adapter::{Reading, Writing};
 pub use arrival::{Arrival, Sent};
 pub use clock::Clock;
 pub use fault::{EdgeFault, Failed};
@@ -36,5 +32,3 @@ pub use memory_socket::{MemorySocket, Script};
 pub use message_link::MessageLink;
 pub use sink::{Sink, put_all};
 pub use source::Source;
-pub use tcp::TcpLink;
-pub use tcp_socket::TcpSocket;

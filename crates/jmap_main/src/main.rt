@@ -2,8 +2,9 @@
 //! jmap_commands does, over standard input, the two outputs and the world of the host.
 #![tactic(auto)]
 
+use host_edges::{Reading, Writing};
 use host_world::{HostFiles, HostWorld, MakesKeepers};
-use jm_edge::{Reading, Sink, Source, Writing};
+use jm_edge::{Sink, Source};
 use jmap_commands::{Ending, Status, run};
 use std::process::ExitCode;
 use std::sync::Wait;

@@ -1,7 +1,8 @@
 // Input that comes in pieces, calls that fail, and when replies are put.
 use crate::no_world::NoWorld;
 use crate::running::{Faults, NO_FAULTS, run_over};
-use jm_edge::{Failed, MemorySink, MemorySource, Reading, Sink, Source, Writing};
+use host_edges::{Reading, Writing};
+use jm_edge::{Failed, MemorySink, MemorySource, Sink, Source};
 use jmap_commands::{Status, run};
 use std::alloc::Global;
 use std::cell::Cell;

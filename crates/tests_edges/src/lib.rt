@@ -1,6 +1,8 @@
-//! Tests of the libraries at the edges: links, keepers, HTTP.
+//! Tests of the libraries at the edges: links, adapters, keepers, HTTP.
 #![tactic(auto)]
 
+#[cfg(test)]
+mod host_edges_tests;
 #[cfg(test)]
 mod http_parts_tests;
 #[cfg(test)]

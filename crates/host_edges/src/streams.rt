@@ -2,7 +2,7 @@
 // content to contracts.
 ghost use Rattle.std.specs.Prelude.{◌≡◌};
 
-use crate::{Failed, Sink, Source};
+use jm_edge::{Failed, Sink, Source};
 use std::io::{Read, Write};
 
 /// A reader of std, with its faults counted.

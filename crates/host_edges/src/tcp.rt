@@ -1,8 +1,9 @@
 // A TCP connection as a link. Its content is not exposed to contracts.
 ghost use Rattle.std.specs.Prelude.{◌≡◌, IfOk};
 
-use crate::{Failed, Link, TcpSocket};
+use crate::TcpSocket;
 use jm_base::{Bytes, NoMemory};
+use jm_edge::{Failed, Link};
 use std::alloc::Global;
 use std::io::{Read, Write};
 use std::net::{Shutdown, TcpStream};

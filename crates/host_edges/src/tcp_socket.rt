@@ -2,8 +2,8 @@
 ghost use Rattle.std.specs.Prelude.{◌≡◌};
 ghost use Rattle.jm_edge.specs.Causes.{IsCounted};
 
-use crate::{Arrival, EdgeFault, MessageLink};
 use jm_base::Bytes;
+use jm_edge::{Arrival, EdgeFault, MessageLink};
 use std::alloc::Global;
 use std::io::ErrorKind;
 use std::net::TcpStream;

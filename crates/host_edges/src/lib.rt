@@ -1,0 +1,16 @@
+//! What a program on a host reads from and writes to: readers and writers of std as sources and
+//! sinks, TCP connections as links, WebSocket connections over TCP, and the system's clock.
+//!
+//! Each counts its faults, as jm_edge asks. What a file, a terminal or a connection holds, and what
+//! the clock shows, is not exposed to contracts.
+#![tactic(auto)]
+
+mod host_clock;
+mod streams;
+mod tcp;
+mod tcp_socket;
+
+pub use host_clock::HostClock;
+pub use streams::{Reading, Writing};
+pub use tcp::TcpLink;
+pub use tcp_socket::TcpSocket;
