@@ -3,3 +3,4 @@ pub mod ScanFacts
 pub mod SpanFacts
 pub mod ReadFacts
 pub mod Feeds
+pub mod WrittenFields

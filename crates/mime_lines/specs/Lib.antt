@@ -2,4 +2,5 @@ pub mod Lines
 pub mod Fields
 pub mod FieldOffsets
 pub mod FieldTexts
+pub mod Written
 pub mod Scan

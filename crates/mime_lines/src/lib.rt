@@ -9,10 +9,12 @@ mod blocks;
 mod field;
 mod folding;
 mod head;
+mod laws;
 mod scan;
 
 pub use blocks::{BLOCK_BYTES, count_before};
 pub use field::{Field, FieldSpans, fields_stand, find_last_value};
 pub use folding::unfold;
 pub use head::{Head, fields};
+pub use laws::fields_are_read_back;
 pub use scan::{count_text_bytes, is_line_end, split_line};
