@@ -5,7 +5,10 @@ ghost use Rattle.method_batch.specs.Method.{mail_capability};
 ghost use Rattle.jm_json.specs.Json.{tree_of};
 ghost use Rattle.jmap_http.specs.Session.{account_members, account_tree, capabilities_tree, core_tree, mail_tree, primary_members, session_tree, sort_options, url, websocket_tree};
 
-use jm_base::{MAX_MAILBOXES_PER_EMAIL, MAX_MAILBOX_NAME_BYTES, MAX_REQUEST_BYTES, MAX_SESSIONS, MAX_UPLOAD_BYTES, NoMemory, Text};
+use jm_base::{
+    MAX_MAILBOX_NAME_BYTES, MAX_MAILBOXES_PER_EMAIL, MAX_REQUEST_BYTES, MAX_SESSIONS,
+    MAX_UPLOAD_BYTES, NoMemory, Text,
+};
 use jm_json::{Items, Json, Members};
 use method_args::MAX_OBJECTS_PER_CALL;
 use method_batch::MAX_CALLS_PER_REQUEST;
