@@ -12,7 +12,6 @@ use Rattle.jm_base.specs.Ids.{IsDecimal, IsId, IsNumberText, IsState, id_text, k
 use Rattle.jm_base.specs.declared.identifiers.Kind.{Kind}
 use Rattle.jm_base.specs.declared.identifiers.Kind.TheVariants.{Mailbox as OfMailbox, Email as OfEmail, Thread as OfThread}
 use Rattle.jm_base.specs.declared.identifiers.Id.{Id}
-use Rattle.jm_base.specs.declared.identifiers.TheConstants.{NUMBER_LIMIT}
 
 own : IsNumeralModel (AllDigits 10) (digits_value 10)
 own = numerals_by_value (AllDigits 10) tells_digits

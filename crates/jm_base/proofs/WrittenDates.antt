@@ -1,14 +1,13 @@
 -- The text of a date is laid out as a date, and what it names is that date.
-use Rattle.std.proofs.Common.{◌≡◌, ℕ, suc, ◌+◌, ◌-◌, ◌*◌, ◌/◌, ◌%◌, ◌<◌, ◌≤◌, Bool, true, false, refl, sym, ap, subst, ◌∙◌, arith, List, [], ◌∷◌, ◌++◌, codes, take, drop, ℤ, pos, negsuc, ◌+ℤ◌, ◌*ℤ◌, ◌≤ℤ◌, unsigned_abs, nat_le, ◌&&◌}
-use Rattle.std.specs.Fmt.{decimal}
+use Rattle.std.proofs.Common.{◌≡◌, ℕ, ◌+◌, ◌-◌, ◌*◌, ◌/◌, ◌%◌, ◌<◌, ◌≤◌, true, refl, sym, ap, subst, ◌∙◌, arith, List, [], ◌∷◌, codes, take, drop, ℤ, pos, negsuc, ◌+ℤ◌, ◌*ℤ◌, ◌≤ℤ◌, unsigned_abs}
 use Rattle.std.specs.Int.{int_div_euclid, int_rem_euclid}
 use Rattle.std.proofs.lemmas.Bool.{le-leb}
 use Rattle.std.proofs.lemmas.Fmt.{decimal_digit}
 use Rattle.jiff_core.specs.Calendar.{days_from_civil, days_in_month}
 use Rattle.jiff_core.proofs.CalendarLemmas.{days_in_month_bounds}
 use Rattle.jiff_core.proofs.SignedLemmas.{signed_arith}
-use Rattle.jm_base.proofs.DayParts.{HasParts, parts_of_day}
-use Rattle.jm_base.specs.UtcDates.{DateTime, IsDay, IsTime, IsDateTime, IsUtcDate, IsUtcText, date_time_at, date_time_in, date_time_on, date_time_seconds, date_time_text, is_digit, is_end, is_laid_out, two_at, two_digits, utc_text, year_of, month_of, day_of}
+use Rattle.jm_base.proofs.DayParts.{parts_of_day}
+use Rattle.jm_base.specs.UtcDates.{DateTime, IsTime, IsDateTime, IsUtcDate, IsUtcText, date_time_in, date_time_on, date_time_seconds, date_time_text, is_digit, is_end, is_laid_out, two_digits, utc_text}
 use Rattle.jm_base.specs.declared.identifiers.UtcDate.{UtcDate}
 
 -- ---- the bytes of a text
