@@ -13,7 +13,7 @@ use crate::mailboxes::Mailboxes;
 use crate::{
     Dated, Edit, Email, EmailBlob, Linked, Mailbox, Named, Placed, Roled, Table, Thread, Threaded,
 };
-use jm_base::{Kind, NoMemory};
+use jm_base::{Kind, MAX_MAILBOXES_PER_EMAIL, NoMemory};
 use std::alloc::Global;
 use std::marker::Model;
 

@@ -1,4 +1,4 @@
-use Rattle.mail_records.proofs.Named.{IsFormedHistory-empty, IsFormedHistory-grown_by, IsFormedHistory-account_after, formed_content}
+use Rattle.mail_records.proofs.NumbersNamed.{IsFormedHistory-empty, IsFormedHistory-grown_by, IsFormedHistory-account_after, formed_content}
 use Rattle.mail_records.proofs.laws.histories_stay_formed.Goals as goal
 
 pub returns : goal.returns

@@ -77,7 +77,7 @@ named_below : (c : Content) (e : Edit) → Fits c e → AreNumbered c → IsName
 named_below c (PutMailbox item was counts) fit n = number_put mailbox_number item.number c.next_mailbox was c.mailboxes n.mailboxes fit
 named_below c (DropMailbox number) fit n = number_there mailbox_number number c.next_mailbox c.mailboxes n.mailboxes fit
 named_below c (PutEmail item was) fit n = number_put email_number item.number c.next_email was c.emails n.emails fit
-named_below c (DropEmail number thread) fit n = number_of_found email_number number c.next_email c.emails fit.0 n.emails fit.1.0
+named_below c (DropEmail number thread) fit n = number_of_found email_number number c.next_email c.emails fit.0 n.emails fit.1
 named_below c (PutThread item was) fit n = number_put thread_number item.number c.next_thread was c.threads n.threads fit
 named_below c (DropThread number) fit n = number_there thread_number number c.next_thread c.threads n.threads fit
 
