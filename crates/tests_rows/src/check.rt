@@ -1,0 +1,196 @@
+// Rows that are run, and what is said of those that are not as wanted.
+use crate::compare::{Difference, find_difference};
+use crate::fault::Fault;
+use crate::lines::{Line, read_lines, split_at_byte};
+use crate::report::{Place, say, say_texts};
+use crate::requests::Kind;
+use crate::rows::{Block, Row, is_named_in, split_block, split_setup, wants_something};
+use crate::running::{Ran, run_row};
+use jm_base::{Bytes, NoMemory};
+use std::alloc::Global;
+use std::sync::Wait;
+use std::thread::Threads;
+
+// Says what is wrong with the status or one of the two outputs that are compared as a whole.
+// Returns whether nothing is.
+fn check_end(
+    alloc: Global,
+    row: &Row<'_>,
+    ran: &Ran,
+    place: Place<'_>,
+    report: &mut Bytes,
+) -> Result<bool, NoMemory> {
+    if ran.status != row.options.status {
+        let what = format!(in alloc; "status {}, wanted {}", ran.status, row.options.status)?;
+        say(alloc, report, place, what.as_str())?;
+    }
+    let error = row.options.error.as_slice();
+    if ran.error.as_slice() != error {
+        say(alloc, report, place, "the error output")?;
+        say_texts(alloc, report, place, error, ran.error.as_slice())?;
+    }
+    let out = row.options.out.as_slice();
+    if row.kind == Kind::Connection && ran.out.as_slice() != out {
+        say(alloc, report, place, "standard output")?;
+        say_texts(alloc, report, place, out, ran.out.as_slice())?;
+    }
+    Ok(
+        ran.status == row.options.status
+            && ran.error.as_slice() == error
+            && (row.kind == Kind::Lines || ran.out.as_slice() == out),
+    )
+}
+
+// Says where the output differs. Of `batch` it shows the line that differs.
+fn say_difference(
+    alloc: Global,
+    kind: Kind,
+    place: Place<'_>,
+    difference: Difference<'_>,
+    report: &mut Bytes,
+) -> Result<(), NoMemory> {
+    let got = if kind == Kind::Lines && difference.wanted.ends_with(b"\n") {
+        let (line, after) = split_at_byte(difference.got, b'\n');
+        if after.is_empty() {
+            difference.got
+        } else {
+            line
+        }
+    } else {
+        difference.got
+    };
+    let place = place.at(difference.line);
+    say_texts(alloc, report, place, difference.wanted, got)
+}
+
+// Runs a row. The first read of its input gets at most so many bytes.
+fn check_run(
+    rt: &(impl Threads + Wait + Sync),
+    alloc: Global,
+    row: &Row<'_>,
+    arguments: &str,
+    first: usize,
+    place: Place<'_>,
+    report: &mut Bytes,
+) -> Result<bool, NoMemory> {
+    let ran = run_row(rt, alloc, row, arguments, first)?;
+    let text = match row.kind {
+        Kind::Lines => ran.out.as_slice(),
+        Kind::Connection => ran.written.as_slice(),
+    };
+    let ends_so = check_end(alloc, row, &ran, place, report)?;
+    match find_difference(row.kind, &row.script, text) {
+        Some(difference) => {
+            say_difference(alloc, row.kind, place, difference, report)?;
+            Ok(false)
+        }
+        None => Ok(ends_so),
+    }
+}
+
+// Runs a row, and, where it says so, once more for each place at which its input can be cut in two.
+// It stops at the first run that is not as wanted.
+fn check_row(
+    rt: &(impl Threads + Wait + Sync),
+    alloc: Global,
+    row: &Row<'_>,
+    place: Place<'_>,
+    report: &mut Bytes,
+) -> Result<bool, NoMemory> {
+    let Ok(arguments) = str::from_utf8(row.options.arguments.as_slice()) else {
+        say(alloc, report, place, "arguments that are not UTF-8")?;
+        return Ok(false);
+    };
+    if !check_run(rt, alloc, row, arguments, usize::MAX, place, report)? {
+        return Ok(false);
+    }
+    let cuts = if row.options.is_cut {
+        row.script.input.len()
+    } else {
+        0
+    };
+    for first in 1..cuts {
+        if !check_run(rt, alloc, row, arguments, first, place, report)? {
+            let what = format!(in alloc; "the input was cut after {first} bytes")?;
+            say(alloc, report, place, what.as_str())?;
+            return Ok(false);
+        }
+    }
+    Ok(true)
+}
+
+// Reads a row and runs it. Returns whether it is as wanted.
+fn check_block(
+    rt: &(impl Threads + Wait + Sync),
+    alloc: Global,
+    kind: Kind,
+    block: &Block<'_>,
+    place: Place<'_>,
+    report: &mut Bytes,
+) -> Result<bool, NoMemory> {
+    if !wants_something(block.lines) {
+        say(alloc, report, place, "the row wants nothing")?;
+        return Ok(false);
+    }
+    match Row::read(alloc, kind, block) {
+        Ok(row) => check_row(rt, alloc, &row, place, report),
+        Err(Fault::NoMemory) => Err(NoMemory),
+        Err(Fault::Line(number, why)) => {
+            say(alloc, report, place.at(number), why)?;
+            Ok(false)
+        }
+    }
+}
+
+// Runs the rows of these lines. Returns how many are as wanted.
+fn check_lines(
+    rt: &(impl Threads + Wait + Sync),
+    alloc: Global,
+    kind: Kind,
+    lines: &[Line<'_>],
+    file: Place<'_>,
+    report: &mut Bytes,
+) -> Result<u64, NoMemory> {
+    let (setup, rows) = split_setup(lines);
+    if rows.is_empty() {
+        say(alloc, report, file, "no row")?;
+    }
+    let mut rest = rows;
+    let mut count = 0u64;
+    for _ in 0..rows.len() {
+        let Some((block, after)) = split_block(setup, rest) else {
+            break;
+        };
+        rest = after;
+        let place = Place {
+            file: file.file,
+            line: block.name.number,
+            name: block.name.text,
+        };
+        if is_named_in(after, block.name.text) || block.name.text.is_empty() {
+            say(alloc, report, place, "no name, or one that a later row has")?;
+        } else if check_block(rt, alloc, kind, &block, place, report)? {
+            count = count.saturating_add(1);
+        }
+    }
+    Ok(count)
+}
+
+/// Runs the rows of a file. Returns how many are as wanted.
+pub(crate) fn check_rows(
+    rt: &(impl Threads + Wait + Sync),
+    alloc: Global,
+    kind: Kind,
+    bytes: &[u8],
+    file: Place<'_>,
+    report: &mut Bytes,
+) -> Result<u64, NoMemory> {
+    match read_lines(alloc, bytes) {
+        Ok(lines) => check_lines(rt, alloc, kind, lines.as_slice(), file, report),
+        Err(Fault::NoMemory) => Err(NoMemory),
+        Err(Fault::Line(number, why)) => {
+            say(alloc, report, file.at(number), why)?;
+            Ok(0)
+        }
+    }
+}

@@ -1,0 +1,57 @@
+// Rows that a keeper holds.
+use crate::escapes::read_hex_byte;
+use crate::expand::read_number;
+use crate::lines::split_at_byte;
+use jm_base::{Bytes, NoMemory};
+use std::alloc::Global;
+
+/// A row that the keeper of an account holds.
+#[derive(Drop)]
+pub(crate) struct KeptRow {
+    pub(crate) account: Bytes,
+    pub(crate) row: Bytes,
+}
+
+// Appends the bytes of hexadecimal digits. Returns whether they are such.
+fn append_hex(out: &mut Bytes, digits: &[u8]) -> Result<bool, NoMemory> {
+    let mut rest = digits;
+    for _ in 0..digits.len() {
+        let [high, low, after @ ..] = rest else {
+            break;
+        };
+        let Some(byte) = read_hex_byte(*high, *low) else {
+            return Ok(false);
+        };
+        out.append(&[byte])?;
+        rest = after;
+    }
+    Ok(rest.is_empty())
+}
+
+// Appends the bytes of a word. Returns whether it is one.
+fn append_word(out: &mut Bytes, word: &[u8]) -> Result<bool, NoMemory> {
+    match word {
+        [b'#', digits @ ..] => match read_number(digits) {
+            Some(number) => {
+                out.append(number.to_le_bytes().as_slice())?;
+                Ok(true)
+            }
+            None => Ok(false),
+        },
+        _ => append_hex(out, word),
+    }
+}
+
+/// Returns the bytes of these words, or `None` if one is not of the format.
+pub(crate) fn read_codes(alloc: Global, codes: &[u8]) -> Result<Option<Bytes>, NoMemory> {
+    let mut out = Bytes::new(alloc);
+    let mut rest = codes;
+    for _ in 0..codes.len() {
+        let (word, after) = split_at_byte(rest, b' ');
+        if !append_word(&mut out, word)? {
+            return Ok(None);
+        }
+        rest = after;
+    }
+    Ok(Some(out))
+}

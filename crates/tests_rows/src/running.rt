@@ -1,0 +1,131 @@
+// Runs of the program.
+use crate::requests::Kind;
+use crate::rows::Row;
+use crate::world::{RowWorld, Setting, build_source};
+use jm_base::{Bytes, NoMemory};
+use jm_edge::{MemorySink, MemorySource};
+use jmap_commands::run;
+use jmap_server::World;
+use std::alloc::Global;
+use std::sync::Wait;
+use std::thread::Threads;
+
+/// What a run left: its status, its output, its error output, and what was written to its
+/// connection.
+#[derive(Drop)]
+pub(crate) struct Ran {
+    pub(crate) status: u8,
+    pub(crate) out: Bytes,
+    pub(crate) error: Bytes,
+    pub(crate) written: Bytes,
+}
+
+// Returns the words between the blanks of a command line.
+fn split_words(alloc: Global, arguments: &str) -> Result<Vec<String>, NoMemory> {
+    let mut words = Vec::new(alloc);
+    for word in arguments.split(' ') {
+        words.push(String::from_str(alloc, word)?)?;
+    }
+    Ok(words)
+}
+
+// Runs the program with these words. Returns its status.
+fn run_words<W: World>(
+    rt: &(impl Threads + Wait + Sync),
+    alloc: Global,
+    words: &[String],
+    mut source: MemorySource,
+    out: &mut MemorySink,
+    error: &mut MemorySink,
+    world: &mut W,
+) -> u8 {
+    let status = run(rt, alloc, words, &mut source, out, error, world);
+    status.0
+}
+
+/// Runs the program over a source and a world. What is written to the world's connection is not
+/// here.
+pub(crate) fn run_over<W: World>(
+    rt: &(impl Threads + Wait + Sync),
+    alloc: Global,
+    arguments: &str,
+    source: MemorySource,
+    world: &mut W,
+) -> Result<Ran, NoMemory> {
+    let words = split_words(alloc, arguments)?;
+    let mut out = MemorySink::new(alloc);
+    let mut error = MemorySink::new(alloc);
+    let status = run_words(
+        rt,
+        alloc,
+        words.as_slice(),
+        source,
+        &mut out,
+        &mut error,
+        world,
+    );
+    Ok(Ran {
+        status,
+        out: Bytes::from_slice(alloc, out.bytes())?,
+        error: Bytes::from_slice(alloc, error.bytes())?,
+        written: Bytes::new(alloc),
+    })
+}
+
+/// Runs a command over this input, of which the first read gets at most so many bytes.
+pub(crate) fn run_lines(
+    rt: &(impl Threads + Wait + Sync),
+    alloc: Global,
+    arguments: &str,
+    input: &[u8],
+    first: usize,
+) -> Result<Ran, NoMemory> {
+    let nothing = Setting {
+        config: b"",
+        kept: &[],
+        input: b"",
+        first: 1,
+    };
+    let mut world = RowWorld::new(alloc, nothing);
+    let source = build_source(alloc, input, first)?;
+    run_over(rt, alloc, arguments, source, &mut world)
+}
+
+// Runs a command over a world of this setting.
+fn run_connection(
+    rt: &(impl Threads + Wait + Sync),
+    alloc: Global,
+    arguments: &str,
+    setting: Setting<'_>,
+) -> Result<Ran, NoMemory> {
+    let mut world = RowWorld::new(alloc, setting);
+    let source = build_source(alloc, b"", 1)?;
+    let mut ran = run_over(rt, alloc, arguments, source, &mut world)?;
+    ran.written = world.into_written();
+    Ok(ran)
+}
+
+/// Runs a row. The first read of its input gets at most so many bytes.
+pub(crate) fn run_row(
+    rt: &(impl Threads + Wait + Sync),
+    alloc: Global,
+    row: &Row<'_>,
+    arguments: &str,
+    first: usize,
+) -> Result<Ran, NoMemory> {
+    let input = row.script.input.as_slice();
+    match row.kind {
+        Kind::Lines => run_lines(rt, alloc, arguments, input, first),
+        Kind::Connection => run_connection(
+            rt,
+            alloc,
+            arguments,
+            Setting {
+                config: row.options.config.as_slice(),
+                kept: row.options.kept.as_slice(),
+                input,
+                first,
+            },
+        ),
+    }
+}

@@ -1,0 +1,185 @@
+// A world in memory: one configuration, one connection, and keepers that begin with given rows.
+ghost use Rattle.std.specs.Prelude.{◌≡◌, IfOk};
+
+use crate::kept_rows::KeptRow;
+use jm_base::{Bytes, NoMemory, Numbers, Rows, Text};
+use jm_edge::{EdgeFault, MemoryClock, MemoryLink, MemorySink, MemorySource, NoGate};
+use jmap_server::{Finished, World};
+use keep_port::{Keeper, Kept, MemoryKeeper};
+use std::alloc::Global;
+
+// A keeper in memory that counts how often its `load` has failed. Contracts don't know what it
+// keeps.
+#[derive(Drop)]
+pub(crate) struct RowKeeper {
+    memory: MemoryKeeper,
+    pub(crate) load_faults: u64,
+}
+
+impl RowKeeper {
+    // Returns a keeper of these rows.
+    fn new(alloc: Global, rows: Rows) -> RowKeeper
+        ensures { result.load_faults ≡ 0 }
+    {
+        RowKeeper {
+            memory: MemoryKeeper::new(alloc, Kept { base: None, rows }),
+            load_faults: 0,
+        }
+    }
+}
+
+impl Keeper for RowKeeper {
+    ghost use Rattle.std.specs.Prelude.{None};
+
+    ghost kept = { λ _. None };
+
+    ghost image = { λ _ _. ⊥ };
+
+    ghost load_faults = { λ k. k.load_faults };
+
+    ghost append_faults = { λ k. k.memory.appends.faults };
+
+    ghost replace_faults = { λ k. k.memory.replaces.faults };
+
+    fn load(&mut self, alloc: Global) -> Result<Kept, EdgeFault> {
+        match self.memory.load(alloc) {
+            Ok(kept) => Ok(kept),
+            Err(EdgeFault::Failed) => {
+                self.load_faults = self.load_faults.saturating_add(1);
+                Err(EdgeFault::Failed)
+            }
+            Err(EdgeFault::NoMemory) => Err(EdgeFault::NoMemory),
+        }
+    }
+
+    fn append(&mut self, alloc: Global, row: &[u8]) -> Result<(), EdgeFault> {
+        self.memory.append(alloc, row)
+    }
+
+    fn replace(&mut self, alloc: Global, whole: &Kept) -> Result<(), EdgeFault> {
+        self.memory.replace(alloc, whole)
+    }
+}
+
+/// What a world in memory gives: the configuration, the rows that keepers begin with, and the bytes
+/// of the connection, of which the first read gets at most so many.
+#[derive(Clone, Copy)]
+pub(crate) struct Setting<'a> {
+    pub(crate) config: &'a [u8],
+    pub(crate) kept: &'a [KeptRow],
+    pub(crate) input: &'a [u8],
+    pub(crate) first: usize,
+}
+
+/// A world of this setting, what was written to the connection, once it came back, and how often
+/// keepers failed to load.
+#[derive(Drop)]
+pub(crate) struct RowWorld<'a> {
+    alloc: Global,
+    setting: Setting<'a>,
+    written: Bytes,
+    load_faults: u64,
+}
+
+impl<'a> RowWorld<'a> {
+    pub(crate) fn new(alloc: Global, setting: Setting<'a>) -> RowWorld<'a> {
+        RowWorld {
+            alloc,
+            setting,
+            written: Bytes::new(alloc),
+            load_faults: 0,
+        }
+    }
+
+    /// Returns what was written to the connection.
+    pub(crate) fn into_written(self) -> Bytes {
+        let RowWorld { written, .. } = self;
+        written
+    }
+}
+
+/// Returns a source of these bytes, of which the first read gets at most so many.
+pub(crate) fn build_source(
+    alloc: Global,
+    input: &[u8],
+    first: usize,
+) -> Result<MemorySource, NoMemory> {
+    let mut sizes = Numbers::new(alloc);
+    sizes.push(first as u64)?;
+    let bytes = Bytes::from_slice(alloc, input)?;
+    let none = Numbers::new(alloc);
+    Ok(MemorySource::build_in_sizes(bytes.into_vec(), sizes, usize::MAX, none))
+}
+
+// Returns the rows of an account.
+fn collect_rows(alloc: Global, kept: &[KeptRow], account: &[u8]) -> Result<Rows, NoMemory> {
+    let mut rows = Rows::new(alloc);
+    for one in kept {
+        if one.account.as_slice() == account {
+            rows.push(Bytes::from_slice(alloc, one.row.as_slice())?)?;
+        }
+    }
+    Ok(rows)
+}
+
+impl<'a> World for RowWorld<'a> {
+    ghost use Rattle.std.specs.Prelude.{None, ◌≡◌, ◌∷◌, [], ℕ};
+    ghost use Rattle.jmap_server.specs.Deeds.{GotLine, IsTold};
+
+    type Keep = RowKeeper;
+
+    type Line = MemoryLink;
+
+    type Time = MemoryClock;
+
+    type Hold = NoGate;
+
+    ghost told = { λ _. None };
+
+    ghost faults = { λ _. 0 };
+
+    ghost load_faults = { λ w. w.load_faults };
+
+    fn text(&mut self, alloc: Global, _name: &Text) -> Result<Bytes, EdgeFault> {
+        Ok(Bytes::from_slice(alloc, self.setting.config)?)
+    }
+
+    fn keeper(
+        &mut self,
+        alloc: Global,
+        _folder: &Text,
+        account: &Text,
+    ) -> Result<RowKeeper, EdgeFault> {
+        let rows = collect_rows(alloc, self.setting.kept, account.as_bytes())?;
+        Ok(RowKeeper::new(alloc, rows))
+    }
+
+    fn listen(&mut self, _alloc: Global, _port: u16) -> Result<(), EdgeFault> {
+        Ok(())
+    }
+
+    fn line(&mut self, alloc: Global) -> Result<MemoryLink, EdgeFault> {
+        let source = build_source(alloc, self.setting.input, self.setting.first)?;
+        Ok(MemoryLink::new(source, MemorySink::new(alloc)))
+    }
+
+    fn clock(&mut self) -> MemoryClock {
+        MemoryClock::new(Numbers::new(self.alloc), 0)
+    }
+
+    fn gate(&mut self) -> NoGate {
+        NoGate
+    }
+
+    fn return_line(&mut self, finished: Finished<MemoryLink>)
+        ensures told { IsTold {K = Unit {0}} {C = Unit {0}} None None (GotLine finished ∷ []) }
+        ensures count { ◌≡◌ {A = ℕ} 0 0 }
+        ensures load_count { self.new.load_faults ≡ self.old.load_faults }
+    {
+        let _ = self.written.append(finished.line.bytes());
+    }
+
+    fn return_keeper(&mut self, _account: &Text, keeper: RowKeeper) {
+        self.load_faults = self.load_faults.saturating_add(keeper.load_faults);
+    }
+}
