@@ -1,11 +1,13 @@
 // Rows that are run, and what is said of those that are not as wanted.
 use crate::compare::{Difference, find_difference};
 use crate::fault::Fault;
+use crate::kept_rows::show_rows;
 use crate::lines::{Line, read_lines, split_at_byte};
 use crate::report::{Place, say, say_texts};
 use crate::requests::Kind;
 use crate::rows::{Block, Row, is_named_in, split_block, split_setup, wants_something};
 use crate::running::{Ran, run_row};
+use crate::world::{Input, whole};
 use jm_base::{Bytes, NoMemory};
 use std::alloc::Global;
 use std::sync::Wait;
@@ -41,6 +43,27 @@ fn check_end(
     )
 }
 
+// Says which account's keeper doesn't hold the wanted rows. Returns whether each does.
+fn check_left(
+    alloc: Global,
+    row: &Row<'_>,
+    ran: &Ran,
+    place: Place<'_>,
+    report: &mut Bytes,
+) -> Result<bool, NoMemory> {
+    for one in row.options.left.as_slice() {
+        let account = one.account.as_slice();
+        let wanted = show_rows(alloc, row.options.left.as_slice(), account)?;
+        let got = show_rows(alloc, ran.left.as_slice(), account)?;
+        if got.as_slice() != wanted.as_slice() {
+            say(alloc, report, place, "the rows of an account")?;
+            say_texts(alloc, report, place, wanted.as_slice(), got.as_slice())?;
+            return Ok(false);
+        }
+    }
+    Ok(true)
+}
+
 // Says where the output differs. Of `batch` it shows the line that differs.
 fn say_difference(
     alloc: Global,
@@ -63,37 +86,12 @@ fn say_difference(
     say_texts(alloc, report, place, difference.wanted, got)
 }
 
-// Runs a row. The first read of its input gets at most so many bytes.
+// Runs a row over this input, which its own begins with. Returns whether all is as wanted.
 fn check_run(
     rt: &(impl Threads + Wait + Sync),
     alloc: Global,
     row: &Row<'_>,
-    arguments: &str,
-    first: usize,
-    place: Place<'_>,
-    report: &mut Bytes,
-) -> Result<bool, NoMemory> {
-    let ran = run_row(rt, alloc, row, arguments, first)?;
-    let text = match row.kind {
-        Kind::Lines => ran.out.as_slice(),
-        Kind::Connection => ran.written.as_slice(),
-    };
-    let ends_so = check_end(alloc, row, &ran, place, report)?;
-    match find_difference(row.kind, &row.script, text) {
-        Some(difference) => {
-            say_difference(alloc, row.kind, place, difference, report)?;
-            Ok(false)
-        }
-        None => Ok(ends_so),
-    }
-}
-
-// Runs a row, and, where it says so, once more for each place at which its input can be cut in two.
-// It stops at the first run that is not as wanted.
-fn check_row(
-    rt: &(impl Threads + Wait + Sync),
-    alloc: Global,
-    row: &Row<'_>,
+    input: Input<'_>,
     place: Place<'_>,
     report: &mut Bytes,
 ) -> Result<bool, NoMemory> {
@@ -101,20 +99,84 @@ fn check_row(
         say(alloc, report, place, "arguments that are not UTF-8")?;
         return Ok(false);
     };
-    if !check_run(rt, alloc, row, arguments, usize::MAX, place, report)? {
-        return Ok(false);
-    }
-    let cuts = if row.options.is_cut {
-        row.script.input.len()
-    } else {
-        0
+    let ran = run_row(rt, alloc, row, arguments, input)?;
+    let text = match row.kind {
+        Kind::Lines => ran.out.as_slice(),
+        Kind::Connection => ran.written.as_slice(),
     };
-    for first in 1..cuts {
-        if !check_run(rt, alloc, row, arguments, first, place, report)? {
-            let what = format!(in alloc; "the input was cut after {first} bytes")?;
+    let ends_so = check_end(alloc, row, &ran, place, report)?;
+    match find_difference(row.is_batch(), &row.script, input.bytes.len(), text) {
+        Some(difference) => {
+            say_difference(alloc, row.kind, place, difference, report)?;
+            Ok(false)
+        }
+        None => Ok(ends_so && check_left(alloc, row, &ran, place, report)?),
+    }
+}
+
+// Runs a row with its input in two pieces, cut after each byte, and in pieces of one byte. It stops
+// at the first run that is not as wanted.
+fn check_cuts(
+    rt: &(impl Threads + Wait + Sync),
+    alloc: Global,
+    row: &Row<'_>,
+    place: Place<'_>,
+    report: &mut Bytes,
+) -> Result<bool, NoMemory> {
+    let bytes = row.script.input.as_slice();
+    for first in 0..bytes.len() {
+        let most = if first == 0 { 1 } else { usize::MAX };
+        let input = Input { bytes, first, most };
+        if !check_run(rt, alloc, row, input, place, report)? {
+            let what = format!(in alloc; "with its input cut after {first} bytes")?;
             say(alloc, report, place, what.as_str())?;
             return Ok(false);
         }
+    }
+    Ok(true)
+}
+
+// Runs a row with each beginning of its input that is shorter. It stops at the first run that is not
+// as wanted.
+fn check_beginnings(
+    rt: &(impl Threads + Wait + Sync),
+    alloc: Global,
+    row: &Row<'_>,
+    place: Place<'_>,
+    report: &mut Bytes,
+) -> Result<bool, NoMemory> {
+    let all = row.script.input.as_slice();
+    for end in 0..all.len() {
+        let bytes = match all.split_at_checked(end) {
+            Some((bytes, _)) => bytes,
+            None => all,
+        };
+        if !check_run(rt, alloc, row, whole(bytes), place, report)? {
+            let what = format!(in alloc; "with the first {end} bytes of its input")?;
+            say(alloc, report, place, what.as_str())?;
+            return Ok(false);
+        }
+    }
+    Ok(true)
+}
+
+// Runs a row in each way that it says. Returns whether it is as wanted.
+fn check_row(
+    rt: &(impl Threads + Wait + Sync),
+    alloc: Global,
+    row: &Row<'_>,
+    place: Place<'_>,
+    report: &mut Bytes,
+) -> Result<bool, NoMemory> {
+    let input = whole(row.script.input.as_slice());
+    if !check_run(rt, alloc, row, input, place, report)? {
+        return Ok(false);
+    }
+    if row.options.is_cut && !check_cuts(rt, alloc, row, place, report)? {
+        return Ok(false);
+    }
+    if row.options.is_shortened {
+        return check_beginnings(rt, alloc, row, place, report);
     }
     Ok(true)
 }

@@ -1,6 +1,5 @@
 // The output of a row next to the wanted one.
 use crate::lines::split_at_byte;
-use crate::requests::Kind;
 use crate::script::Script;
 
 /// Where an output differs: the line of the input, the output that is wanted for it, and the output
@@ -49,51 +48,36 @@ fn take_between(text: &[u8], start: usize, end: usize) -> &[u8] {
     }
 }
 
-// Returns what follows the answers to lines of which none is compared.
-fn skip_answers<'a>(
-    kind: Kind,
-    input: &[u8],
-    start: usize,
-    end: usize,
-    text: &'a [u8],
-) -> &'a [u8] {
-    match kind {
-        Kind::Lines => skip_lines(text, count_lines(input, start, end)),
-        Kind::Connection => text,
-    }
-}
-
-/// Returns where the output differs from the one that the script wants. The answers to lines of
-/// `batch` for which nothing is wanted are skipped.
+/// Returns where the output differs from the one that the script wants for so many bytes of its
+/// input: that of the steps which end there or before. If each line of the input has a line of
+/// output, those for which nothing is wanted are skipped.
 pub(crate) fn find_difference<'a>(
-    kind: Kind,
+    by_lines: bool,
     script: &'a Script<'_>,
+    end: usize,
     text: &'a [u8],
 ) -> Option<Difference<'a>> {
     let mut rest = text;
     let mut input_start = 0usize;
     let mut wanted_start = 0usize;
     for step in script.steps.as_slice() {
+        if step.input_end > end {
+            break;
+        }
         let wanted = take_between(script.wanted.as_slice(), wanted_start, step.wanted_end);
-        if wanted.is_empty() {
-            rest = skip_answers(
-                kind,
-                script.input.as_slice(),
-                input_start,
-                step.input_end,
-                rest,
-            );
-        } else {
-            rest = match rest.strip_prefix(wanted) {
-                Some(after) => after,
-                None => {
-                    return Some(Difference {
-                        line: step.line,
-                        wanted,
-                        got: rest,
-                    });
-                }
-            };
+        rest = match rest.strip_prefix(wanted) {
+            Some(after) => after,
+            None => {
+                return Some(Difference {
+                    line: step.line,
+                    wanted,
+                    got: rest,
+                });
+            }
+        };
+        if by_lines && wanted.is_empty() {
+            let input = script.input.as_slice();
+            rest = skip_lines(rest, count_lines(input, input_start, step.input_end));
         }
         input_start = step.input_end;
         wanted_start = step.wanted_end;

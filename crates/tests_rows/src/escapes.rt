@@ -63,6 +63,11 @@ fn hex_digit(value: u8) -> u8 {
     }
 }
 
+/// Appends the two hexadecimal digits of a byte.
+pub(crate) fn append_hex_byte(out: &mut Bytes, byte: u8) -> Result<(), NoMemory> {
+    out.append(&[hex_digit(byte >> 4), hex_digit(byte)])
+}
+
 /// Appends bytes as a text of one line that stands for them, but for those past ASCII, which stay.
 pub(crate) fn append_escaped(out: &mut Bytes, text: &[u8]) -> Result<(), NoMemory> {
     for byte in text {
@@ -71,7 +76,10 @@ pub(crate) fn append_escaped(out: &mut Bytes, text: &[u8]) -> Result<(), NoMemor
             b'\n' => out.append(b"\\n")?,
             b'\t' => out.append(b"\\t")?,
             b'\\' => out.append(b"\\\\")?,
-            0..=31 | 127 => out.append(&[b'\\', b'x', hex_digit(*byte >> 4), hex_digit(*byte)])?,
+            0..=31 | 127 => {
+                out.append(b"\\x")?;
+                append_hex_byte(out, *byte)?;
+            }
             _ => out.append(&[*byte])?,
         }
     }

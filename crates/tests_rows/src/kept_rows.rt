@@ -1,5 +1,5 @@
 // Rows that a keeper holds.
-use crate::escapes::read_hex_byte;
+use crate::escapes::{append_hex_byte, read_hex_byte};
 use crate::expand::read_number;
 use crate::lines::split_at_byte;
 use jm_base::{Bytes, NoMemory};
@@ -31,9 +31,9 @@ fn append_hex(out: &mut Bytes, digits: &[u8]) -> Result<bool, NoMemory> {
 // Appends the bytes of a word. Returns whether it is one.
 fn append_word(out: &mut Bytes, word: &[u8]) -> Result<bool, NoMemory> {
     match word {
-        [b'#', digits @ ..] => match read_number(digits) {
+        [b'#' | b'n', digits @ ..] => match read_number(digits) {
             Some(number) => {
-                out.append(number.to_le_bytes().as_slice())?;
+                out.append(number.to_be_bytes().as_slice())?;
                 Ok(true)
             }
             None => Ok(false),
@@ -54,4 +54,22 @@ pub(crate) fn read_codes(alloc: Global, codes: &[u8]) -> Result<Option<Bytes>, N
         rest = after;
     }
     Ok(Some(out))
+}
+
+/// Returns the rows of an account, as a line of hexadecimal digits each.
+pub(crate) fn show_rows(
+    alloc: Global,
+    rows: &[KeptRow],
+    account: &[u8],
+) -> Result<Bytes, NoMemory> {
+    let mut out = Bytes::new(alloc);
+    for one in rows {
+        if one.account.as_slice() == account {
+            for byte in one.row.as_slice() {
+                append_hex_byte(&mut out, *byte)?;
+            }
+            out.append(b"\n")?;
+        }
+    }
+    Ok(out)
 }

@@ -1,6 +1,7 @@
 // Messages that `read` shows.
 use crate::report::{Place, say, say_texts};
 use crate::running::run_lines;
+use crate::world::whole;
 use jm_base::{Bytes, NoMemory};
 use std::alloc::Global;
 use std::sync::Wait;
@@ -15,7 +16,7 @@ pub(crate) fn check_message(
     file: Place<'_>,
     report: &mut Bytes,
 ) -> Result<bool, NoMemory> {
-    let ran = run_lines(rt, alloc, "read", message, usize::MAX)?;
+    let ran = run_lines(rt, alloc, "read", whole(message))?;
     if ran.status != 0 || !ran.error.is_empty() {
         let what = format!(in alloc; "status {}, wanted 0", ran.status)?;
         say(alloc, report, file, what.as_str())?;

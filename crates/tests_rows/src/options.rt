@@ -12,8 +12,8 @@ const CONFIG: &str =
     "{\"users\":[{\"accounts\":[{\"id\":\"A1\",\"name\":\"Mail\",\"readOnly\":false}],\"name\":\"ann\",\"token\":\"t\"}]}";
 
 /// The command line, the status and the texts that are wanted, the configuration, the rows that
-/// keepers hold, and whether the row is run with its input in two pieces too. What is not said has
-/// its default.
+/// keepers hold before the run and those that they are to hold after it, and whether the row is run with its input cut and shortened too. What is not said
+/// has its default.
 #[derive(Drop)]
 pub(crate) struct Options {
     kind: Kind,
@@ -23,7 +23,9 @@ pub(crate) struct Options {
     pub(crate) out: Bytes,
     pub(crate) config: Bytes,
     pub(crate) kept: Vec<KeptRow>,
+    pub(crate) left: Vec<KeptRow>,
     pub(crate) is_cut: bool,
+    pub(crate) is_shortened: bool,
     says_out: bool,
 }
 
@@ -71,7 +73,9 @@ impl Options {
             out: Bytes::new(alloc),
             config: Bytes::new(alloc),
             kept: Vec::new(alloc),
+            left: Vec::new(alloc),
             is_cut: false,
+            is_shortened: false,
             says_out: false,
         };
         set_text(&mut options.arguments, kind.default_arguments().as_bytes())?;
@@ -94,6 +98,10 @@ impl Options {
             set_text(&mut self.config, value)?;
             return Ok(true);
         }
+        if name == b"short".as_slice() {
+            self.is_shortened = true;
+            return Ok(value.is_empty());
+        }
         if name == b"out".as_slice() {
             set_line(&mut self.out, value)?;
             self.says_out = true;
@@ -101,6 +109,10 @@ impl Options {
         }
         if name == b"kept".as_slice() {
             self.kept.push(read_kept(alloc, number, value)?)?;
+            return Ok(true);
+        }
+        if name == b"leaves".as_slice() {
+            self.left.push(read_kept(alloc, number, value)?)?;
             return Ok(true);
         }
         Ok(false)

@@ -60,7 +60,10 @@ fn is_wanting(line: &Line<'_>) -> bool {
         Mark::Wanted | Mark::WantedPart | Mark::Response => true,
         Mark::Setting => {
             let (name, _) = split_at_byte(line.text, b' ');
-            name == b"status".as_slice() || name == b"error".as_slice() || name == b"out".as_slice()
+            name == b"status".as_slice()
+                || name == b"error".as_slice()
+                || name == b"out".as_slice()
+                || name == b"leaves".as_slice()
         }
         _ => false,
     }
@@ -96,6 +99,11 @@ impl<'a> Row<'a> {
             }
         }
         Ok(())
+    }
+
+    /// Returns whether the row runs `batch`, which answers each line by a line.
+    pub(crate) fn is_batch(&self) -> bool {
+        self.options.arguments.as_slice() == b"batch".as_slice()
     }
 
     /// Returns the row of these lines.

@@ -1,7 +1,8 @@
 // Runs of the program.
+use crate::kept_rows::KeptRow;
 use crate::requests::Kind;
 use crate::rows::Row;
-use crate::world::{RowWorld, Setting, build_source};
+use crate::world::{Input, NOTHING, RowWorld, Setting, build_source};
 use jm_base::{Bytes, NoMemory};
 use jm_edge::{MemorySink, MemorySource};
 use jmap_commands::run;
@@ -10,14 +11,15 @@ use std::alloc::Global;
 use std::sync::Wait;
 use std::thread::Threads;
 
-/// What a run left: its status, its output, its error output, and what was written to its
-/// connection.
+/// What a run left: its status, its output, its error output, what was written to its connection,
+/// and what the keepers of its accounts hold.
 #[derive(Drop)]
 pub(crate) struct Ran {
     pub(crate) status: u8,
     pub(crate) out: Bytes,
     pub(crate) error: Bytes,
     pub(crate) written: Bytes,
+    pub(crate) left: Vec<KeptRow>,
 }
 
 // Returns the words between the blanks of a command line.
@@ -43,8 +45,7 @@ fn run_words<W: World>(
     status.0
 }
 
-/// Runs the program over a source and a world. What is written to the world's connection is not
-/// here.
+/// Runs the program over a source and a world. What the world was given is not here.
 pub(crate) fn run_over<W: World>(
     rt: &(impl Threads + Wait + Sync),
     alloc: Global,
@@ -69,25 +70,24 @@ pub(crate) fn run_over<W: World>(
         out: Bytes::from_slice(alloc, out.bytes())?,
         error: Bytes::from_slice(alloc, error.bytes())?,
         written: Bytes::new(alloc),
+        left: Vec::new(alloc),
     })
 }
 
-/// Runs a command over this input, of which the first read gets at most so many bytes.
+/// Runs a command over this input.
 pub(crate) fn run_lines(
     rt: &(impl Threads + Wait + Sync),
     alloc: Global,
     arguments: &str,
-    input: &[u8],
-    first: usize,
+    input: Input<'_>,
 ) -> Result<Ran, NoMemory> {
     let nothing = Setting {
         config: b"",
         kept: &[],
-        input: b"",
-        first: 1,
+        input: NOTHING,
     };
     let mut world = RowWorld::new(alloc, nothing);
-    let source = build_source(alloc, input, first)?;
+    let source = build_source(alloc, input)?;
     run_over(rt, alloc, arguments, source, &mut world)
 }
 
@@ -99,23 +99,24 @@ fn run_connection(
     setting: Setting<'_>,
 ) -> Result<Ran, NoMemory> {
     let mut world = RowWorld::new(alloc, setting);
-    let source = build_source(alloc, b"", 1)?;
+    let source = build_source(alloc, NOTHING)?;
     let mut ran = run_over(rt, alloc, arguments, source, &mut world)?;
-    ran.written = world.into_written();
+    let (written, left) = world.into_parts();
+    ran.written = written;
+    ran.left = left;
     Ok(ran)
 }
 
-/// Runs a row. The first read of its input gets at most so many bytes.
+/// Runs a row over this input.
 pub(crate) fn run_row(
     rt: &(impl Threads + Wait + Sync),
     alloc: Global,
     row: &Row<'_>,
     arguments: &str,
-    first: usize,
+    input: Input<'_>,
 ) -> Result<Ran, NoMemory> {
-    let input = row.script.input.as_slice();
     match row.kind {
-        Kind::Lines => run_lines(rt, alloc, arguments, input, first),
+        Kind::Lines => run_lines(rt, alloc, arguments, input),
         Kind::Connection => run_connection(
             rt,
             alloc,
@@ -124,7 +125,6 @@ pub(crate) fn run_row(
                 config: row.options.config.as_slice(),
                 kept: row.options.kept.as_slice(),
                 input,
-                first,
             },
         ),
     }

@@ -61,23 +61,47 @@ impl Keeper for RowKeeper {
     }
 }
 
+/// An input: its bytes, how many of them the first read gets at most, and each other one.
+#[derive(Clone, Copy)]
+pub(crate) struct Input<'a> {
+    pub(crate) bytes: &'a [u8],
+    pub(crate) first: usize,
+    pub(crate) most: usize,
+}
+
+/// The input without a byte.
+pub(crate) const NOTHING: Input<'static> = Input {
+    bytes: b"",
+    first: 1,
+    most: 1,
+};
+
+/// Returns these bytes as an input that one read may get whole.
+pub(crate) fn whole(bytes: &[u8]) -> Input<'_> {
+    Input {
+        bytes,
+        first: usize::MAX,
+        most: usize::MAX,
+    }
+}
+
 /// What a world in memory gives: the configuration, the rows that keepers begin with, and the bytes
-/// of the connection, of which the first read gets at most so many.
+/// of the connection.
 #[derive(Clone, Copy)]
 pub(crate) struct Setting<'a> {
     pub(crate) config: &'a [u8],
     pub(crate) kept: &'a [KeptRow],
-    pub(crate) input: &'a [u8],
-    pub(crate) first: usize,
+    pub(crate) input: Input<'a>,
 }
 
-/// A world of this setting, what was written to the connection, once it came back, and how often
-/// keepers failed to load.
+/// A world of this setting, what was written to the connection and what keepers hold, once they came
+/// back, and how often keepers failed to load.
 #[derive(Drop)]
 pub(crate) struct RowWorld<'a> {
     alloc: Global,
     setting: Setting<'a>,
     written: Bytes,
+    left: Vec<KeptRow>,
     load_faults: u64,
 }
 
@@ -87,28 +111,25 @@ impl<'a> RowWorld<'a> {
             alloc,
             setting,
             written: Bytes::new(alloc),
+            left: Vec::new(alloc),
             load_faults: 0,
         }
     }
 
-    /// Returns what was written to the connection.
-    pub(crate) fn into_written(self) -> Bytes {
-        let RowWorld { written, .. } = self;
-        written
+    /// Returns what was written to the connection, and what keepers hold.
+    pub(crate) fn into_parts(self) -> (Bytes, Vec<KeptRow>) {
+        let RowWorld { written, left, .. } = self;
+        (written, left)
     }
 }
 
-/// Returns a source of these bytes, of which the first read gets at most so many.
-pub(crate) fn build_source(
-    alloc: Global,
-    input: &[u8],
-    first: usize,
-) -> Result<MemorySource, NoMemory> {
+/// Returns a source of this input.
+pub(crate) fn build_source(alloc: Global, input: Input<'_>) -> Result<MemorySource, NoMemory> {
     let mut sizes = Numbers::new(alloc);
-    sizes.push(first as u64)?;
-    let bytes = Bytes::from_slice(alloc, input)?;
+    sizes.push(input.first as u64)?;
+    let bytes = Bytes::from_slice(alloc, input.bytes)?;
     let none = Numbers::new(alloc);
-    Ok(MemorySource::build_in_sizes(bytes.into_vec(), sizes, usize::MAX, none))
+    Ok(MemorySource::build_in_sizes(bytes.into_vec(), sizes, input.most, none))
 }
 
 // Returns the rows of an account.
@@ -120,6 +141,22 @@ fn collect_rows(alloc: Global, kept: &[KeptRow], account: &[u8]) -> Result<Rows,
         }
     }
     Ok(rows)
+}
+
+// Adds copies of the rows of an account. Where memory runs out, rows are missing.
+fn add_rows(
+    alloc: Global,
+    out: &mut Vec<KeptRow>,
+    account: &[u8],
+    rows: &[Bytes],
+) -> Result<(), NoMemory> {
+    for row in rows {
+        out.push(KeptRow {
+            account: Bytes::from_slice(alloc, account)?,
+            row: Bytes::from_slice(alloc, row.as_slice())?,
+        })?;
+    }
+    Ok(())
 }
 
 impl<'a> World for RowWorld<'a> {
@@ -159,7 +196,7 @@ impl<'a> World for RowWorld<'a> {
     }
 
     fn line(&mut self, alloc: Global) -> Result<MemoryLink, EdgeFault> {
-        let source = build_source(alloc, self.setting.input, self.setting.first)?;
+        let source = build_source(alloc, self.setting.input)?;
         Ok(MemoryLink::new(source, MemorySink::new(alloc)))
     }
 
@@ -179,7 +216,13 @@ impl<'a> World for RowWorld<'a> {
         let _ = self.written.append(finished.line.bytes());
     }
 
-    fn return_keeper(&mut self, _account: &Text, keeper: RowKeeper) {
+    fn return_keeper(&mut self, account: &Text, keeper: RowKeeper) {
         self.load_faults = self.load_faults.saturating_add(keeper.load_faults);
+        let _ = add_rows(
+            self.alloc,
+            &mut self.left,
+            account.as_bytes(),
+            keeper.memory.kept().rows.as_slice(),
+        );
     }
 }
