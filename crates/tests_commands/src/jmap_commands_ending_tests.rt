@@ -18,8 +18,6 @@ const FRONT: &str =
 const ALL: &str =
     "{\"methodResponses\":[[\"Core/echo\",{},\"a\"]],\"sessionState\":\"0\"}\n{\"status\":400,\"type\":\"urn:ietf:params:jmap:error:notJSON\"}\n{\"methodResponses\":[[\"Core/echo\",{},\"a\"]],\"sessionState\":\"0\"}\n";
 
-const USAGE: &str = "usage: jmap batch, read, serve, sync, show, compact or rehearse\n";
-
 // A run over the input, in pieces of this size, and how it ends.
 struct Row {
     arguments: &'static str,
@@ -128,54 +126,6 @@ const ROWS: &[Row] = &[
         err: "write fault\n",
     },
     Row {
-        arguments: "read x",
-        piece: 60,
-        faults: Faults {
-            read: 0,
-            write: 0,
-            said: 0,
-        },
-        status: 2,
-        out: "",
-        err: USAGE,
-    },
-    Row {
-        arguments: "batch batch",
-        piece: 60,
-        faults: Faults {
-            read: 0,
-            write: 0,
-            said: 0,
-        },
-        status: 2,
-        out: "",
-        err: USAGE,
-    },
-    Row {
-        arguments: "",
-        piece: 60,
-        faults: Faults {
-            read: 0,
-            write: 0,
-            said: 0,
-        },
-        status: 2,
-        out: "",
-        err: USAGE,
-    },
-    Row {
-        arguments: "Batch",
-        piece: 60,
-        faults: Faults {
-            read: 0,
-            write: 0,
-            said: 0,
-        },
-        status: 2,
-        out: "",
-        err: USAGE,
-    },
-    Row {
         arguments: "",
         piece: 60,
         faults: Faults {
@@ -200,18 +150,6 @@ const ROWS: &[Row] = &[
         err: "",
     },
 ];
-
-// The same lines in pieces of every size.
-#[test]
-fn answers_pieces_of_every_size(rt: HostRuntime) -> Result<(), Fail> {
-    for piece in 1..=INPUT.len() {
-        let input = INPUT.as_bytes().to_vec(rt.alloc())?;
-        let ran = run_over(&rt, rt.alloc(), "batch", input, piece, NO_FAULTS)?;
-        assert_eq!(rt; ran.status, Status(0));
-        assert_eq!(rt; ran.out.as_slice(), ALL.as_bytes());
-    }
-    Ok(())
-}
 
 // Each call failing in turn: the reply to each line that ended before is written.
 #[test]
@@ -362,33 +300,5 @@ fn runs_over_adapters(rt: HostRuntime) -> Result<(), Fail> {
     );
     assert_eq!(rt; status, Status(0));
     assert_eq!(rt; written.as_slice(), ALL.as_bytes());
-    Ok(())
-}
-
-// Eight calls, of ten references each to the whole of the call before.
-#[test]
-fn ends_where_references_make_too_much(rt: HostRuntime) -> Result<(), Fail> {
-    let mut line = String::from_str(
-        rt.alloc(),
-        "{\"using\":[\"urn:ietf:params:jmap:core\"],\"methodCalls\":[[\"Core/echo\",{\"a\":1},\"0\"]",
-    )?;
-    for call in 1..9u8 {
-        let before = call.saturating_sub(1);
-        let reference = format!(in rt.alloc();
-            "{{\"resultOf\":\"{before}\",\"name\":\"Core/echo\",\"path\":\"\"}}"
-        )?;
-        let arguments =
-            "\"#a\":R,\"#b\":R,\"#c\":R,\"#d\":R,\"#e\":R,\"#f\":R,\"#g\":R,\"#h\":R,\"#i\":R,\"#j\":R".replace(
-                rt.alloc(),
-                "R",
-                reference.as_str(),
-            )?;
-        let call = format!(in rt.alloc(); ",[\"Core/echo\",{{{arguments}}},\"{call}\"]")?;
-        line.push_str(call.as_str())?;
-    }
-    line.push_str("]}")?;
-    let ran = run_over(&rt, rt.alloc(), "batch", line.into_bytes(), 4096, NO_FAULTS)?;
-    assert_eq!(rt; ran.status, Status(5));
-    assert_eq!(rt; ran.err.as_slice(), b"no memory\n".as_slice());
     Ok(())
 }

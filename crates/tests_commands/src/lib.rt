@@ -4,17 +4,7 @@
 #[cfg(test)]
 mod jmap_commands_ending_tests;
 #[cfg(test)]
-mod jmap_commands_grown_tests;
-#[cfg(test)]
-mod jmap_commands_import_tests;
-#[cfg(test)]
 mod jmap_commands_limit_tests;
-#[cfg(test)]
-mod jmap_commands_list_tests;
-#[cfg(test)]
-mod jmap_commands_row_tests;
-#[cfg(test)]
-mod jmap_commands_set_tests;
 #[cfg(test)]
 mod jmap_commands_upload_tests;
 #[cfg(test)]

@@ -114,17 +114,3 @@ pub(crate) fn serve<A: Abort>(
     let written = sure(rt, link.bytes().to_vec(alloc));
     Outcome { written, served }
 }
-
-// Serves a connection of these bytes, of which the first read takes so many. Nothing fails.
-pub(crate) fn serve_cut<A: Abort>(
-    rt: &A,
-    alloc: Global,
-    users: &Users,
-    bytes: &[u8],
-    first: u64,
-) -> Outcome {
-    let sizes = one(rt, alloc, first);
-    let bytes = sure(rt, bytes.to_vec(alloc));
-    let input = MemorySource::build_in_sizes(bytes, sizes, 64, Numbers::new(alloc));
-    serve(rt, alloc, users, input, MemorySink::new(alloc))
-}

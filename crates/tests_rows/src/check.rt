@@ -168,7 +168,12 @@ fn check_row(
     place: Place<'_>,
     report: &mut Bytes,
 ) -> Result<bool, NoMemory> {
-    let input = whole(row.script.input.as_slice());
+    let piece = row.options.piece;
+    let input = Input {
+        bytes: row.script.input.as_slice(),
+        first: piece,
+        most: piece,
+    };
     if !check_run(rt, alloc, row, input, place, report)? {
         return Ok(false);
     }

@@ -11,6 +11,7 @@ mod check;
 mod compare;
 mod escapes;
 mod expand;
+mod fails;
 mod fault;
 mod files;
 mod kept_rows;

@@ -1,4 +1,5 @@
 // Messages that `read` shows.
+use crate::fails::NO_FAILS;
 use crate::report::{Place, say, say_texts};
 use crate::running::run_lines;
 use crate::world::whole;
@@ -16,7 +17,7 @@ pub(crate) fn check_message(
     file: Place<'_>,
     report: &mut Bytes,
 ) -> Result<bool, NoMemory> {
-    let ran = run_lines(rt, alloc, "read", whole(message))?;
+    let ran = run_lines(rt, alloc, "read", whole(message), NO_FAILS)?;
     if ran.status != 0 || !ran.error.is_empty() {
         let what = format!(in alloc; "status {}, wanted 0", ran.status)?;
         say(alloc, report, file, what.as_str())?;

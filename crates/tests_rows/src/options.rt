@@ -1,5 +1,6 @@
 // How a row is run, and how its run is to end.
 use crate::expand::{expand, read_number};
+use crate::fails::{Fails, NO_FAILS};
 use crate::fault::Fault;
 use crate::kept_rows::{KeptRow, read_codes};
 use crate::lines::{Line, split_at_byte};
@@ -12,7 +13,8 @@ const CONFIG: &str =
     "{\"users\":[{\"accounts\":[{\"id\":\"A1\",\"name\":\"Mail\",\"readOnly\":false}],\"name\":\"ann\",\"token\":\"t\"}]}";
 
 /// The command line, the status and the texts that are wanted, the configuration, the rows that
-/// keepers hold before the run and those that they are to hold after it, and whether the row is run with its input cut and shortened too. What is not said
+/// keepers hold before the run and those that they are to hold after it, which calls fail, how many
+/// bytes a read gets at most, and whether the row is run with its input cut and shortened too. What is not said
 /// has its default.
 #[derive(Drop)]
 pub(crate) struct Options {
@@ -24,6 +26,8 @@ pub(crate) struct Options {
     pub(crate) config: Bytes,
     pub(crate) kept: Vec<KeptRow>,
     pub(crate) left: Vec<KeptRow>,
+    pub(crate) fails: Fails,
+    pub(crate) piece: usize,
     pub(crate) is_cut: bool,
     pub(crate) is_shortened: bool,
     says_out: bool,
@@ -51,6 +55,16 @@ fn read_status(number: u64, value: &[u8]) -> Result<u8, Fault> {
     }
 }
 
+fn read_piece(number: u64, value: &[u8]) -> Result<usize, Fault> {
+    match read_number(value) {
+        Some(size) => match usize::try_from(size) {
+            Ok(size) => Ok(size),
+            Err(_) => Err(Fault::Line(number, "no size")),
+        },
+        None => Err(Fault::Line(number, "no size")),
+    }
+}
+
 fn read_kept(alloc: Global, number: u64, value: &[u8]) -> Result<KeptRow, Fault> {
     let (account, codes) = split_at_byte(value, b' ');
     match read_codes(alloc, codes)? {
@@ -74,6 +88,8 @@ impl Options {
             config: Bytes::new(alloc),
             kept: Vec::new(alloc),
             left: Vec::new(alloc),
+            fails: NO_FAILS,
+            piece: usize::MAX,
             is_cut: false,
             is_shortened: false,
             says_out: false,
@@ -118,6 +134,19 @@ impl Options {
         Ok(false)
     }
 
+    // Sets how the input comes. Returns whether there is such an option.
+    fn set_input(&mut self, number: u64, name: &[u8], value: &[u8]) -> Result<bool, Fault> {
+        if name == b"cut".as_slice() {
+            self.is_cut = true;
+            return Ok(value.is_empty());
+        }
+        if name == b"pieces".as_slice() {
+            self.piece = read_piece(number, value)?;
+            return Ok(true);
+        }
+        Ok(false)
+    }
+
     // Sets an option. Returns whether there is such a one.
     fn set(
         &mut self,
@@ -138,9 +167,11 @@ impl Options {
             set_line(&mut self.error, value)?;
             return Ok(true);
         }
-        if name == b"cut".as_slice() {
-            self.is_cut = true;
-            return Ok(value.is_empty());
+        if name == b"fails".as_slice() {
+            return Ok(self.fails.set(value));
+        }
+        if self.set_input(number, name, value)? {
+            return Ok(true);
         }
         self.set_for_world(alloc, number, name, value)
     }

@@ -1,4 +1,5 @@
 // Runs of the program.
+use crate::fails::{Fails, NO_FAILS, list_call};
 use crate::kept_rows::KeptRow;
 use crate::requests::Kind;
 use crate::rows::Row;
@@ -45,17 +46,18 @@ fn run_words<W: World>(
     status.0
 }
 
-/// Runs the program over a source and a world. What the world was given is not here.
-pub(crate) fn run_over<W: World>(
+// Runs the program over a source and a world. What the world was given is not here.
+fn run_over<W: World>(
     rt: &(impl Threads + Wait + Sync),
     alloc: Global,
     arguments: &str,
     source: MemorySource,
+    mut out: MemorySink,
+    fails: Fails,
     world: &mut W,
 ) -> Result<Ran, NoMemory> {
     let words = split_words(alloc, arguments)?;
-    let mut out = MemorySink::new(alloc);
-    let mut error = MemorySink::new(alloc);
+    let mut error = MemorySink::build_failing(alloc, list_call(alloc, fails.error)?);
     let status = run_words(
         rt,
         alloc,
@@ -80,15 +82,18 @@ pub(crate) fn run_lines(
     alloc: Global,
     arguments: &str,
     input: Input<'_>,
+    fails: Fails,
 ) -> Result<Ran, NoMemory> {
     let nothing = Setting {
         config: b"",
         kept: &[],
         input: NOTHING,
+        fails: NO_FAILS,
     };
     let mut world = RowWorld::new(alloc, nothing);
-    let source = build_source(alloc, input)?;
-    run_over(rt, alloc, arguments, source, &mut world)
+    let source = build_source(alloc, input, fails.read)?;
+    let out = MemorySink::build_failing(alloc, list_call(alloc, fails.write)?);
+    run_over(rt, alloc, arguments, source, out, fails, &mut world)
 }
 
 // Runs a command over a world of this setting.
@@ -98,9 +103,11 @@ fn run_connection(
     arguments: &str,
     setting: Setting<'_>,
 ) -> Result<Ran, NoMemory> {
+    let fails = setting.fails;
     let mut world = RowWorld::new(alloc, setting);
-    let source = build_source(alloc, NOTHING)?;
-    let mut ran = run_over(rt, alloc, arguments, source, &mut world)?;
+    let source = build_source(alloc, NOTHING, 0)?;
+    let out = MemorySink::build_failing(alloc, list_call(alloc, fails.out)?);
+    let mut ran = run_over(rt, alloc, arguments, source, out, fails, &mut world)?;
     let (written, left) = world.into_parts();
     ran.written = written;
     ran.left = left;
@@ -115,8 +122,9 @@ pub(crate) fn run_row(
     arguments: &str,
     input: Input<'_>,
 ) -> Result<Ran, NoMemory> {
+    let fails = row.options.fails;
     match row.kind {
-        Kind::Lines => run_lines(rt, alloc, arguments, input),
+        Kind::Lines => run_lines(rt, alloc, arguments, input, fails),
         Kind::Connection => run_connection(
             rt,
             alloc,
@@ -125,6 +133,7 @@ pub(crate) fn run_row(
                 config: row.options.config.as_slice(),
                 kept: row.options.kept.as_slice(),
                 input,
+                fails,
             },
         ),
     }

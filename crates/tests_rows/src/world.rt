@@ -1,6 +1,7 @@
 // A world in memory: one configuration, one connection, and keepers that begin with given rows.
 ghost use Rattle.std.specs.Prelude.{◌≡◌, IfOk};
 
+use crate::fails::{Fails, list_call};
 use crate::kept_rows::KeptRow;
 use jm_base::{Bytes, NoMemory, Numbers, Rows, Text};
 use jm_edge::{EdgeFault, MemoryClock, MemoryLink, MemorySink, MemorySource, NoGate};
@@ -17,14 +18,17 @@ pub(crate) struct RowKeeper {
 }
 
 impl RowKeeper {
-    // Returns a keeper of these rows.
-    fn new(alloc: Global, rows: Rows) -> RowKeeper
-        ensures { result.load_faults ≡ 0 }
+    // Returns a keeper of these rows whose load of this number fails, or none where it is 0.
+    fn new(alloc: Global, rows: Rows, load: u64) -> Result<RowKeeper, NoMemory>
+        ensures { IfOk result (λ k. k.load_faults ≡ 0) }
     {
-        RowKeeper {
-            memory: MemoryKeeper::new(alloc, Kept { base: None, rows }),
+        let loads = list_call(alloc, load)?;
+        let kept = Kept { base: None, rows };
+        let none = Numbers::new(alloc);
+        Ok(RowKeeper {
+            memory: MemoryKeeper::build_failing(alloc, kept, loads, none, Numbers::new(alloc)),
             load_faults: 0,
-        }
+        })
     }
 }
 
@@ -85,23 +89,25 @@ pub(crate) fn whole(bytes: &[u8]) -> Input<'_> {
     }
 }
 
-/// What a world in memory gives: the configuration, the rows that keepers begin with, and the bytes
-/// of the connection.
+/// What a world in memory gives: the configuration, the rows that keepers begin with, the input of
+/// the connection, and which calls fail.
 #[derive(Clone, Copy)]
 pub(crate) struct Setting<'a> {
     pub(crate) config: &'a [u8],
     pub(crate) kept: &'a [KeptRow],
     pub(crate) input: Input<'a>,
+    pub(crate) fails: Fails,
 }
 
 /// A world of this setting, what was written to the connection and what keepers hold, once they came
-/// back, and how often keepers failed to load.
+/// back, and how often it failed itself and keepers failed to load.
 #[derive(Drop)]
 pub(crate) struct RowWorld<'a> {
     alloc: Global,
     setting: Setting<'a>,
     written: Bytes,
     left: Vec<KeptRow>,
+    faults: u64,
     load_faults: u64,
 }
 
@@ -112,6 +118,7 @@ impl<'a> RowWorld<'a> {
             setting,
             written: Bytes::new(alloc),
             left: Vec::new(alloc),
+            faults: 0,
             load_faults: 0,
         }
     }
@@ -123,13 +130,17 @@ impl<'a> RowWorld<'a> {
     }
 }
 
-/// Returns a source of this input.
-pub(crate) fn build_source(alloc: Global, input: Input<'_>) -> Result<MemorySource, NoMemory> {
+/// Returns a source of this input whose read of this number fails, or none where it is 0.
+pub(crate) fn build_source(
+    alloc: Global,
+    input: Input<'_>,
+    read: u64,
+) -> Result<MemorySource, NoMemory> {
     let mut sizes = Numbers::new(alloc);
     sizes.push(input.first as u64)?;
     let bytes = Bytes::from_slice(alloc, input.bytes)?;
-    let none = Numbers::new(alloc);
-    Ok(MemorySource::build_in_sizes(bytes.into_vec(), sizes, input.most, none))
+    let fails = list_call(alloc, read)?;
+    Ok(MemorySource::build_in_sizes(bytes.into_vec(), sizes, input.most, fails))
 }
 
 // Returns the rows of an account.
@@ -160,7 +171,7 @@ fn add_rows(
 }
 
 impl<'a> World for RowWorld<'a> {
-    ghost use Rattle.std.specs.Prelude.{None, ◌≡◌, ◌∷◌, [], ℕ};
+    ghost use Rattle.std.specs.Prelude.{None, ◌≡◌, ◌∷◌, []};
     ghost use Rattle.jmap_server.specs.Deeds.{GotLine, IsTold};
 
     type Keep = RowKeeper;
@@ -173,7 +184,7 @@ impl<'a> World for RowWorld<'a> {
 
     ghost told = { λ _. None };
 
-    ghost faults = { λ _. 0 };
+    ghost faults = { λ w. w.faults };
 
     ghost load_faults = { λ w. w.load_faults };
 
@@ -188,16 +199,22 @@ impl<'a> World for RowWorld<'a> {
         account: &Text,
     ) -> Result<RowKeeper, EdgeFault> {
         let rows = collect_rows(alloc, self.setting.kept, account.as_bytes())?;
-        Ok(RowKeeper::new(alloc, rows))
+        Ok(RowKeeper::new(alloc, rows, self.setting.fails.load)?)
     }
 
     fn listen(&mut self, _alloc: Global, _port: u16) -> Result<(), EdgeFault> {
-        Ok(())
+        if self.setting.fails.listen == 0 {
+            return Ok(());
+        }
+        self.faults = self.faults.saturating_add(1);
+        Err(EdgeFault::Failed)
     }
 
     fn line(&mut self, alloc: Global) -> Result<MemoryLink, EdgeFault> {
-        let source = build_source(alloc, self.setting.input)?;
-        Ok(MemoryLink::new(source, MemorySink::new(alloc)))
+        let fails = self.setting.fails;
+        let source = build_source(alloc, self.setting.input, fails.read)?;
+        let sink = MemorySink::build_failing(alloc, list_call(alloc, fails.write)?);
+        Ok(MemoryLink::new(source, sink))
     }
 
     fn clock(&mut self) -> MemoryClock {
@@ -210,7 +227,7 @@ impl<'a> World for RowWorld<'a> {
 
     fn return_line(&mut self, finished: Finished<MemoryLink>)
         ensures told { IsTold {K = Unit {0}} {C = Unit {0}} None None (GotLine finished ∷ []) }
-        ensures count { ◌≡◌ {A = ℕ} 0 0 }
+        ensures count { self.new.faults ≡ self.old.faults }
         ensures load_count { self.new.load_faults ≡ self.old.load_faults }
     {
         let _ = self.written.append(finished.line.bytes());
