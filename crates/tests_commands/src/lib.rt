@@ -1,13 +1,26 @@
-//! Tests of the commands of the program, over inputs in memory.
+//! Tests of the commands of the program that no file of rows reaches: when replies are put, inputs of
+//! many megabytes, the points of a session, and connections side by side.
 #![tactic(auto)]
 
 #[cfg(test)]
-mod jmap_commands_ending_tests;
+mod jmap_commands_copy_tests;
 #[cfg(test)]
 mod jmap_commands_limit_tests;
 #[cfg(test)]
+mod jmap_commands_put_tests;
+#[cfg(test)]
+mod jmap_commands_side_by_side_tests;
+#[cfg(test)]
 mod jmap_commands_upload_tests;
+#[cfg(test)]
+mod memory_world;
 #[cfg(test)]
 mod no_world;
 #[cfg(test)]
 mod running;
+#[cfg(test)]
+mod waiting_gate;
+#[cfg(test)]
+mod waiting_world;
+#[cfg(test)]
+mod watched_link;

@@ -1,4 +1,5 @@
-// An email is copied from one account of a user to another one, and its original is destroyed.
+// The points of a session that copies an email from one account of a user to another one, and
+// destroys its original.
 use crate::memory_world::{MemoryWorld, Setting};
 use crate::running::run_serve;
 use jmap_commands::Status;
@@ -32,18 +33,6 @@ const REQUESTS: &str = "POST /jmap/upload/A1/ HTTP/1.1\r\nHost: h\r\nAuthorizati
      \"create\":{\"k\":{\"id\":\"E1\",\"mailboxIds\":{\"M1\":true}}},\
      \"fromAccountId\":\"A1\",\"onSuccessDestroyOriginal\":true},\"0\"]]}";
 
-// The response to the last of these requests.
-const COPIED: &str = "HTTP/1.1 200 OK\r\nContent-Type: application/json\r\nContent-Length: 387\r\n\
-     Cache-Control: no-store\r\n\r\n\
-     {\"methodResponses\":[[\"Email/copy\",{\"accountId\":\"A2\",\
-     \"created\":{\"k\":{\"blobId\":\"b1\",\"id\":\"E1\",\"size\":17,\"threadId\":\"T1\"}},\
-     \"fromAccountId\":\"A1\",\
-     \"newState\":\"2\",\"notCreated\":null,\"oldState\":\"0\"},\"0\"],\
-     [\"Email/set\",{\"accountId\":\"A1\",\"created\":null,\"destroyed\":[\"E1\"],\
-     \"newState\":\"7\",\"notCreated\":null,\"notDestroyed\":null,\
-     \"notUpdated\":null,\"oldState\":\"3\",\"updated\":null},\"0\"]],\
-     \"sessionState\":\"0\"}";
-
 // The points of the connection's session, for each the account's index in the configuration, and
 // how many entries it had before and after. They are of the upload, the set and the import in A1,
 // the set in A2, and the copy: what is carried, the new email and the destroyed original.
@@ -51,22 +40,15 @@ const POINTS: &[u64] = &[
     0, 0, 1, 0, 1, 2, 0, 2, 3, 1, 0, 1, 0, 3, 3, 1, 1, 2, 0, 3, 4,
 ];
 
-// Returns whether the copy is answered so, at these points.
+// Returns whether the copy is made at these points.
 fn is_copied(rt: &(impl Threads + Wait + Sync), alloc: Global) -> Result<bool, Fail> {
     let setting = Setting {
         config: TWO_ACCOUNTS,
         request: REQUESTS,
-        row: b"",
-        loads: true,
-        listens: true,
     };
     let mut world = MemoryWorld::new(alloc, setting);
     let ran = run_serve(rt, alloc, "serve c d 8600 1", &mut world)?;
-    Ok(
-        ran.status == Status(0)
-            && world.written().ends_with(COPIED.as_bytes())
-            && world.points() == POINTS,
-    )
+    Ok(ran.status == Status(0) && world.points() == POINTS)
 }
 
 #[test]

@@ -71,7 +71,7 @@ impl<'a> World for WaitingWorld<'a> {
         _folder: &Text,
         _account: &Text,
     ) -> Result<RowKeeper, EdgeFault> {
-        Ok(RowKeeper::new(alloc, b"", true)?)
+        Ok(RowKeeper::new(alloc))
     }
 
     fn listen(&mut self, _alloc: Global, _port: u16) -> Result<(), EdgeFault> {

@@ -1,7 +1,7 @@
 // A world in memory.
-ghost use Rattle.std.specs.Prelude.{◌≡◌, IfOk};
+ghost use Rattle.std.specs.Prelude.{◌≡◌};
 
-use jm_base::{Bytes, NoMemory, Numbers, Rows, Text};
+use jm_base::{Bytes, NoMemory, Numbers, Text};
 use jm_edge::{EdgeFault, MemoryClock, MemoryLink, NoGate};
 use jmap_server::{Finished, World};
 use keep_port::{Keeper, Kept, MemoryKeeper};
@@ -11,16 +11,11 @@ use std::alloc::Global;
 pub(crate) const CONFIG: &str =
     "{\"users\":[{\"accounts\":[{\"id\":\"A1\",\"name\":\"Mail\",\"readOnly\":false}],\"name\":\"ann\",\"token\":\"t\"}]}";
 
-// The configuration, what each connection asks, the row that the keeper of each account keeps, or
-// none where it is empty, whether the first `load` of a keeper succeeds, and whether the world
-// listens.
+// The configuration, and what each connection asks.
 #[derive(Clone, Copy)]
 pub(crate) struct Setting {
     pub(crate) config: &'static str,
     pub(crate) request: &'static str,
-    pub(crate) row: &'static [u8],
-    pub(crate) loads: bool,
-    pub(crate) listens: bool,
 }
 
 // A keeper in memory that counts how often its `load` has failed. Contracts don't know what it
@@ -32,24 +27,14 @@ pub(crate) struct RowKeeper {
 }
 
 impl RowKeeper {
-    // Returns a keeper of this row, or of none where it is empty.
-    pub(crate) fn new(alloc: Global, row: &[u8], loads: bool) -> Result<RowKeeper, NoMemory>
-        ensures { IfOk result (λ k. k.load_faults ≡ 0) }
+    // Returns a keeper of nothing.
+    pub(crate) fn new(alloc: Global) -> RowKeeper
+        ensures { result.load_faults ≡ 0 }
     {
-        let mut rows = Rows::new(alloc);
-        if !row.is_empty() {
-            rows.push(Bytes::from_slice(alloc, row)?)?;
-        }
-        let mut fails = Numbers::new(alloc);
-        if !loads {
-            fails.push(1)?;
-        }
-        let kept = Kept { base: None, rows };
-        let none = Numbers::new(alloc);
-        Ok(RowKeeper {
-            memory: MemoryKeeper::build_failing(alloc, kept, fails, none, Numbers::new(alloc)),
+        RowKeeper {
+            memory: MemoryKeeper::new(alloc, Kept::new(alloc)),
             load_faults: 0,
-        })
+        }
     }
 }
 
@@ -86,15 +71,13 @@ impl Keeper for RowKeeper {
     }
 }
 
-// A world of this setting, what was written to the connections that came back, the points of their
-// sessions, and its counts of faults.
+// A world of this setting, the points of the sessions of the connections that came back, and how
+// often keepers failed to load.
 #[derive(Drop)]
 pub(crate) struct MemoryWorld {
     alloc: Global,
     setting: Setting,
-    written: Bytes,
     points: Numbers,
-    faults: u64,
     load_faults: u64,
 }
 
@@ -103,16 +86,9 @@ impl MemoryWorld {
         MemoryWorld {
             alloc,
             setting,
-            written: Bytes::new(alloc),
             points: Numbers::new(alloc),
-            faults: 0,
             load_faults: 0,
         }
-    }
-
-    // Lends what was written to the connections that came back.
-    pub(crate) fn written(&self) -> &[u8] {
-        self.written.as_slice()
     }
 
     // Lends of each point of their sessions the account's index, and how many entries it had before
@@ -138,7 +114,7 @@ fn line_of(alloc: Global, request: &str) -> Result<MemoryLink, NoMemory> {
 }
 
 impl World for MemoryWorld {
-    ghost use Rattle.std.specs.Prelude.{None, ◌≡◌, ◌∷◌, []};
+    ghost use Rattle.std.specs.Prelude.{None, ◌≡◌, ◌∷◌, [], ℕ};
     ghost use Rattle.jmap_server.specs.Deeds.{GotLine, IsTold};
 
     type Keep = RowKeeper;
@@ -151,7 +127,7 @@ impl World for MemoryWorld {
 
     ghost told = { λ _. None };
 
-    ghost faults = { λ w. w.faults };
+    ghost faults = { λ _. 0 };
 
     ghost load_faults = { λ w. w.load_faults };
 
@@ -165,15 +141,11 @@ impl World for MemoryWorld {
         _folder: &Text,
         _account: &Text,
     ) -> Result<RowKeeper, EdgeFault> {
-        Ok(RowKeeper::new(alloc, self.setting.row, self.setting.loads)?)
+        Ok(RowKeeper::new(alloc))
     }
 
     fn listen(&mut self, _alloc: Global, _port: u16) -> Result<(), EdgeFault> {
-        if self.setting.listens {
-            return Ok(());
-        }
-        self.faults = self.faults.saturating_add(1);
-        Err(EdgeFault::Failed)
+        Ok(())
     }
 
     fn line(&mut self, alloc: Global) -> Result<MemoryLink, EdgeFault> {
@@ -190,10 +162,9 @@ impl World for MemoryWorld {
 
     fn return_line(&mut self, finished: Finished<MemoryLink>)
         ensures told { IsTold {K = Unit {0}} {C = Unit {0}} None None (GotLine finished ∷ []) }
-        ensures count { self.new.faults ≡ self.old.faults }
+        ensures count { ◌≡◌ {A = ℕ} 0 0 }
         ensures load_count { self.new.load_faults ≡ self.old.load_faults }
     {
-        let _ = self.written.append(finished.line.bytes());
         add_points(&mut self.points, &finished);
     }
 
