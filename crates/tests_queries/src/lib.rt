@@ -1,4 +1,5 @@
-//! Tests of the libraries of queries and changes.
+//! Tests of the libraries of queries and changes that no command reaches: what a query asks of a
+//! message and of the texts that are kept, and states below an account's floor.
 #![tactic(auto)]
 
 #[cfg(test)]
@@ -6,18 +7,4 @@ mod change_calls_tests;
 #[cfg(test)]
 mod filter_terms_tests;
 #[cfg(test)]
-mod query_changes_test_records;
-#[cfg(test)]
-mod query_changes_tests;
-#[cfg(test)]
-mod query_engine_author_tests;
-#[cfg(test)]
-mod query_engine_fault_tests;
-#[cfg(test)]
-mod query_engine_list_tests;
-#[cfg(test)]
-mod query_engine_test_records;
-#[cfg(test)]
-mod query_engine_window_tests;
-#[cfg(test)]
-mod sort_terms_tests;
+mod message_texts_tests;
