@@ -1,26 +1,36 @@
-use http_wire::write_response;
+// How many bytes of a request a link gave before it ended. Empty lines before the request line are
+// not counted (docs/rules/http.md); what is counted is counted by hand.
+use http_parts::{Unread, WireFault};
+use http_wire::read_request;
 use jm_edge::MemoryLink;
+use std::alloc::Global;
 use std::test::Fail;
 
-#[test]
-fn a_response_is_written(rt: HostRuntime) -> Result<(), Fail> {
-    let mut link = MemoryLink::from_vec(rt.alloc(), Vec::new(rt.alloc()));
-    let body = b"{\"methodResponses\":[],\"sessionState\":\"0\"}";
-    let wrote = write_response(rt.alloc(), &mut link, 200, b"application/json", body, false);
-    assert_eq!(rt; wrote, Ok(()));
-    let text = "HTTP/1.1 200 OK\r\nContent-Type: application/json\r\nContent-Length: 41\r\n\
-        Cache-Control: no-store\r\n\r\n{\"methodResponses\":[],\"sessionState\":\"0\"}";
-    assert_eq!(rt; link.bytes(), text.as_bytes());
-    Ok(())
+const ENDS: &[(&[u8], WireFault)] = &[
+    (b"", WireFault::End),
+    (b"\r\n\n", WireFault::End),
+    (b"\nGET / HT", WireFault::CutOff(8)),
+    (b"\r\nGET / HTTP/1.1\r\n", WireFault::CutOff(16)),
+    (
+        b"\r\nPOST / HTTP/1.1\r\nHost: h\r\nContent-Length: 5\r\n\r\nhell",
+        WireFault::CutOff(51),
+    ),
+];
+
+fn find_fault(alloc: Global, mut link: MemoryLink) -> Option<WireFault> {
+    let mut room = [0u8; 64];
+    let mut early = Unread::new(alloc);
+    match read_request(alloc, &mut link, &mut room, &mut early) {
+        Ok(_) => None,
+        Err(fault) => Some(fault),
+    }
 }
 
 #[test]
-fn a_last_response_asks_for_a_token(rt: HostRuntime) -> Result<(), Fail> {
-    let mut link = MemoryLink::from_vec(rt.alloc(), Vec::new(rt.alloc()));
-    let wrote = write_response(rt.alloc(), &mut link, 401, b"a/b", b"", true);
-    assert_eq!(rt; wrote, Ok(()));
-    let text = "HTTP/1.1 401 Unauthorized\r\nContent-Type: a/b\r\nContent-Length: 0\r\n\
-        Cache-Control: no-store\r\nWWW-Authenticate: Bearer\r\nConnection: close\r\n\r\n";
-    assert_eq!(rt; link.bytes(), text.as_bytes());
+fn requests_that_end_early_are_counted(rt: HostRuntime) -> Result<(), Fail> {
+    for (text, fault) in ENDS {
+        let link = MemoryLink::from_vec(rt.alloc(), text.to_vec(rt.alloc())?);
+        assert_eq!(rt; find_fault(rt.alloc(), link), Some(*fault));
+    }
     Ok(())
 }
