@@ -75,7 +75,7 @@ fn words(alloc: Global, out: &Out) -> Result<String, NoMemory> {
 }
 
 // The arguments of the first response, the bytes of a blob, or what else is answered in words.
-fn shown(alloc: Global, out: &Out) -> Result<Bytes, NoMemory> {
+pub(crate) fn shown(alloc: Global, out: &Out) -> Result<Bytes, NoMemory> {
     match out {
         Out::Replies(replied) => match replied.responses.as_slice() {
             [first, ..] => write(alloc, &first.args),

@@ -1,5 +1,5 @@
-// An account that ends, and is opened again over what its keeper keeps or what a crash may leave of
-// it, answers as before.
+// An account that is opened again over what a crash may leave after an append that failed answers as
+// before.
 use crate::asking::Asking::{self, Blob, Method, States, Upload};
 use crate::asking::{answer_of, keeper, nothing, started, sure};
 use account_book::{Book, Rules};
@@ -89,30 +89,6 @@ const ASKED: &[Asking] = &[
     ),
 ];
 
-// What is asked after all changes, and what the answer begins with. The emails E1 and E2 are left, a
-// thread in the mailbox M1: E3 was in M2 alone, and E4 is destroyed.
-const LEFT: &[(Asking, &str)] = &[
-    (
-        Method(
-            "Mailbox/get",
-            "{\"accountId\":\"A1\",\"ids\":null,\"properties\":[\"name\",\"role\",\"totalEmails\",\"totalThreads\",\"unreadEmails\",\"unreadThreads\"]}",
-        ),
-        "{\"accountId\":\"A1\",\"list\":[{\"id\":\"M1\",\"name\":\"D\",\"role\":\"inbox\",\"totalEmails\":2,\"totalThreads\":1,\"unreadEmails\":1,\"unreadThreads\":1}],\"notFound\":[],\"state\":",
-    ),
-    (
-        Method(
-            "Email/get",
-            "{\"accountId\":\"A1\",\"ids\":null,\"properties\":[\"blobId\",\"keywords\",\"mailboxIds\",\"threadId\"]}",
-        ),
-        "{\"accountId\":\"A1\",\"list\":[{\"blobId\":\"b1\",\"id\":\"E1\",\"keywords\":{},\"mailboxIds\":{\"M1\":true},\"threadId\":\"T1\"},{\"blobId\":\"b2\",\"id\":\"E2\",\"keywords\":{\"$flagged\":true,\"$seen\":true},\"mailboxIds\":{\"M1\":true},\"threadId\":\"T1\"}],\"notFound\":[],\"state\":",
-    ),
-    (
-        Method("Thread/get", "{\"accountId\":\"A1\",\"ids\":null}"),
-        "{\"accountId\":\"A1\",\"list\":[{\"emailIds\":[\"E1\",\"E2\"],\"id\":\"T1\"}],\"notFound\":[],\"state\":",
-    ),
-    (Blob("b4"), ""),
-];
-
 // The answers to what is asked in turn, each with a line feed after it.
 fn answers<A: Abort, K: Keeper, R: Rules>(
     rt: &A,
@@ -156,28 +132,6 @@ fn after<A: Abort>(
     let (all, keeper) = changed(rt, alloc, keeper, MailRules, changes);
     let kept = sure(rt, keeper.kept().copy(alloc));
     (all, kept)
-}
-
-// Asks an account over this keeper, and ends the test where an answer begins otherwise.
-fn expect_left<A: Abort, K: Keeper, R: Rules>(rt: &A, alloc: Global, keeper: K, rules: R) {
-    let mut book = started(rt, alloc, keeper, rules);
-    for (asking, expected) in LEFT {
-        let answer = answer_of(rt, alloc, &mut book, *asking);
-        assert!(rt;
-            answer.as_slice().starts_with(expected.as_bytes()),
-            "{expected}"
-        );
-    }
-}
-
-#[test]
-fn an_account_is_opened_again_in_memory(rt: HostRuntime) {
-    let alloc = rt.alloc();
-    let (before, kept) = after(&rt, alloc, nothing(alloc), 0, CHANGES);
-    assert_eq!(rt; kept.rows.len(), 10);
-    let (again, kept) = after(&rt, alloc, kept, 0, &[]);
-    assert!(rt; again.as_slice() == before.as_slice());
-    expect_left(&rt, alloc, keeper(&rt, alloc, kept, 0), MailRules);
 }
 
 // Refuses the last of these changes, and opens the account again over what a crash may leave: the

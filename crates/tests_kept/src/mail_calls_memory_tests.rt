@@ -1,10 +1,10 @@
 // Calls on an account of mail that run out of memory. In `rt ci` no allocation fails.
 // `bench/fail_alloc` runs this test once for each allocation, which then fails. What ran out of
 // memory is done again, and all is then as in a run in which none fails.
-use crate::mail_calls_tests::method;
+use crate::asking::{shown, stop, sure};
 use account_book::{Ask, Book, Call, Done, Out, Rules, StartFault};
-use jm_base::{Bytes, NoMemory};
-use jm_json::{Made, read, write};
+use jm_base::{Bytes, NoMemory, Text};
+use jm_json::{Invocation, Made, read};
 use keep_port::{Keeper, Kept, MemoryKeeper};
 use mail_calls::MailRules;
 use mail_records::Stamp;
@@ -93,17 +93,6 @@ struct Met {
     shown: Vec<u8>,
 }
 
-fn stop<A: Abort>(rt: &A) -> ! {
-    panic!(rt; "a call failed that must not")
-}
-
-fn sure<A: Abort, T: Drop, E: Drop>(rt: &A, returned: Result<T, E>) -> T {
-    match returned {
-        Ok(value) => value,
-        Err(_) => stop(rt),
-    }
-}
-
 fn ask_of(alloc: Global, name: &str, args: &str) -> Result<Ask, NoMemory> {
     if name == "upload" {
         return Ok(Ask::Upload(Bytes::from_slice(alloc, args.as_bytes())?));
@@ -111,10 +100,14 @@ fn ask_of(alloc: Global, name: &str, args: &str) -> Result<Ask, NoMemory> {
     if name == "states" {
         return Ok(Ask::States);
     }
-    match read(alloc, args.as_bytes()) {
-        Ok(args) => method(alloc, name, args),
-        Err(_) => Err(NoMemory),
-    }
+    let Ok(args) = read(alloc, args.as_bytes()) else {
+        return Err(NoMemory);
+    };
+    Ok(Ask::Method(Invocation {
+        name: Text::from_str(alloc, name)?,
+        args,
+        id: Text::from_str(alloc, "0")?,
+    }))
 }
 
 fn call_of(alloc: Global, name: &str, args: &str) -> Result<Call, NoMemory> {
@@ -123,29 +116,6 @@ fn call_of(alloc: Global, name: &str, args: &str) -> Result<Call, NoMemory> {
         made: Made::new(alloc),
         read_only: false,
     })
-}
-
-// The arguments of the first response, or what else is answered in words.
-fn words_of(alloc: Global, out: &Out) -> Result<Bytes, NoMemory> {
-    match out {
-        Out::Replies(replied) => match replied.responses.as_slice() {
-            [first, ..] => write(alloc, &first.args),
-            [] => Ok(Bytes::new(alloc)),
-        },
-        Out::Uploaded(number) => {
-            let text = format!(in alloc; "{number}")?;
-            Ok(Bytes::from_vec(text.into_bytes()))
-        }
-        Out::States {
-            mailbox,
-            email,
-            thread,
-        } => {
-            let text = format!(in alloc; "{mailbox} {email} {thread}")?;
-            Ok(Bytes::from_vec(text.into_bytes()))
-        }
-        _ => Ok(Bytes::new(alloc)),
-    }
 }
 
 // How many entries the account has, and its answers to what is asked to see that it is as before.
@@ -160,7 +130,7 @@ fn shown_by<A: Abort, K: Keeper, R: Rules>(
     for (name, args) in SHOWN {
         let call = sure(rt, call_of(alloc, name, args));
         let done = sure(rt, book.perform(alloc, &call, STAMP, 0));
-        let words = sure(rt, words_of(alloc, &done.out));
+        let words = sure(rt, shown(alloc, &done.out));
         sure(rt, all.extend_from_slice(words.as_slice()));
         sure(rt, all.push(b'\n'));
     }
@@ -207,11 +177,11 @@ fn read_call<A: Abort>(
 }
 
 fn write_out<A: Abort>(rt: &A, alloc: Global, out: &Out, met: &mut Met) -> Bytes {
-    match words_of(alloc, out) {
+    match shown(alloc, out) {
         Ok(words) => words,
         Err(_) => {
             met.place = "the test";
-            sure(rt, words_of(alloc, out))
+            sure(rt, shown(alloc, out))
         }
     }
 }

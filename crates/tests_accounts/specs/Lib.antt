@@ -1,2 +1,0 @@
-pub mod TestRules
-pub mod TestRulesLaws
