@@ -108,8 +108,8 @@ pub fn states_change_at_edits_of_their_kind()
         → state_of h kind < state_of (grown_by h more) kind }
 {}
 
-/// If the floor of a history moves up to the end of its first entries, the records of a kind are the
-/// same as before at each position from the kind's new floor position up to the new floor.
+/// If the floor of a history moves up to the end of its first entries, the records of a kind are
+/// the same as before at each position from the kind's new floor position up to the new floor.
 pub fn records_stay_below_a_floor_that_moved_up()
     ensures { (h : History) (kind : Kind) (c k : ℕ) → FloorsAtMost h.floors h.floor
         → state_at h kind (end_after h c) ≤ k → k ≤ end_after h c
