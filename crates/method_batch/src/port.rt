@@ -20,8 +20,8 @@ pub trait Port: Drop {
     /// memory, which leaves the second state.
     ghost stops: { Self → Call → List Created → Self → Type 0 };
 
-    /// Performs a call, and takes it away. If it ends out of memory, the port is in a state in which
-    /// `stops` allows such a call to leave it.
+    /// Performs a call, and takes it away. If it ends out of memory, the port is in a state in
+    /// which `stops` allows such a call to leave it.
     fn call(&mut self, alloc: Global, call: Invocation, made: &Made) -> Result<Replied, NoMemory>
         ensures answer { IfOk result
             (λ r. answers self.old (call_of call) made.now r self.new) }
