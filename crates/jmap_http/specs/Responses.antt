@@ -67,11 +67,17 @@ host_of fields = utf8_lossy (unwrap_or (field_value (codes "Host") fields) [])
 abbrev pub session_response : User → List (List ℕ × List ℕ) → Response
 session_response user fields = json_response 200 (session_tree user (host_of fields))
 
+-- the media type of a Response, or of a problem (RFC 7807, 3)
+abbrev pub api_media : ℕ → List ℕ
+api_media status = if status == 200 then json_media else problem_media
+
 -- a Response, or the problem for which a request is rejected (RFC 8620, 3.6.1)
 abbrev pub api_response : Outcome → Response
-api_response o =
-    if o.status == 200 then json_response 200 (tree_of o.tree)
-    else problem_response o.status (tree_of o.tree)
+api_response o = record {
+  status = o.status;
+  media = api_media o.status;
+  body = json_text (tree_of o.tree);
+}
 
 -- the media type of an upload: that of the request, which is not checked
 abbrev pub upload_media : List (List ℕ × List ℕ) → List ℕ

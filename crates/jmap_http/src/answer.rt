@@ -13,14 +13,14 @@ ghost use Rattle.jmap_http.specs.Views.{asked, resource_as};
 use crate::authorization::{find_field, find_user};
 use crate::media::write_media;
 use crate::port::{Stored, UserPort};
-use crate::response::{Response, write_blank, write_json, write_limit, write_outcome};
+use crate::response::{Response, write_api, write_blank, write_json, write_limit};
 use crate::session::show_session;
 use crate::targets::{Resource, find_resource, is_refused};
 use blob_ids::{BlobId, write_blob_id};
 use http_wire::{HttpField, HttpRequest};
 use jm_base::{Bytes, NoMemory, Text};
 use jm_json::{Json, Members, Scratch};
-use method_batch::answer_request_with;
+use method_batch::perform_request;
 use server_users::{User, UserAccount, Users};
 use std::alloc::Global;
 
@@ -132,8 +132,8 @@ fn answer_api<P: UserPort>(
         m port.new body.now)) }
 {
     port.begin(origin.index, origin.time);
-    match answer_request_with(alloc, scratch, port, body) {
-        Ok(outcome) => write_outcome(alloc, outcome),
+    match perform_request(alloc, scratch, port, body) {
+        Ok(answered) => write_api(alloc, scratch, answered),
         Err(refused) => Err(refused),
     }
 }

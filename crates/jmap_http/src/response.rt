@@ -1,11 +1,12 @@
 // Responses, and those that a status or a JSON tree makes.
 ghost use Rattle.std.specs.Prelude.{◌≡◌, IfOk};
 ghost use Rattle.jm_json.specs.Json.{tree_of};
-ghost use Rattle.jmap_http.specs.Responses.{api_response, blank_response, blank_tree, json_response, limit_response, problem_response};
+ghost use Rattle.method_batch.specs.Answered.{outcome_of};
+ghost use Rattle.jmap_http.specs.Responses.{api_media, api_response, blank_response, blank_tree, json_response, limit_response, problem_response};
 
 use jm_base::{Bytes, NoMemory, Text};
-use jm_json::{Json, Members, write};
-use method_batch::{Outcome, show_limit};
+use jm_json::{Json, Members, Scratch, write};
+use method_batch::{Answered, show_limit};
 use std::alloc::Global;
 
 /// A response: its status, its media type and its body.
@@ -69,13 +70,31 @@ pub(crate) fn write_limit(alloc: Global, name: &str) -> Result<Response, NoMemor
     write_problem(alloc, 413, &tree)
 }
 
-/// Returns the response of a request to the API.
-pub(crate) fn write_outcome(alloc: Global, outcome: Outcome) -> Result<Response, NoMemory>
-    ensures { IfOk result (λ r. r ≡ api_response outcome) }
+// Returns the media type of an answer of the API.
+fn write_api_media(alloc: Global, status: u16) -> Result<Bytes, NoMemory>
+    ensures { IfOk result (λ m. m ≡ api_media status) }
 {
-    let Outcome { status, tree } = outcome;
     if status == 200 {
-        return write_json(alloc, 200, &tree);
+        return Ok(Bytes::from_slice(alloc, b"application/json")?);
     }
-    write_problem(alloc, status, &tree)
+    Ok(Bytes::from_slice(alloc, b"application/problem+json")?)
+}
+
+/// Returns the response of a request to the API that was answered.
+pub(crate) fn write_api(
+    alloc: Global,
+    scratch: &mut Scratch,
+    answered: Answered,
+) -> Result<Response, NoMemory>
+    ensures { IfOk result (λ r. r ≡ api_response (outcome_of answered)) }
+{
+    let status = answered.status();
+    let media = write_api_media(alloc, status)?;
+    let mut body = Bytes::new(alloc);
+    answered.write(alloc, scratch, &mut body)?;
+    Ok(Response {
+        status,
+        media,
+        body,
+    })
 }

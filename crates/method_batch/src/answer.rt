@@ -36,7 +36,7 @@ pub fn answer_tree<P: Port>(
         (HasBegun P.answers P.stops port.old port.new (tree_of request.now)) }
 {
     let tree = copy(alloc, request)?;
-    match answer_moved(alloc, port, tree) {
+    match perform_tree(alloc, port, tree) {
         Ok(answered) => answered.into_outcome(alloc),
         Err(refused) => Err(refused),
     }
@@ -66,7 +66,7 @@ pub fn answer_request_with<P: Port>(
     ensures outcome { IfOk result (λ o. IsAnswer P.answers port.old port.new request.now o) }
     ensures begun { OnErr result (HasBegunAnswer P.answers P.stops port.old port.new request.now) }
 {
-    match answer_bytes(alloc, scratch, port, request) {
+    match perform_request(alloc, scratch, port, request) {
         Ok(answered) => answered.into_outcome(alloc),
         Err(refused) => Err(refused),
     }
@@ -88,7 +88,7 @@ pub fn write_answer<P: Port>(
     ensures begun { OnErr result (HasBegunAnswer P.answers P.stops port.old port.new request.now) }
     ensures err { OnErr result (out.new ≡ out.old) }
 {
-    match answer_bytes(alloc, scratch, port, request) {
+    match perform_request(alloc, scratch, port, request) {
         Ok(answered) => answered.write(alloc, scratch, out),
         Err(refused) => Err(refused),
     }
@@ -111,7 +111,7 @@ pub fn write_answer_over<P: Port>(
     ensures begun { OnErr result (HasBegunAnswer P.answers P.stops port.old port.new request.old) }
     ensures err { OnErr result (out.new ≡ out.old) }
 {
-    match answer_bytes(alloc, scratch, port, request.as_slice()) {
+    match perform_request(alloc, scratch, port, request.as_slice()) {
         Ok(answered) => {
             hand_over(request, out);
             answered.write(alloc, scratch, out)
@@ -132,7 +132,9 @@ fn hand_over(used: &mut Bytes, out: &mut Bytes)
     mem::swap(used, out);
 }
 
-fn answer_bytes<P: Port>(
+/// Answers the bytes of a request like `answer_request_with`, and returns the answer before it is a
+/// tree or a text.
+pub fn perform_request<P: Port>(
     alloc: Global,
     scratch: &mut Scratch,
     port: &mut P,
@@ -201,14 +203,20 @@ fn answer_reading<P: Port>(
         (HasBegunReading P.answers P.stops port.old port.new (reading_of request.now)) }
 {
     match read_with(alloc, scratch, request) {
-        Ok(tree) => answer_moved(alloc, port, tree),
+        Ok(tree) => perform_tree(alloc, port, tree),
         Err(ReadFault::NotJson) => Ok(Answered::Rejected(Problem::NotJson)),
         Err(ReadFault::NotWhole(_)) => Ok(Answered::Rejected(Problem::NotRequest)),
         Err(ReadFault::NoMemory) => Err(NoMemory),
     }
 }
 
-fn answer_moved<P: Port>(alloc: Global, port: &mut P, request: Json) -> Result<Answered, NoMemory>
+/// Answers the tree of a request like `answer_tree`, but takes it away, and returns the answer before
+/// it is a tree or a text.
+pub fn perform_tree<P: Port>(
+    alloc: Global,
+    port: &mut P,
+    request: Json,
+) -> Result<Answered, NoMemory>
     ensures outcome { IfOk result
         (λ a. IsOutcome P.answers port.old port.new (tree_of request) (outcome_of a)) }
     ensures begun { OnErr result (HasBegun P.answers P.stops port.old port.new (tree_of request)) }

@@ -24,8 +24,19 @@ impl Answered {
     ghost use Rattle.method_batch.specs.Outcome.{IsReply};
     ghost use Rattle.method_batch.specs.Answered.{outcome_of};
 
+    /// Returns the HTTP status of the answer: 200, or that of the problem for which the request was
+    /// rejected.
+    pub fn status(&self) -> u16
+        ensures { result ≡ (outcome_of self.now).status }
+    {
+        match self {
+            Answered::Rejected(problem) => problem.status(),
+            Answered::Performed(_, _) => 200,
+        }
+    }
+
     /// Returns the outcome of the request.
-    pub(crate) fn into_outcome(self, alloc: Global) -> Result<Outcome, NoMemory>
+    pub fn into_outcome(self, alloc: Global) -> Result<Outcome, NoMemory>
         ensures { IfOk result
             (λ o. IsReply o (outcome_of self).status (tree_of (outcome_of self).tree)) }
     {
@@ -40,7 +51,7 @@ impl Answered {
 
     /// Adds the compact text of the outcome's tree after what is there. If memory runs out, the
     /// bytes are unchanged.
-    pub(crate) fn write(
+    pub fn write(
         self,
         alloc: Global,
         scratch: &mut Scratch,

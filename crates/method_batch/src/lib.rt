@@ -18,8 +18,11 @@ mod response;
 mod using;
 
 pub use answer::{
-    answer_request, answer_request_with, answer_tree, write_answer, write_answer_over,
+    answer_request, answer_request_with, answer_tree, perform_request, perform_tree, write_answer,
+    write_answer_over,
 };
+pub use answered::Answered;
 pub use limits::MAX_CALLS_PER_REQUEST;
 pub use outcome::{Outcome, Problem, show_limit};
 pub use port::Port;
+pub use progress::Progress;

@@ -53,7 +53,7 @@ impl Problem {
         }
     }
 
-    fn status(self) -> u16
+    pub(crate) fn status(self) -> u16
         ensures { result ≡ problem_status self }
     {
         match self {

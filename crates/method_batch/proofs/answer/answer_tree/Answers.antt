@@ -14,11 +14,11 @@ returns-in_err-tree-clause-begun g c =
 
 pub returns-in-Ok-clause-outcome : goal.returns-in-Ok-clause-outcome
 returns-in-Ok-clause-outcome g c =
-    outcome_kept g.P.Port.answers c.args.port.now c.answer_moved.new.port c.into_outcome.result (tree_of c.args.request.now) (outcome_of c.in-Ok.answered) c.into_outcome.ensures
-    (subst (λ (j : Json). IsOutcome g.P.Port.answers c.args.port.now c.answer_moved.new.port (tree_of j) (outcome_of c.in-Ok.answered)) c.in_ok-tree.ensures c.in-Ok.ensures.outcome)
+    outcome_kept g.P.Port.answers c.args.port.now c.perform_tree.new.port c.into_outcome.result (tree_of c.args.request.now) (outcome_of c.in-Ok.answered) c.into_outcome.ensures
+    (subst (λ (j : Json). IsOutcome g.P.Port.answers c.args.port.now c.perform_tree.new.port (tree_of j) (outcome_of c.in-Ok.answered)) c.in_ok-tree.ensures c.in-Ok.ensures.outcome)
 
 pub returns-in-Ok-clause-begun : goal.returns-in-Ok-clause-begun
 returns-in-Ok-clause-begun g c =
-    on_err (HasBegun g.P.Port.answers g.P.Port.stops c.args.port.now c.answer_moved.new.port (tree_of c.args.request.now)) c.into_outcome.result
-    (outcome_begun g.P.Port.answers g.P.Port.stops c.args.port.now c.answer_moved.new.port (tree_of c.args.request.now) (outcome_of c.in-Ok.answered)
-    (subst (λ (j : Json). IsOutcome g.P.Port.answers c.args.port.now c.answer_moved.new.port (tree_of j) (outcome_of c.in-Ok.answered)) c.in_ok-tree.ensures c.in-Ok.ensures.outcome))
+    on_err (HasBegun g.P.Port.answers g.P.Port.stops c.args.port.now c.perform_tree.new.port (tree_of c.args.request.now)) c.into_outcome.result
+    (outcome_begun g.P.Port.answers g.P.Port.stops c.args.port.now c.perform_tree.new.port (tree_of c.args.request.now) (outcome_of c.in-Ok.answered)
+    (subst (λ (j : Json). IsOutcome g.P.Port.answers c.args.port.now c.perform_tree.new.port (tree_of j) (outcome_of c.in-Ok.answered)) c.in_ok-tree.ensures c.in-Ok.ensures.outcome))
