@@ -1,27 +1,25 @@
 -- What is known of a source, a sink, a link and a clock in memory.
-use Rattle.std.specs.Prelude.{ℕ, ◌+◌, ◌-◌, ◌^◌, ◌==◌, min, max, List, Bool, slice_index_or}
-use Rattle.std.specs.List.{list_any}
+use Rattle.std.specs.Prelude.{ℕ, ◌-◌, min, max, List, slice_index_or}
 use Rattle.jm_edge.specs.declared.arrival.Arrival.{Arrival}
+use Rattle.jm_edge.specs.declared.calls.Calls.{Calls}
 use Rattle.jm_base.specs.declared.utc_dates.TheConstants.{LAST_TIMESTAMP}
+pub use Rattle.jm_edge.specs.Schedules.{one_on, is_to_fail}
 
 -- The bytes that are left; the most bytes that each call reads, in turn, and the most of each call
--- after these; how many calls there were; how many of them failed; and which calls fail, counted
--- from 1.
+-- after these; and the calls.
 pub record Input : Type 0 where
   pub left : List ℕ
   pub sizes : List ℕ
   pub most : ℕ
-  pub calls : ℕ
-  pub faults : ℕ
-  pub fails : List ℕ
+  pub calls : Calls
 
--- The bytes that were written; how many calls there were; how many of them failed; and which calls
--- fail, counted from 1.
+-- The bytes that were written; the most bytes that each call writes, in turn, and the most of each
+-- call after these; and the calls.
 pub record Output : Type 0 where
   pub held : List ℕ
-  pub calls : ℕ
-  pub faults : ℕ
-  pub fails : List ℕ
+  pub sizes : List ℕ
+  pub most : ℕ
+  pub calls : Calls
 
 -- The two directions of a link; and what will arrive at a socket that is made from it, and which of
 -- the socket's looks and sends fail, counted from 1.
@@ -37,15 +35,7 @@ pub record Timetable : Type 0 where
   pub next : List ℕ
   pub rest : ℕ
 
--- the next value of a count of 64 bits, which stays at its end
-abbrev pub one_on : ℕ → ℕ
-one_on n = min (n + 1) (2 ^ 64 - 1)
-
--- the call with this number is one of those that fail
-abbrev pub is_to_fail : List ℕ → ℕ → Bool
-is_to_fail fails call = list_any (λ k. k == call) fails
-
--- the most bytes that the call with this number reads: at least one
+-- the most bytes that the call with this number reads or writes: at least one
 abbrev pub size_at : List ℕ → ℕ → ℕ → ℕ
 size_at sizes most call = max 1 (slice_index_or sizes (call - 1) most)
 

@@ -7,7 +7,7 @@
 #![tactic(auto)]
 
 mod arrival;
-mod attempts;
+mod calls;
 mod clock;
 mod fault;
 mod gate;
@@ -21,6 +21,7 @@ mod sink;
 mod source;
 
 pub use arrival::{Arrival, Sent};
+pub use calls::Calls;
 pub use clock::Clock;
 pub use fault::{EdgeFault, Failed};
 pub use gate::{CountingGate, Gate, NoGate};

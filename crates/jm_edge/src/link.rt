@@ -21,10 +21,10 @@ pub trait Link: Drop + Send {
     /// The bytes that were written, if the link exposes them.
     ghost held: { Self → Option (List ℕ) };
 
-    /// How often reading has failed. The count never falls.
+    /// How often reading has failed. The count never falls, and rises only in a call that fails.
     ghost read_faults: { Self → ℕ };
 
-    /// How often writing has failed. The count never falls.
+    /// How often writing has failed. The count never falls, and rises only in a call that fails.
     ghost put_faults: { Self → ℕ };
 
     /// Reads the next bytes into the beginning of the room, and returns how many. A count of 0 for
@@ -33,6 +33,7 @@ pub trait Link: Drop + Send {
         ensures bound { ReadsAtMost result room.new }
         ensures bytes { ReadConsumes (left self.old) (left self.new) result room.new }
         ensures cause { HasCause (read_faults self.old) (read_faults self.new) result }
+        ensures ok_count { OnOk result (read_faults self.new ≡ read_faults self.old) }
         ensures held { held self.new ≡ held self.old }
         ensures put_faults { put_faults self.new ≡ put_faults self.old };
 
@@ -43,6 +44,7 @@ pub trait Link: Drop + Send {
         ensures some { IfOk result (λ n. 0 < length piece.now → 0 < n) }
         ensures bytes { WriteAppends (held self.old) (held self.new) result piece.now }
         ensures cause { HasCause (put_faults self.old) (put_faults self.new) result }
+        ensures ok_count { OnOk result (put_faults self.new ≡ put_faults self.old) }
         ensures left { left self.new ≡ left self.old }
         ensures read_faults { read_faults self.new ≡ read_faults self.old };
 
@@ -71,6 +73,7 @@ pub fn put_to_link<L: Link>(link: &mut L, piece: &[u8]) -> Result<(), Failed>
     ensures err { OnErr result ((n : ℕ) × Appends (L.held link.old) (L.held link.new)
         (take n piece.now)) }
     ensures cause { HasCause (L.put_faults link.old) (L.put_faults link.new) result }
+    ensures ok_count { OnOk result (L.put_faults link.new ≡ L.put_faults link.old) }
     ensures left { L.left link.new ≡ L.left link.old }
     ensures read_faults { L.read_faults link.new ≡ L.read_faults link.old }
 {

@@ -1,9 +1,10 @@
 // A link in memory.
-ghost use Rattle.std.specs.Prelude.{◌≡◌, ◌<◌, ◌≤◌, [], Some, IsTrue, is_err, IfOk, length};
+ghost use Rattle.std.specs.Prelude.{◌≡◌, ◌<◌, [], min, Some, IsTrue, is_err, IfOk, OnOk, length};
 ghost use Rattle.std.specs.Io.{ReadsAtMost, WritesAtMost};
 ghost use Rattle.std.specs.Io.KnownBytes.{ReadConsumes, WriteAppends};
 ghost use Rattle.jm_edge.specs.Causes.{HasCause};
-ghost use Rattle.jm_edge.specs.Memory.{one_on, is_to_fail};
+ghost use Rattle.jm_edge.specs.Memory.{size_at};
+ghost use Rattle.jm_edge.specs.Schedules.{one_on, not_called, fails_next, counted};
 
 use crate::{Failed, Link, MemorySink, MemorySocket, MemorySource, Script, Sink, Source};
 use jm_base::{Bytes, NoMemory, Numbers};
@@ -75,9 +76,9 @@ impl MemoryLink {
     /// Returns a link from which these bytes are read, that never fails unless an allocation fails.
     pub fn from_vec(alloc: Global, bytes: Vec<u8>) -> MemoryLink
         ensures input { result.input.left ≡ bytes.items }
-        ensures reads { result.input.fails ≡ [] }
+        ensures reads { result.input.calls ≡ not_called [] }
         ensures output { result.output.held ≡ [] }
-        ensures writes { result.output.fails ≡ [] }
+        ensures writes { result.output.calls ≡ not_called [] }
     {
         MemoryLink::new(MemorySource::new(alloc, bytes), MemorySink::new(alloc))
     }
@@ -92,7 +93,7 @@ impl MemoryLink {
 
 impl Link for MemoryLink {
     ghost use Rattle.std.specs.Prelude.{Some};
-    ghost use Rattle.jm_edge.specs.MemorySockets.{none_made, origin_of};
+    ghost use Rattle.jm_edge.specs.MemorySockets.{origin_of};
     ghost use Rattle.jm_edge.specs.Sockets.{IsKnownOrigin};
 
     type Socket = MemorySocket;
@@ -101,21 +102,22 @@ impl Link for MemoryLink {
 
     ghost held = { λ l. Some l.output.held };
 
-    ghost read_faults = { λ l. l.input.faults };
+    ghost read_faults = { λ l. l.input.calls.faults };
 
-    ghost put_faults = { λ l. l.output.faults };
+    ghost put_faults = { λ l. l.output.calls.faults };
 
     fn read(&mut self, room: &mut [u8]) -> Result<usize, Failed>
         ensures bound { ReadsAtMost result room.new }
         ensures bytes { ReadConsumes (Some self.old.input.left) (Some self.new.input.left) result
             room.new }
-        ensures cause { HasCause self.old.input.faults self.new.input.faults result }
+        ensures cause { HasCause self.old.input.calls.faults self.new.input.calls.faults result }
+        ensures ok_count { OnOk result (self.new.input.calls.faults ≡ self.old.input.calls.faults) }
         ensures held { Some self.new.output.held ≡ Some self.old.output.held }
-        ensures put_faults { self.new.output.faults ≡ self.old.output.faults }
+        ensures put_faults { self.new.output.calls.faults ≡ self.old.output.calls.faults }
 
         // It fails at the listed calls and at no other.
-        ensures fails { is_err result ≡ is_to_fail self.old.input.fails
-            (one_on self.old.input.calls) }
+        ensures fails { is_err result ≡ fails_next self.old.input.calls }
+        ensures calls { self.new.input.calls ≡ counted (is_err result) self.old.input.calls }
         ensures output { self.new.output ≡ self.old.output }
     {
         self.input.read(room)
@@ -126,13 +128,17 @@ impl Link for MemoryLink {
         ensures some { IfOk result (λ n. 0 < length piece.now → 0 < n) }
         ensures bytes { WriteAppends (Some self.old.output.held) (Some self.new.output.held) result
             piece.now }
-        ensures cause { HasCause self.old.output.faults self.new.output.faults result }
+        ensures cause { HasCause self.old.output.calls.faults self.new.output.calls.faults result }
+        ensures ok_count { OnOk result (self.new.output.calls.faults
+            ≡ self.old.output.calls.faults) }
         ensures left { Some self.new.input.left ≡ Some self.old.input.left }
-        ensures read_faults { self.new.input.faults ≡ self.old.input.faults }
+        ensures read_faults { self.new.input.calls.faults ≡ self.old.input.calls.faults }
 
         // It fails at the listed calls.
-        ensures fails { IsTrue (is_to_fail self.old.output.fails (one_on self.old.output.calls))
-            → IsTrue (is_err result) }
+        ensures fails { IsTrue (fails_next self.old.output.calls) → IsTrue (is_err result) }
+        ensures calls { self.new.output.calls ≡ counted (is_err result) self.old.output.calls }
+        ensures count { IfOk result (λ n. n ≡ min (length piece.now) (size_at
+            self.old.output.sizes self.old.output.most (one_on self.old.output.calls.made))) }
         ensures input { self.new.input ≡ self.old.input }
     {
         self.output.put(piece)
@@ -141,8 +147,8 @@ impl Link for MemoryLink {
     fn finish(&mut self)
         ensures left { Some self.new.input.left ≡ Some self.old.input.left }
         ensures held { Some self.new.output.held ≡ Some self.old.output.held }
-        ensures read_faults { self.new.input.faults ≡ self.old.input.faults }
-        ensures put_faults { self.new.output.faults ≡ self.old.output.faults }
+        ensures read_faults { self.new.input.calls.faults ≡ self.old.input.calls.faults }
+        ensures put_faults { self.new.output.calls.faults ≡ self.old.output.calls.faults }
 
         // It does nothing.
         ensures same { self.new ≡ self.old }
@@ -156,8 +162,8 @@ impl Link for MemoryLink {
 
         // The socket follows the script.
         ensures coming { IfOk result (λ s. s.coming.items ≡ self.coming) }
-        ensures look_fails { IfOk result (λ s. s.looks ≡ none_made self.look_fails) }
-        ensures send_fails { IfOk result (λ s. s.sends ≡ none_made self.send_fails) }
+        ensures look_fails { IfOk result (λ s. s.looks ≡ not_called self.look_fails) }
+        ensures send_fails { IfOk result (λ s. s.sends ≡ not_called self.send_fails) }
     {
         let MemoryLink {
             input,

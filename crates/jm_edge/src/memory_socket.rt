@@ -2,11 +2,10 @@
 ghost use Rattle.std.specs.Prelude.{◌≡◌, Some, MatchResult, is_err, IsTrue};
 ghost use Rattle.jm_edge.specs.declared.arrival.Sent.TheVariants.{Text as text_sent, Close as close_sent};
 ghost use Rattle.jm_edge.specs.Causes.{IsCounted};
-ghost use Rattle.jm_edge.specs.Memory.{one_on, is_to_fail};
+ghost use Rattle.jm_edge.specs.Schedules.{not_called, fails_next};
 ghost use Rattle.jm_edge.specs.Sockets.{Arrives, Sends};
 
-use crate::attempts::Attempts;
-use crate::{Arrival, EdgeFault, MemorySink, MemorySource, MessageLink, Sent};
+use crate::{Arrival, Calls, EdgeFault, MemorySink, MemorySource, MessageLink, Sent};
 use jm_base::{Bytes, Numbers, Sequence};
 use std::alloc::Global;
 use std::collections::VecDeque;
@@ -29,13 +28,11 @@ pub struct MemorySocket {
     early: Bytes,
     coming: VecDeque<Arrival>,
     sent: Sequence<Sent>,
-    looks: Attempts,
-    sends: Attempts,
+    looks: Calls,
+    sends: Calls,
 }
 
 impl MemorySocket {
-    ghost use Rattle.jm_edge.specs.MemorySockets.{none_made};
-
     // Returns the socket of a link's two directions, with the early bytes, before its first call.
     pub(crate) fn new(
         alloc: Global,
@@ -48,8 +45,8 @@ impl MemorySocket {
         ensures output { result.output ≡ output }
         ensures early { result.early ≡ early }
         ensures coming { result.coming.items ≡ script.coming.items }
-        ensures looks { result.looks ≡ none_made script.look_fails }
-        ensures sends { result.sends ≡ none_made script.send_fails }
+        ensures looks { result.looks ≡ not_called script.look_fails }
+        ensures sends { result.sends ≡ not_called script.send_fails }
     {
         let Script {
             coming,
@@ -62,8 +59,8 @@ impl MemorySocket {
             early,
             coming,
             sent: Sequence::new(alloc),
-            looks: Attempts::new(look_fails),
-            sends: Attempts::new(send_fails),
+            looks: Calls::new(look_fails),
+            sends: Calls::new(send_fails),
         }
     }
 
@@ -97,16 +94,16 @@ impl MemorySocket {
         ensures input { self.new.input ≡ self.old.input }
         ensures output { self.new.output ≡ self.old.output }
         ensures early { self.new.early ≡ self.old.early }
-        ensures fails { IsTrue (is_to_fail self.old.sends.fails (one_on self.old.sends.calls))
+        ensures fails { IsTrue (fails_next self.old.sends)
             → IsTrue (is_err result) }
     {
         if self.sends.fails_next() {
-            self.sends.count(true);
+            self.sends.fail();
             return Err(EdgeFault::Failed);
         }
         match self.sent.push(item) {
             Ok(()) => {
-                self.sends.count(false);
+                self.sends.pass();
                 Ok(())
             }
             Err(_) => Err(EdgeFault::NoMemory),
@@ -138,14 +135,13 @@ impl MessageLink for MemorySocket {
         ensures origin { origin_of self.new ≡ origin_of self.old }
 
         // It fails at the listed calls and at no other.
-        ensures fails { is_err result ≡ is_to_fail self.old.looks.fails
-            (one_on self.old.looks.calls) }
+        ensures fails { is_err result ≡ fails_next self.old.looks }
     {
         if self.looks.fails_next() {
-            self.looks.count(true);
+            self.looks.fail();
             return Err(EdgeFault::Failed);
         }
-        self.looks.count(false);
+        self.looks.pass();
         match self.coming.pop_front() {
             Some(arrival) => Ok(arrival),
             None => Ok(Arrival::Closed),
@@ -161,7 +157,7 @@ impl MessageLink for MemorySocket {
         ensures origin { origin_of self.new ≡ origin_of self.old }
 
         // It fails at the listed calls.
-        ensures fails { IsTrue (is_to_fail self.old.sends.fails (one_on self.old.sends.calls))
+        ensures fails { IsTrue (fails_next self.old.sends)
             → IsTrue (is_err result) }
     {
         match Bytes::from_slice(alloc, text) {
@@ -178,7 +174,7 @@ impl MessageLink for MemorySocket {
         ensures origin { origin_of self.new ≡ origin_of self.old }
 
         // It fails at the listed calls.
-        ensures fails { IsTrue (is_to_fail self.old.sends.fails (one_on self.old.sends.calls))
+        ensures fails { IsTrue (fails_next self.old.sends)
             → IsTrue (is_err result) }
     {
         self.put(Sent::Close(code))

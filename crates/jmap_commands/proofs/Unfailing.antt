@@ -2,11 +2,11 @@
 use Rattle.std.proofs.Common.{◌≡◌, ℕ, true, List, [], Result, Ok, Err, refl, sym, ap, ◌∙◌, subst}
 use Rattle.std.proofs.lemmas.Bool.{true≢false}
 use Rattle.jm_edge.specs.Causes.{IsCounted}
-use Rattle.jm_edge.specs.Memory.{is_to_fail, one_on}
+use Rattle.jm_edge.specs.Schedules.{is_to_fail, one_on}
+use Rattle.jm_edge.specs.declared.calls.Calls.{Calls}
 use Rattle.jm_edge.specs.declared.fault.EdgeFault.{EdgeFault}
 use Rattle.jm_edge.specs.declared.fault.EdgeFault.TheVariants.{Failed, NoMemory}
 use Rattle.keep_port.specs.Memory.{Appends, Loads, Replaces, fails_next}
-use Rattle.keep_port.specs.declared.calls.Calls.{Calls}
 use Rattle.keep_port.specs.declared.kept.Kept.{Kept}
 use Rattle.keep_port.specs.declared.memory.MemoryKeeper.{MemoryKeeper}
 

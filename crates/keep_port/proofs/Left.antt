@@ -1,6 +1,6 @@
 -- What a refused call adds to what a crash may leave.
 use Rattle.std.proofs.Common.{◌≡◌, ℕ, List, [], ◌∷◌, ◌++◌, ◌⊎◌, inl, inr, Option, Some, None, refl, sym, ap, ◌∙◌, ⊎_elim, subst}
-use Rattle.keep_port.specs.declared.calls.Calls.{Calls}
+use Rattle.jm_edge.specs.declared.calls.Calls.{Calls}
 use Rattle.keep_port.specs.declared.kept.Kept.{Kept}
 use Rattle.keep_port.specs.declared.memory.MemoryKeeper.{MemoryKeeper}
 use Rattle.keep_port.specs.Keeping.{with_row}

@@ -1,28 +1,11 @@
 -- What a crash may leave of a keeper in memory, and what each call makes of the keeper.
-use Rattle.std.specs.Prelude.{◌≡◌, ℕ, Bool, true, false, List, [], ◌∷◌, ◌++◌, Result, Ok, Err, ◌⊎◌}
-use Rattle.jm_edge.specs.Memory.{one_on, is_to_fail}
+use Rattle.std.specs.Prelude.{◌≡◌, ℕ, true, false, List, [], ◌∷◌, ◌++◌, Result, Ok, Err, ◌⊎◌}
 use Rattle.jm_edge.specs.declared.fault.EdgeFault.{EdgeFault}
 use Rattle.jm_edge.specs.declared.fault.EdgeFault.TheVariants.{Failed, NoMemory}
 use Rattle.keep_port.specs.Keeping.{with_row}
-use Rattle.keep_port.specs.declared.calls.Calls.{Calls}
 use Rattle.keep_port.specs.declared.kept.Kept.{Kept}
 use Rattle.keep_port.specs.declared.memory.MemoryKeeper.{MemoryKeeper}
-
--- the counts before the first call
-abbrev pub not_called : List ℕ → Calls
-not_called fails = record { made = 0; faults = 0; fails = fails }
-
--- the next call is one of those that fail
-abbrev pub fails_next : Calls → Bool
-fails_next c = is_to_fail c.fails (one_on c.made)
-
--- the counts after a call that did not fail
-abbrev pub passed : Calls → Calls
-passed c = record { made = one_on c.made; faults = c.faults; fails = c.fails }
-
--- the counts after a call that failed
-abbrev pub failed : Calls → Calls
-failed c = record { made = one_on c.made; faults = one_on c.faults; fails = c.fails }
+pub use Rattle.jm_edge.specs.Schedules.{not_called, fails_next, passed, failed}
 
 -- the keeper of this content before its first call
 abbrev pub opened : Kept → List ℕ → List ℕ → List ℕ → MemoryKeeper

@@ -6,7 +6,6 @@
 //! and what a crash may leave of it.
 #![tactic(auto)]
 
-mod calls;
 mod keeper;
 mod kept;
 mod laws;

@@ -4,10 +4,9 @@ ghost use Rattle.keep_port.specs.declared.kept.Kept.{Kept};
 ghost use Rattle.jm_edge.specs.Causes.{IsCounted};
 ghost use Rattle.keep_port.specs.Keeping.{IsContent, IsUnknownOr, content_after, content_loaded, with_row_if, MayLeave, MustLeave};
 
-use crate::calls::Calls;
 use crate::{Keeper, Kept};
 use jm_base::{Bytes, Numbers, Rows, Sequence};
-use jm_edge::EdgeFault;
+use jm_edge::{Calls, EdgeFault};
 use std::alloc::Global;
 
 /// Keeps rows in memory. Its content is always known, and so is what a crash may leave: exactly the

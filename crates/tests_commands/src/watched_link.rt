@@ -19,9 +19,9 @@ impl Link for WatchedLink<'_> {
 
     ghost held = { λ l. Some l.memory.output.held };
 
-    ghost read_faults = { λ l. l.memory.input.faults };
+    ghost read_faults = { λ l. l.memory.input.calls.faults };
 
-    ghost put_faults = { λ l. l.memory.output.faults };
+    ghost put_faults = { λ l. l.memory.output.calls.faults };
 
     fn read(&mut self, room: &mut [u8]) -> Result<usize, Failed> {
         self.memory.read(room)

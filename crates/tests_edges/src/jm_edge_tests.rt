@@ -60,6 +60,24 @@ fn a_link_reads_and_writes_apart(rt: HostRuntime) -> Result<(), Fail> {
     Ok(())
 }
 
+// The first call takes two bytes, the second one (a size of 0 counts as 1), and the third fails.
+#[test]
+fn a_put_that_fails_cuts_a_piece(rt: HostRuntime) -> Result<(), Fail> {
+    let alloc = rt.alloc();
+    let (mut sizes, mut fails) = (Numbers::new(alloc), Numbers::new(alloc));
+    sizes.push(2)?;
+    sizes.push(0)?;
+    fails.push(3)?;
+    let input = MemorySource::new(alloc, Vec::new(alloc));
+    let output = MemorySink::build_in_sizes(alloc, sizes, 3, fails);
+    let mut link = MemoryLink::new(input, output);
+    assert_eq!(rt; put_to_link(&mut link, b"abcdef"), Err(Failed));
+    assert_eq!(rt; link.bytes(), b"abc".as_slice());
+    assert_eq!(rt; link.put(b"defgh"), Ok(3));
+    assert_eq!(rt; link.bytes(), b"abcdef".as_slice());
+    Ok(())
+}
+
 #[test]
 fn a_clock_shows_its_times(rt: HostRuntime) -> Result<(), Fail> {
     let mut times = Numbers::new(rt.alloc());

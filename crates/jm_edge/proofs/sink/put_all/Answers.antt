@@ -1,4 +1,4 @@
-use Rattle.std.proofs.Common.{ℕ, take, drop, arith, length-take, length-drop}
+use Rattle.std.proofs.Common.{ℕ, take, drop, arith, ◌∙◌, length-take, length-drop}
 use Rattle.jm_edge.proofs.Known.{appends_on, take_further, take_within}
 use Rattle.jm_edge.proofs.sink.put_all.Goals as goal
 
@@ -11,5 +11,5 @@ put-preserved g c =
     let bytes = rw (take_within piece l.at n c.in_ok-count.ensures.bound) at c.in_ok-count.ensures.bytes in (
       rw (take_further piece l.at n) (appends_on (held c.args.sink.now) (held l.sink) (held c.put-in-put.new.self) (take l.at piece) (take n (drop l.at piece)) l.invariant.0 bytes),
       omega (arith, c.in_ok-count.ensures.bound, length-take {A = ℕ}, length-drop {A = ℕ}),
-      omega (arith, l.invariant.2, c.put-in-put.ensures.cause.later),
+      c.in_ok-count.ensures.ok_count ∙ l.invariant.2,
     )

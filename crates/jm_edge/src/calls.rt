@@ -1,7 +1,9 @@
-// The calls of one kind on a keeper in memory, and which of them fail.
-ghost use Rattle.std.specs.Prelude.{◌≡◌};
+// The calls of one kind on something in memory, and which of them fail.
+ghost use Rattle.std.specs.Prelude.{◌≡◌, ◌≤◌, []};
+ghost use Rattle.jm_edge.specs.Causes.{Rose};
 
 use jm_base::Numbers;
+use std::alloc::Global;
 
 /// How many calls there were, how many of them failed, and which calls fail, counted from 1.
 #[derive(Drop)]
@@ -12,7 +14,7 @@ pub struct Calls {
 }
 
 impl Calls {
-    ghost use Rattle.keep_port.specs.Memory.{not_called, fails_next, passed, failed};
+    ghost use Rattle.jm_edge.specs.Schedules.{one_on, not_called, fails_next, passed, failed};
 
     /// Returns the counts before the first call.
     pub fn new(fails: Numbers) -> Calls
@@ -25,11 +27,25 @@ impl Calls {
         }
     }
 
+    /// Returns the counts before the first call, where none is to fail.
+    pub fn unfailing(alloc: Global) -> Calls
+        ensures { result ≡ not_called [] }
+    {
+        Calls::new(Numbers::new(alloc))
+    }
+
+    /// Returns the number of the next call. A count of 64 bits stays at its end.
+    pub fn next(&self) -> u64
+        ensures { result ≡ one_on self.now.made }
+    {
+        self.made.saturating_add(1)
+    }
+
     /// Returns whether the next call is one of those that fail.
     pub fn fails_next(&self) -> bool
         ensures { result ≡ fails_next self.now }
     {
-        let next = self.made.saturating_add(1);
+        let next = self.next();
         self.fails.as_slice().contains(&next)
     }
 
@@ -42,7 +58,9 @@ impl Calls {
 
     /// Counts a call that failed.
     pub fn fail(&mut self)
-        ensures { self.new ≡ failed self.old }
+        ensures count { self.new ≡ failed self.old }
+        ensures rose { Rose self.old.faults self.new.faults }
+        ensures later { self.old.faults ≤ self.new.faults }
     {
         self.made = self.made.saturating_add(1);
         self.faults = self.faults.saturating_add(1);
