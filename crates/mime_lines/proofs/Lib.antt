@@ -4,3 +4,5 @@ pub mod SpanFacts
 pub mod ReadFacts
 pub mod Feeds
 pub mod WrittenFields
+pub mod Unfolds
+pub mod FoldedTexts

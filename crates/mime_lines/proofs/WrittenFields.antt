@@ -1,5 +1,5 @@
 -- Fields that are written are read back, and so is the body after them.
-use Rattle.std.proofs.Common.{◌≡◌, ℕ, ◌+◌, ◌<◌, Bool, true, false, cond, eqb, ltb, ◌&&◌, not, IsTrue, List, [], ◌∷◌, ◌++◌, length, get_or, take, drop, map, refl, sym, ap, ◌∙◌, append_assoc, length-append, inl, inr, arith}
+use Rattle.std.proofs.Common.{◌≡◌, ℕ, ◌+◌, ◌<◌, Bool, true, false, cond, eqb, ltb, ◌&&◌, IsTrue, List, [], ◌∷◌, ◌++◌, length, get_or, take, drop, map, refl, sym, ap, ◌∙◌, append_assoc, length-append, inl, inr, arith}
 use Rattle.std.specs.List.{AllByRecursion, concat, flat_map, list_all, onto_first, prefix_len}
 use Rattle.std.proofs.lemmas.Bool.{cases_eq, lt-ltb, ne_eqb, true≢false}
 use Rattle.std.proofs.lemmas.List.{append-nil, drop_at, take_at}
@@ -8,12 +8,9 @@ use Rattle.std.proofs.Math.Seq.{get_or-append_seam}
 use Rattle.mime_lines.specs.Lines.{lines, text, is_line_end, is_blank}
 use Rattle.mime_lines.specs.Fields.{header, body_at, body_of, goes_on, next_goes_on, onto_next, joined, is_name_byte, name_len, is_field}
 use Rattle.mime_lines.specs.FieldTexts.{FieldText, field_text_of, field_texts_of, field_texts}
-use Rattle.mime_lines.specs.Written.{crlf, field_line, header_and_body, is_folded, IsField}
+use Rattle.mime_lines.specs.Written.{crlf, field_line, header_and_body, is_folded, is_inline, IsField}
 use Rattle.mime_lines.proofs.ReadFacts.{concat_lines}
-
-both_true : (p q : Bool) → (p && q) ≡ true → (p ≡ true) × (q ≡ true)
-both_true true q h = (refl, h)
-both_true false q h = absurd (true≢false (sym h))
+use Rattle.mime_lines.proofs.Unfolds.{both_true, not_true, text_before}
 
 -- a byte that is of a class is none that isn't
 apart : (class : ℕ → Bool) (x y : ℕ) → class x ≡ true → class y ≡ false → eqb x y ≡ false
@@ -86,22 +83,15 @@ folds (b ∷ bs) h = elim (eqb b 10) as (λ v. eqb b 10 ≡ v → cond v (goes_o
 ] refl h
 
 -- a text without line ends before some lines
-abbrev is_other : ℕ → Bool
-is_other b = not (eqb b 10)
-
-not_true : (p : Bool) → not p ≡ true → p ≡ false
-not_true true h = absurd (true≢false (sym h))
-not_true false h = refl
-
-lines_after : (p x l : List ℕ) (ls : List (List ℕ)) → list_all is_other p ≡ true → lines x ≡ l ∷ ls → lines (p ++ x) ≡ (p ++ l) ∷ ls
+lines_after : (p x l : List ℕ) (ls : List (List ℕ)) → list_all is_inline p ≡ true → lines x ≡ l ∷ ls → lines (p ++ x) ≡ (p ++ l) ∷ ls
 lines_after [] x l ls h e = e
 lines_after (b ∷ bs) x l ls h e =
-    let parts = both_true (is_other b) (list_all is_other bs) h in
+    let parts = both_true (is_inline b) (list_all is_inline bs) h in
     ap (λ v. cond v ((b ∷ []) ∷ lines (bs ++ x)) (onto_first b (lines (bs ++ x)))) (not_true (eqb b 10) parts.0)
     ∙ ap (onto_first b) (lines_after bs x l ls parts.1 e)
 
 -- the characters of a name
-name_other : (n : List ℕ) → list_all is_name_byte n ≡ true → list_all is_other n ≡ true
+name_other : (n : List ℕ) → list_all is_name_byte n ≡ true → list_all is_inline n ≡ true
 name_other [] h = refl
 name_other (b ∷ bs) h =
     let parts = both_true (is_name_byte b) (list_all is_name_byte bs) h in
@@ -151,7 +141,7 @@ written f h =
     let named : list_all is_name_byte n ≡ true = all_is n h.name in
     let value = folds f.value h.value in
     let p = n ++ 58 ∷ [] in
-    let clean : list_all is_other p ≡ true = list_all-append is_other n (58 ∷ []) ∙ rw (name_other n named) refl in
+    let clean : list_all is_inline p ≡ true = list_all-append is_inline n (58 ∷ []) ∙ rw (name_other n named) refl in
     let line : field_line f ≡ p ++ (f.value ++ crlf) = sym (append_assoc n (58 ∷ []) (f.value ++ crlf)) in
     let start = begins n (58 ∷ value.first) h.some named in
     let same : p ++ value.first ≡ n ++ 58 ∷ value.first = append_assoc n (58 ∷ []) value.first in
@@ -206,12 +196,6 @@ read (f ∷ fs) body h =
     }
 
 -- a field from its line
-text_before : (t : List ℕ) → text (t ++ crlf) ≡ t
-text_before [] = refl
-text_before (b ∷ []) = refl
-text_before (b ∷ c ∷ []) = refl
-text_before (b ∷ c ∷ d ∷ ds) = ap (λ t. b ∷ t) (text_before (c ∷ d ∷ ds))
-
 field_is : (f : FieldText) → IsField f → is_field (field_line f) ≡ true
 field_is f h =
     let n = f.name in

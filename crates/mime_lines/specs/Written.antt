@@ -1,5 +1,5 @@
 -- Texts and fields as a careful writer writes them.
-use Rattle.std.specs.Prelude.{ℕ, ◌<◌, ◌≡◌, Bool, true, ◌&&◌, ◌==◌, IsTrue, List, [], ◌∷◌, ◌++◌, length, if◌then◌else◌}
+use Rattle.std.specs.Prelude.{◌≡◌, ℕ, ◌<◌, Bool, true, ◌&&◌, not, ◌==◌, IsTrue, List, [], ◌∷◌, ◌++◌, length, if◌then◌else◌}
 use Rattle.std.specs.List.{flat_map, list_all}
 use Rattle.mime_lines.specs.Fields.{goes_on, is_name_byte}
 use Rattle.mime_lines.specs.FieldTexts.{FieldText}
@@ -11,6 +11,10 @@ crlf = 13 ∷ 10 ∷ []
 -- the end of a line that the next line continues
 abbrev pub fold : List ℕ
 fold = 13 ∷ 10 ∷ 32 ∷ []
+
+-- a byte within a line
+abbrev pub is_inline : ℕ → Bool
+is_inline b = not (b == 10)
 
 -- texts one after the other, with this between each and the next
 abbrev pub parted_by : List ℕ → List (List ℕ) → List ℕ

@@ -16,5 +16,5 @@ pub use blocks::{BLOCK_BYTES, count_before};
 pub use field::{Field, FieldSpans, fields_stand, find_last_value};
 pub use folding::unfold;
 pub use head::{Head, fields};
-pub use laws::fields_are_read_back;
+pub use laws::{fields_are_read_back, folds_are_undone};
 pub use scan::{count_text_bytes, is_line_end, split_line};
