@@ -59,7 +59,7 @@ not_equals : (b w : ℕ) → letter b ≡ Some w → (v : Bool) → eqb b 61 ≡
 not_equals b w is true e = absurd (none_some w (sym (ap letter (eqb-true b 61 e)) ∙ is))
 not_equals b w is false e = refl
 
-one_letter : (b w : ℕ) (bs : List ℕ) → letter b ≡ Some w → letters (b ∷ bs) ≡ w ∷ letters bs
+pub one_letter : (b w : ℕ) (bs : List ℕ) → letter b ≡ Some w → letters (b ∷ bs) ≡ w ∷ letters bs
 one_letter b w bs is =
     ap (λ v. cond v [] (with_letter (letter b) (letters bs))) (not_equals b w is (eqb b 61) refl) ∙ ap (λ o. with_letter o (letters bs)) is
 

@@ -16,3 +16,9 @@ entry_of f d table e b h = let same : 0 + b ≡ b = omega arith in ap (λ t. get
 
 pub for_bytes : {A : Type 0} (f g : ℕ → A) (d : A) → map f (counted 0 256) ≡ map g (counted 0 256) → (b : ℕ) → b < 256 → f b ≡ g b
 for_bytes f g d e b h = sym (entry_of f d (map f (counted 0 256)) refl b h) ∙ entry_of g d (map f (counted 0 256)) e b h
+
+-- what holds of each number below a bound
+pub for_below : {A : Type 0} (f g : ℕ → A) (d : A) (n : ℕ) → map f (counted 0 n) ≡ map g (counted 0 n) → (k : ℕ) → k < n → f k ≡ g k
+for_below f g d n e k h =
+    let same : 0 + k ≡ k = omega arith in
+    ap f (sym same) ∙ sym (map-counted f d 0 n k h) ∙ ap (λ t. get_or t k d) e ∙ map-counted g d 0 n k h ∙ ap g same

@@ -6,9 +6,11 @@
 
 mod base64;
 mod coding;
+mod laws;
 mod quoted;
 mod size;
 
 pub use coding::{Coding, decode};
+pub use laws::{base64_is_read_back, quoted_printable_is_read_back};
 pub use quoted::unescape;
 pub use size::count_decoded;
