@@ -40,16 +40,16 @@ question_ends text x e =
           ∙ ap (λ t. (before_first is_question text ++ get_or text k 0 ∷ []) ++ t) (ap (λ p. p.1) found.1),
     )
 
-abbrev made : List ℕ → List ℕ → List ℕ → List ℕ → Option Shape
+abbrev pub made : List ℕ → List ℕ → List ℕ → List ℕ → Option Shape
 made charset encoding encoded rest = Some (record { charset = charset; encoding = encoding; encoded = encoded; rest = rest })
 
-abbrev from_encoded : List ℕ → List ℕ → List ℕ × List ℕ → Option Shape
+abbrev pub from_encoded : List ℕ → List ℕ → List ℕ × List ℕ → Option Shape
 from_encoded charset encoding encoded = after_sign 61 encoded.1 >>= (λ rest. made charset encoding encoded.0 rest)
 
-abbrev from_encoding : List ℕ → List ℕ × List ℕ → Option Shape
+abbrev pub from_encoding : List ℕ → List ℕ × List ℕ → Option Shape
 from_encoding charset encoding = at_question encoding.1 >>= from_encoded charset encoding.0
 
-abbrev from_charset : List ℕ × List ℕ → Option Shape
+abbrev pub from_charset : List ℕ × List ℕ → Option Shape
 from_charset charset = at_question charset.1 >>= from_encoding charset.0
 
 abbrev from_inner : List ℕ → Option Shape

@@ -1,3 +1,4 @@
 pub mod Charsets
 pub mod Words
+pub mod WrittenWords
 pub mod Views

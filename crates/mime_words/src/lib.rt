@@ -9,5 +9,8 @@ mod shape;
 mod words;
 
 pub use charset::{Decoded, decode_charset};
-pub use laws::{split_words_are_joined, texts_without_words_stay};
+pub use laws::{
+    plain_texts_are_read_back, split_words_are_joined, texts_without_words_stay,
+    words_are_read_back,
+};
 pub use words::decode_words;
