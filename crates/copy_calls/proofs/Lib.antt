@@ -1,3 +1,4 @@
 pub mod Fetched
 pub mod Blobs
 pub mod Kept
+pub mod KeptDates

@@ -4,7 +4,8 @@ ghost use Rattle.std.specs.List.{AllByRecursion};
 ghost use Rattle.mail_counts.specs.Forms.{is_keyword};
 ghost use Rattle.mail_records.specs.Commits.{TextsRise};
 ghost use Rattle.mail_records.specs.declared.records.Email.{Email};
-ghost use Rattle.mail_copies.specs.Carried.{carried_keywords, deliveries};
+ghost use Rattle.jm_base.specs.UtcDates.{IsUtcDate};
+ghost use Rattle.mail_copies.specs.Carried.{carried_date, carried_keywords, deliveries};
 ghost use Rattle.copy_calls.specs.Fetches.{carried_of, delivery_from, item_of};
 
 /// Of what is fetched each original is delivered: its item, and its message (RFC 8620, section
@@ -20,4 +21,11 @@ pub fn originals_that_are_fetched_are_delivered()
 pub fn keywords_that_are_fetched_are_the_originals()
     ensures { (e : Email) → AllByRecursion (λ k. is_keyword k ≡ true) e.keywords
         → TextsRise e.keywords → carried_keywords (item_of (Some e)) ≡ e.keywords }
+{}
+
+/// The date of receipt of an original is the one that its item says (RFC 8620, section 5.4: what
+/// is not sent defaults to the original's), if it is of the years 0001 to 9999.
+pub fn dates_that_are_fetched_are_the_originals()
+    ensures { (e : Email) (moment : ℕ) → IsUtcDate e.received
+        → carried_date moment (item_of (Some e)) ≡ e.received }
 {}
