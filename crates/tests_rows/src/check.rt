@@ -69,7 +69,7 @@ fn say_difference(
     alloc: Global,
     kind: Kind,
     place: Place<'_>,
-    difference: Difference<'_>,
+    difference: Difference<'_, '_>,
     report: &mut Bytes,
 ) -> Result<(), NoMemory> {
     let got = if kind == Kind::Lines && difference.wanted.ends_with(b"\n") {
@@ -86,6 +86,14 @@ fn say_difference(
     say_texts(alloc, report, place, difference.wanted, got)
 }
 
+// Returns the output that is compared step by step.
+fn choose_output(kind: Kind, ran: &Ran) -> &[u8] {
+    match kind {
+        Kind::Lines => ran.out.as_slice(),
+        Kind::Connection => ran.written.as_slice(),
+    }
+}
+
 // Runs a row over this input, which its own begins with. Returns whether all is as wanted.
 fn check_run(
     rt: &(impl Threads + Wait + Sync),
@@ -100,12 +108,17 @@ fn check_run(
         return Ok(false);
     };
     let ran = run_row(rt, alloc, row, arguments, input)?;
-    let text = match row.kind {
-        Kind::Lines => ran.out.as_slice(),
-        Kind::Connection => ran.written.as_slice(),
-    };
+    let text = choose_output(row.kind, &ran);
     let ends_so = check_end(alloc, row, &ran, place, report)?;
-    match find_difference(row.is_batch(), &row.script, input.bytes.len(), text) {
+    let difference = find_difference(
+        row.is_batch(),
+        row.script.steps.as_slice(),
+        row.script.input.as_slice(),
+        row.script.wanted.as_slice(),
+        input.bytes.len(),
+        text,
+    );
+    match difference {
         Some(difference) => {
             say_difference(alloc, row.kind, place, difference, report)?;
             Ok(false)

@@ -1,13 +1,13 @@
 // The output of a row next to the wanted one.
 use crate::lines::split_at_byte;
-use crate::script::Script;
+use crate::script::Step;
 
 /// Where an output differs: the line of the input, the output that is wanted for it, and the output
 /// from there on.
 #[derive(Clone, Copy, Debug)]
-pub(crate) struct Difference<'a> {
+pub(crate) struct Difference<'w, 'a> {
     pub(crate) line: u64,
-    pub(crate) wanted: &'a [u8],
+    pub(crate) wanted: &'w [u8],
     pub(crate) got: &'a [u8],
 }
 
@@ -48,23 +48,25 @@ fn take_between(text: &[u8], start: usize, end: usize) -> &[u8] {
     }
 }
 
-/// Returns where the output differs from the one that the script wants for so many bytes of its
-/// input: that of the steps which end there or before. If each line of the input has a line of
-/// output, those for which nothing is wanted are skipped.
-pub(crate) fn find_difference<'a>(
+/// Returns where the output differs from the one that is wanted for so many bytes of the input: that
+/// of the steps which end there or before. If each line of the input has a line of output, those for
+/// which nothing is wanted are skipped.
+pub(crate) fn find_difference<'w, 'a>(
     by_lines: bool,
-    script: &'a Script<'_>,
+    steps: &[Step],
+    input: &[u8],
+    all_wanted: &'w [u8],
     end: usize,
     text: &'a [u8],
-) -> Option<Difference<'a>> {
+) -> Option<Difference<'w, 'a>> {
     let mut rest = text;
     let mut input_start = 0usize;
     let mut wanted_start = 0usize;
-    for step in script.steps.as_slice() {
+    for step in steps {
         if step.input_end > end {
             break;
         }
-        let wanted = take_between(script.wanted.as_slice(), wanted_start, step.wanted_end);
+        let wanted = take_between(all_wanted, wanted_start, step.wanted_end);
         rest = match rest.strip_prefix(wanted) {
             Some(after) => after,
             None => {
@@ -76,7 +78,6 @@ pub(crate) fn find_difference<'a>(
             }
         };
         if by_lines && wanted.is_empty() {
-            let input = script.input.as_slice();
             rest = skip_lines(rest, count_lines(input, input_start, step.input_end));
         }
         input_start = step.input_end;
