@@ -1,5 +1,5 @@
 -- The numbers that edits name, and what is formed of a history.
-use Rattle.std.proofs.Common.{◌≡◌, ℕ, ◌+◌, ◌-◌, ◌<◌, ◌≤◌, Bool, true, false, not, eqb, List, [], ◌∷◌, ◌++◌, take, drop, map, length, Option, Some, None, is_some, refl, sym, ap, ◌∙◌, subst, arith, take-append-drop}
+use Rattle.std.proofs.Common.{◌≡◌, ℕ, ◌-◌, ◌<◌, ◌≤◌, Bool, true, false, not, eqb, List, [], ◌∷◌, ◌++◌, take, drop, map, Some, is_some, refl, sym, subst, arith, take-append-drop}
 use Rattle.std.specs.List.{AllByRecursion}
 use Rattle.jm_base.specs.declared.identifiers.Id.{Id}
 use Rattle.jm_base.specs.declared.identifiers.Kind.{Kind}
@@ -9,7 +9,6 @@ use Rattle.mail_records.specs.Commits.{IsFormedEdit, IsFormedEmail}
 use Rattle.mail_records.specs.Contents.{Content, AreNumbered, email_at, email_number, mailbox_at, mailbox_number, next_of, thread_at, thread_number}
 use Rattle.mail_records.specs.Edits.{AllFit, Fits, PutFits, after_edit, after_edits, id_of, next_after}
 use Rattle.mail_records.specs.Histories.{History, Entry, IsFormedHistory, IsFounded, IsNamedBelow, account_after, content_at, content_of, edits_in, edits_of, empty_history, grown_by, ids_of}
-use Rattle.mail_records.specs.declared.records.Email.{Email}
 use Rattle.mail_records.specs.declared.edits.Edit.{Edit}
 use Rattle.mail_records.specs.declared.edits.Edit.TheVariants.{PutMailbox, DropMailbox, PutEmail, DropEmail, PutThread, DropThread}
 use Rattle.mail_records.proofs.Growth.{AreNumbered-after_edit, edits_of-grown_by, found, there}

@@ -1,18 +1,18 @@
 -- States and edits of the account after some of its entries, and of the whole account.
-use Rattle.std.proofs.Common.{◌≡◌, ℕ, ◌+◌, ◌-◌, ◌<◌, ◌≤◌, Bool, true, false, if◌then◌else◌, List, [], ◌∷◌, ◌++◌, take, drop, map, length, Option, Some, None, refl, sym, ap, ap₂, ◌∙◌, subst, arith, take-append-drop}
+use Rattle.std.proofs.Common.{◌≡◌, ℕ, ◌+◌, ◌-◌, ◌<◌, ◌≤◌, Bool, true, false, if◌then◌else◌, List, [], ◌∷◌, ◌++◌, take, drop, map, length, Option, Some, None, refl, sym, ap, ◌∙◌, subst, arith, take-append-drop}
 use Rattle.std.proofs.lemmas.List.{map-append, take-append-le, take-take, length-map}
 use Rattle.jm_base.specs.declared.identifiers.Id.{Id}
 use Rattle.jm_base.specs.declared.identifiers.Kind.{Kind}
 use Rattle.mail_records.specs.Contents.{SameRecords}
 use Rattle.mail_records.specs.Edits.{id_of, kind_of}
 use Rattle.mail_records.specs.FloorMoves.{moved_up}
-use Rattle.mail_records.specs.Histories.{History, Entry, Floors, FloorsAtMost, account_after, content_at, edits_between, edits_in, edits_of, end_after, end_of, floor_of, grown_by, ids_of}
+use Rattle.mail_records.specs.Histories.{History, Entry, Floors, FloorsAtMost, account_after, content_at, edits_between, edits_in, edits_of, end_after, floor_of, grown_by, ids_of}
 use Rattle.mail_records.specs.States.{edits_of_kind, ids_between, is_kind, is_kind_of, last_place, last_position, place_with, placed_above, state_at, state_of}
 use Rattle.mail_records.specs.declared.edits.Edit.{Edit}
 use Rattle.mail_records.proofs.Growth.{edits_of-grown_by}
 use Rattle.mail_records.proofs.Prefixes.{edits_of-account_after}
 use Rattle.mail_records.proofs.Reached.{last_position-bounds, state_at-state_at}
-use Rattle.mail_records.proofs.Settled.{SameRecords-same_state, floor_low, last_place-append, later, place_bounds, placed_low}
+use Rattle.mail_records.proofs.Settled.{SameRecords-same_state, last_place-append, later, place_bounds}
 
 -- ---- states don't fall
 
