@@ -2,6 +2,7 @@
 use crate::fault::Fault;
 use crate::lines::split_at_byte;
 use jm_base::{Bytes, NoMemory};
+use memchr::memchr;
 use memchr::memmem::find;
 use std::alloc::Global;
 
@@ -68,12 +69,17 @@ fn append_repetition(
     out: &mut Bytes,
     repetition: Repetition<'_>,
 ) -> Result<(), NoMemory> {
+    let is_numbered = memchr(b'#', repetition.text).is_some();
     for at in 0..repetition.copies {
         if at > 0 {
             out.append(repetition.separator)?;
         }
-        let number = format!(in alloc; "{}", at.saturating_add(1))?;
-        append_copy(out, repetition.text, number.as_bytes())?;
+        if is_numbered {
+            let number = format!(in alloc; "{}", at.saturating_add(1))?;
+            append_copy(out, repetition.text, number.as_bytes())?;
+        } else {
+            out.append(repetition.text)?;
+        }
     }
     Ok(())
 }
