@@ -16,8 +16,6 @@ mod adding;
 #[cfg(test)]
 mod copying;
 #[cfg(test)]
-mod hall_port_copy_tests;
-#[cfg(test)]
 mod holding;
 #[cfg(test)]
 mod opening;
