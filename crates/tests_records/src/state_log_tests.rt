@@ -62,6 +62,7 @@ const TOUCHED: &[(Kind, u64, u64, &[u64])] = &[
 fn edits_after_the_floor_name_numbers(rt: HostRuntime) -> Result<(), Fail> {
     let log = log(rt.alloc())?;
     for (kind, from, to, numbers) in TOUCHED {
+        assert!(rt; *from <= *to && *to <= log.end());
         let touched = log.touched(rt.alloc(), *kind, *from, *to)?;
         assert_eq!(rt; touched.as_slice(), *numbers);
     }
