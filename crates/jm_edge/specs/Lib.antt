@@ -1,6 +1,11 @@
 pub mod Causes
 pub mod Clocks
+pub mod Contents
+pub mod Exchanges
+pub mod Frames
 pub mod Schedules
 pub mod Memory
-pub mod Sockets
+pub mod MemoryExchanges
+pub mod MemoryShelves
 pub mod MemorySockets
+pub mod Sockets

@@ -34,6 +34,20 @@ impl Calls {
         Calls::new(Numbers::new(alloc))
     }
 
+    /// Returns how many calls there were. A count of 64 bits stays at its end.
+    pub fn made(&self) -> u64
+        ensures { result ≡ self.now.made }
+    {
+        self.made
+    }
+
+    /// Returns how many of the calls failed.
+    pub fn faults(&self) -> u64
+        ensures { result ≡ self.now.faults }
+    {
+        self.faults
+    }
+
     /// Returns the number of the next call. A count of 64 bits stays at its end.
     pub fn next(&self) -> u64
         ensures { result ≡ one_on self.now.made }

@@ -69,6 +69,27 @@ impl MemoryKeeper {
     {
         &self.kept
     }
+
+    /// Lends the counts of the calls of `load`.
+    pub fn loads(&self) -> &Calls
+        ensures { result.now ≡ self.now.loads }
+    {
+        &self.loads
+    }
+
+    /// Lends the counts of the calls of `append`.
+    pub fn appends(&self) -> &Calls
+        ensures { result.now ≡ self.now.appends }
+    {
+        &self.appends
+    }
+
+    /// Lends the counts of the calls of `replace`.
+    pub fn replaces(&self) -> &Calls
+        ensures { result.now ≡ self.now.replaces }
+    {
+        &self.replaces
+    }
 }
 
 impl Keeper for MemoryKeeper {

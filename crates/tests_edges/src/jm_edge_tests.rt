@@ -1,8 +1,8 @@
 use jm_base::{Bytes, NoMemory, Numbers};
 use jm_edge::{
-    Arrival, Clock, CountingGate, EdgeFault, Failed, Gate, Link, MemoryClock, MemoryLink,
-    MemorySink, MemorySocket, MemorySource, MessageLink, NoGate, Script, Sent, Source, put_all,
-    put_to_link,
+    Answer, Arrival, Clock, CountingGate, EdgeFault, Exchange, Failed, Gate, Link, MemoryClock,
+    MemoryExchange, MemoryLink, MemoryShelf, MemorySink, MemorySocket, MemorySource, MessageLink,
+    NoGate, Script, Sent, Shelf, Source, put_all, put_to_link,
 };
 use std::alloc::Global;
 use std::collections::VecDeque;
@@ -168,5 +168,77 @@ fn a_socket_keeps_what_is_sent(rt: HostRuntime) -> Result<(), Fail> {
     for (i, sent) in socket.sent().iter().enumerate() {
         assert_eq!(rt; code_of(sent), [120, 1003][i.min(1)]);
     }
+    Ok(())
+}
+
+// An exchange that answers 200 with "a", then 404, and of which the second call fails.
+fn make_exchange(alloc: Global) -> Result<MemoryExchange, NoMemory> {
+    let mut coming = VecDeque::new(alloc);
+    coming.push_back(Answer {
+        status: 200,
+        body: Bytes::from_slice(alloc, b"a")?,
+    })?;
+    coming.push_back(Answer {
+        status: 404,
+        body: Bytes::new(alloc),
+    })?;
+    let mut fails = Numbers::new(alloc);
+    fails.push(2)?;
+    Ok(MemoryExchange::build_failing(alloc, coming, fails))
+}
+
+// The status that was answered, or 0 for a fault.
+fn status_of(answered: &Result<Answer, EdgeFault>) -> u16 {
+    match answered {
+        Ok(answer) => answer.status,
+        Err(_) => 0,
+    }
+}
+
+#[test]
+fn an_exchange_answers_by_its_script(rt: HostRuntime) -> Result<(), Fail> {
+    let mut exchange = make_exchange(rt.alloc())?;
+    for status in [200, 0, 404, 503, 503] {
+        assert_eq!(rt;
+            status_of(&exchange.ask(rt.alloc(), b"/p", Some(b"{}"))),
+            status
+        );
+    }
+    assert_eq!(rt; exchange.asked().len(), 4);
+    assert_eq!(rt;
+        (exchange.calls().made(), exchange.calls().faults()),
+        (5, 1)
+    );
+    for (i, asked) in exchange.asked().iter().enumerate() {
+        assert_eq!(rt; asked.path.as_slice(), b"/p".as_slice());
+        assert_eq!(rt; asked.answer.status, [200, 404, 503, 503][i.min(3)]);
+    }
+    Ok(())
+}
+
+#[test]
+fn an_exchange_keeps_what_it_was_asked(rt: HostRuntime) -> Result<(), Fail> {
+    let mut exchange = make_exchange(rt.alloc())?;
+    let _ = exchange.ask(rt.alloc(), b"/get", None);
+    let asked = exchange.asked().first();
+    assert!(rt; asked.is_some_and(|a| a.body.is_none()));
+    assert!(rt; asked.is_some_and(|a| a.answer.body.as_slice() == b"a".as_slice()));
+    Ok(())
+}
+
+// Saves and loads, one by one; the first save and the second load fail.
+#[test]
+fn a_shelf_holds_what_was_saved(rt: HostRuntime) -> Result<(), Fail> {
+    let alloc = rt.alloc();
+    let (mut loads, mut saves) = (Numbers::new(alloc), Numbers::new(alloc));
+    loads.push(2)?;
+    saves.push(1)?;
+    let mut shelf = MemoryShelf::build_failing(None, loads, saves);
+    assert_eq!(rt; shelf.save(alloc, b"a"), Err(EdgeFault::Failed));
+    assert!(rt; matches!(shelf.load(alloc), Ok(None)));
+    assert_eq!(rt; shelf.save(alloc, b"b"), Ok(()));
+    assert!(rt; matches!(shelf.load(alloc), Err(EdgeFault::Failed)));
+    assert_eq!(rt; shelf.content(), Some(b"b".as_slice()));
+    assert_eq!(rt; (shelf.loads().faults(), shelf.saves().faults()), (1, 1));
     Ok(())
 }
