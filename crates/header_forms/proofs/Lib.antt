@@ -10,3 +10,8 @@ pub mod PlainAddress
 pub mod QuotedName
 pub mod DateWalk
 pub mod PlainGroup
+pub mod WrittenTexts
+pub mod WrittenIds
+pub mod WrittenDates
+pub mod WrittenNames
+pub mod WrittenAddresses

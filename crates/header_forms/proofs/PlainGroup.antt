@@ -1,5 +1,5 @@
 -- A group of plain items has their addresses, under its name.
-use Rattle.std.proofs.Common.{◌≡◌, ℕ, ◌<◌, Bool, true, false, ◌&&◌, ◌||◌, not, eqb, List, [], ◌∷◌, ◌++◌, length, map, Some, None, refl, ap, ◌∙◌, append_assoc}
+use Rattle.std.proofs.Common.{◌≡◌, ℕ, ◌<◌, Bool, true, false, not, eqb, List, [], ◌∷◌, ◌++◌, length, map, Some, None, refl, ap, ◌∙◌, append_assoc}
 use Rattle.std.specs.Prelude.{filter}
 use Rattle.std.specs.List.{AllByRecursion, list_all, flat_map}
 use Rattle.std.specs.Str.{chars, encode_utf8_all}
@@ -22,7 +22,7 @@ use Rattle.header_forms.proofs.PlainAddress.{ArePlain, and_first, and_second, pl
 
 -- ---- characters
 
-marks_more : (xs ys : List ℕ) → ArePlain xs → characters_from Outside (xs ++ ys) ≡ map bare xs ++ characters_from Outside ys
+pub marks_more : (xs ys : List ℕ) → ArePlain xs → characters_from Outside (xs ++ ys) ≡ map bare xs ++ characters_from Outside ys
 marks_more [] ys h = refl
 marks_more (x ∷ xs) ys h =
     let p = plain_is x (and_first (is_plain x) (list_all is_plain xs) h) in
@@ -117,7 +117,7 @@ addresses_items (i ∷ j ∷ is) h =
 
 -- ---- the group
 
-all_said : (cs : List ℕ) → map (λ (m : AddressCharacter). m.character) (filter (in_part Phrase) (map bare cs)) ≡ cs
+pub all_said : (cs : List ℕ) → map (λ (m : AddressCharacter). m.character) (filter (in_part Phrase) (map bare cs)) ≡ cs
 all_said [] = refl
 all_said (c ∷ cs) = ap (λ t. c ∷ t) (all_said cs)
 

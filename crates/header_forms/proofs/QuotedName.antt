@@ -34,10 +34,10 @@ abbrev sign : ℕ → AddressCharacter
 sign c = record { character = c; context = Quoted; said = false }
 
 -- a character in a bracket, and a sign there
-abbrev inner : ℕ → AddressCharacter
+abbrev pub inner : ℕ → AddressCharacter
 inner c = record { character = c; context = Bracket; said = true }
 
-abbrev bracket : ℕ → AddressCharacter
+abbrev pub bracket : ℕ → AddressCharacter
 bracket c = record { character = c; context = Bracket; said = false }
 
 abbrev name_characters : List ℕ → List AddressCharacter
@@ -89,7 +89,7 @@ none_in test (c ∷ cs) more f g =
       | false ↦ ap (λ b. b || list_any test (name_characters cs ++ more)) (f c) ∙ none_in test cs more f g
     ]
 
-none_inner : (test : AddressCharacter → Bool) (cs : List ℕ) (more : List AddressCharacter) → ((c : ℕ) → test (inner c) ≡ false) → list_any test (map inner cs ++ more) ≡ list_any test more
+pub none_inner : (test : AddressCharacter → Bool) (cs : List ℕ) (more : List AddressCharacter) → ((c : ℕ) → test (inner c) ≡ false) → list_any test (map inner cs ++ more) ≡ list_any test more
 none_inner test [] more f = refl
 none_inner test (c ∷ cs) more f = ap (λ b. b || list_any test (map inner cs ++ more)) (f c) ∙ none_inner test cs more f
 
@@ -101,20 +101,20 @@ or_false true q h = absurd (true≢false h)
 or_false false q h = (refl, h)
 
 -- the first character that passes a test follows those that don't
-first_at : (test : AddressCharacter → Bool) (ms : List AddressCharacter) (m : AddressCharacter) (more : List AddressCharacter) → list_any test ms ≡ false → test m ≡ true
+pub first_at : (test : AddressCharacter → Bool) (ms : List AddressCharacter) (m : AddressCharacter) (more : List AddressCharacter) → list_any test ms ≡ false → test m ≡ true
     → position_or_len test (ms ++ m ∷ more) ≡ length ms
 first_at test [] m more none is = rw is refl
 first_at test (x ∷ xs) m more none is =
     let both = or_false (test x) (list_any test xs) none in
     rw both.0 (one_more (position_or_len test (xs ++ m ∷ more)) (length xs) (first_at test xs m more both.1 is))
 
-before_is : (test : AddressCharacter → Bool) (ms : List AddressCharacter) (m : AddressCharacter) (more : List AddressCharacter) → list_any test ms ≡ false → test m ≡ true → before_first test (ms ++ m ∷ more) ≡ ms
+pub before_is : (test : AddressCharacter → Bool) (ms : List AddressCharacter) (m : AddressCharacter) (more : List AddressCharacter) → list_any test ms ≡ false → test m ≡ true → before_first test (ms ++ m ∷ more) ≡ ms
 before_is test ms m more none is = ap (λ n. take n (ms ++ m ∷ more)) (first_at test ms m more none is) ∙ take_at ms (m ∷ more) (length ms) refl
 
 drop_one : (ms : List AddressCharacter) (m : AddressCharacter) (more : List AddressCharacter) → drop (length ms + 1) (ms ++ m ∷ more) ≡ more
 drop_one ms m more = ap (λ t. drop (length ms + 1) t) (sym (append_assoc ms (m ∷ []) more)) ∙ drop_at (ms ++ m ∷ []) more (length ms + 1) (omega (arith, length-append ms (m ∷ [])))
 
-after_is : (test : AddressCharacter → Bool) (ms : List AddressCharacter) (m : AddressCharacter) (more : List AddressCharacter) → list_any test ms ≡ false → test m ≡ true → after_first test (ms ++ m ∷ more) ≡ more
+pub after_is : (test : AddressCharacter → Bool) (ms : List AddressCharacter) (m : AddressCharacter) (more : List AddressCharacter) → list_any test ms ≡ false → test m ≡ true → after_first test (ms ++ m ∷ more) ≡ more
 after_is test ms m more none is = ap (λ n. drop (n + 1) (ms ++ m ∷ more)) (first_at test ms m more none is) ∙ drop_one ms m more
 
 front_opens : (name : List ℕ) → list_any opens_bracket (front name) ≡ false
@@ -131,7 +131,7 @@ within name address =
     ∙ before_is closes_bracket (map inner address) (bracket 62) []
     (ap (list_any closes_bracket) (sym (append-nil (map inner address))) ∙ none_inner closes_bracket address [] (λ c. refl)) refl
 
-all_inner : (cs : List ℕ) → map (λ (m : AddressCharacter). m.character) (filter (in_part Whole) (map inner cs)) ≡ cs
+pub all_inner : (cs : List ℕ) → map (λ (m : AddressCharacter). m.character) (filter (in_part Whole) (map inner cs)) ≡ cs
 all_inner [] = refl
 all_inner (c ∷ cs) = ap (λ t. c ∷ t) (all_inner cs)
 
@@ -162,13 +162,13 @@ item_none test name address f g h k =
     ∙ none_inner test address (bracket 62 ∷ []) h
     ∙ ap (λ b. b || false) (k 62)
 
-no_comment : (ms : List AddressCharacter) → list_any opens_comment ms ≡ false → last_comment ms ≡ []
+pub no_comment : (ms : List AddressCharacter) → list_any opens_comment ms ≡ false → last_comment ms ≡ []
 no_comment [] h = refl
 no_comment (m ∷ ms) h =
     let both = or_false (opens_comment m) (list_any opens_comment ms) h in
     ap (λ v. cond v (last_comment ms) (cond (opens_comment m) ms [])) both.1 ∙ ap (λ v. cond v ms []) both.0
 
-or_none : (o : Option (List ℕ)) → or_else o None ≡ o
+pub or_none : (o : Option (List ℕ)) → or_else o None ≡ o
 or_none None = refl
 or_none (Some t) = refl
 
@@ -189,7 +189,7 @@ email_is name address =
     ∙ ap (λ ms. trimmed (part_text Whole ms)) (within name address)
     ∙ ap (λ t. trimmed (encode_utf8_all t)) (all_inner address)
 
-some_text : (t : List ℕ) → 0 < length t → if_some t ≡ Some t
+pub some_text : (t : List ℕ) → 0 < length t → if_some t ≡ Some t
 some_text [] h = absurd (omega (arith, h))
 some_text (b ∷ bs) h = refl
 

@@ -8,3 +8,4 @@ pub mod Dates
 pub mod DateWords
 pub mod PlainAddresses
 pub mod Forms
+pub mod WrittenForms

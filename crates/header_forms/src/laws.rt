@@ -9,8 +9,12 @@ ghost use Rattle.mail_text.specs.Texts.{trimmed};
 ghost use Rattle.mime_words.specs.Words.{decoded_words};
 ghost use Rattle.header_forms.specs.Addresses.{addresses_in, groups_in, if_some};
 ghost use Rattle.header_forms.specs.Angles.{angle_texts};
-ghost use Rattle.header_forms.specs.Dates.{date_text, utc_of};
+ghost use Rattle.header_forms.specs.Dates.{date_text, date_time_in, date_time_text, if_in_range, unix_seconds, utc_of};
 ghost use Rattle.header_forms.specs.DateWords.{AreComments};
+ghost use Rattle.header_forms.specs.Texts.{on_one_line, text_form};
+ghost use Rattle.header_forms.specs.WrittenForms.{IsDateTime, IsFieldText, IsId, IsMailbox, addresses_value, date_value, ids_value, text_value};
+ghost use Rattle.header_forms.specs.declared.address.Address.{Address};
+ghost use Rattle.header_forms.specs.declared.date_time.ZonedDateTime.{ZonedDateTime};
 ghost use Rattle.header_forms.specs.PlainAddresses.{group_text, is_inner, is_plain, is_plain_in_group, quoted};
 
 /// A text without quote marks, parentheses, commas, colons and angle brackets is one address,
@@ -84,4 +88,37 @@ pub fn check_example_dates()
     ensures no_day { date_text (codes " 31 Feb 2020 00:00 GMT") ≡ None }
     ensures leap { date_text (codes "29 feb 2000 (a(b)\\)) 23:59:60 est") ≡ Some (codes "2000-02-29T23:59:59-05:00") }
     ensures no_zone { date_text (codes "1 Jan 2000 00:00:00") ≡ None }
+{}
+
+/// A text without control characters and without white space at its ends is read back from the
+/// value that is written for it, plain or in encoded-words on several lines.
+pub fn texts_are_read_back()
+    ensures { (text : List ℕ) → IsFieldText text → text_form (text_value text) ≡ text }
+{}
+
+/// Identifiers of characters from `!` to `~` other than angle brackets are read back in their order
+/// from the value that is written for them (msg-id; RFC 5322, section 3.6.4).
+pub fn identifiers_are_read_back()
+    ensures { (ids : List (List ℕ)) → AllByRecursion IsId ids
+        → angle_texts (on_one_line (ids_value ids)) ≡ ids }
+{}
+
+/// Each date-time that the calendar has, of the years 0 to 9999, with an offset below 100 hours, is
+/// read back from the value that is written for it: as the date-time itself, as its Date form, and
+/// as its timestamp (RFC 5322, section 3.3).
+pub fn dates_are_read_back()
+    ensures date_time { (m : ZonedDateTime) → IsDateTime m
+        → date_time_in (on_one_line (date_value m)) ≡ Some m }
+    ensures text { (m : ZonedDateTime) → IsDateTime m
+        → date_text (on_one_line (date_value m)) ≡ Some (date_time_text m) }
+    ensures timestamp { (m : ZonedDateTime) → IsDateTime m
+        → utc_of (on_one_line (date_value m)) ≡ if_in_range (unix_seconds m) }
+{}
+
+/// Addresses with and without display-names, whose names may have any characters but control
+/// characters, are read back in their order from the value that is written for them (mailbox-list;
+/// RFC 5322, section 3.4).
+pub fn addresses_are_read_back()
+    ensures { (addresses : List Address) → AllByRecursion IsMailbox addresses
+        → addresses_in (on_one_line (addresses_value addresses)) ≡ addresses }
 {}

@@ -26,7 +26,9 @@ pub use form::Form;
 pub use forms::form_of;
 pub use groups::{parse_addresses, parse_groups};
 pub use laws::{
-    check_example_dates, check_example_forms, comments_in_dates_change_nothing,
+    addresses_are_read_back, check_example_dates, check_example_forms,
+    comments_in_dates_change_nothing, dates_are_read_back, identifiers_are_read_back,
     plain_groups_hold_their_items, plain_texts_are_one_address, quoted_names_are_read_back,
+    texts_are_read_back,
 };
 pub use texts::{read_raw, read_text_form, unfold_value};
