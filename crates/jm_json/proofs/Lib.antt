@@ -12,3 +12,5 @@ pub mod Patched
 pub mod Prefixes
 pub mod Merging
 pub mod FoundMembers
+pub mod Sames
+pub mod Equal

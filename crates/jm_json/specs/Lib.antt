@@ -16,6 +16,7 @@ pub mod Call
 pub mod Invocations
 pub mod Responses
 pub mod Find
+pub mod Equality
 pub mod Tokens
 pub mod Requests
 pub mod Pointer

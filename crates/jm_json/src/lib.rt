@@ -6,6 +6,7 @@
 #![tactic(auto)]
 
 mod copies;
+mod equality;
 mod invocation;
 mod member_runs;
 mod parser;
@@ -18,6 +19,7 @@ mod tree;
 mod writer;
 
 pub use copies::copy;
+pub use equality::is_same_tree;
 pub use invocation::{Created, Invocation, Invocations, Made, Replied};
 pub use member_runs::MemberRuns;
 pub use parser::{MAX_DEPTH, Scratch};

@@ -1,8 +1,6 @@
-pub mod Sames
 pub mod Naming
 pub mod Rising
 pub mod NewNumbers
 pub mod Following
 pub mod Rounding
 pub mod Promising
-pub mod Equal

@@ -18,7 +18,7 @@ use Rattle.set_parts.specs.Creates.{Creating, after_create as after_step}
 use Rattle.set_parts.specs.declared.creates.CreateStep.TheVariants.{Rejected, Done}
 use Rattle.set_parts.specs.declared.creates.NewRecord.{NewRecord}
 use Rattle.set_parts.specs.declared.set_errors.SetError.TheVariants.{InvalidProperties}
-use Rattle.mailbox_creates.specs.Equality.{is_same}
+use Rattle.jm_json.specs.Equality.{is_same}
 use Rattle.mailbox_creates.specs.Properties.{SentProperties, sent_properties}
 use Rattle.mailbox_creates.specs.declared.checks.Faults.{Faults}
 

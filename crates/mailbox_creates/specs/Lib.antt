@@ -1,4 +1,3 @@
-pub mod Equality
 pub mod Properties
 pub mod Creates
 pub mod Rounds

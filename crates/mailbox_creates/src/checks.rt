@@ -15,12 +15,11 @@ ghost use Rattle.set_parts.specs.Views.{MeansIfAny};
 ghost use Rattle.set_parts.specs.Creates.{Creating};
 ghost use Rattle.mailbox_creates.specs.Creates.{bad_members, blank, differs, faults_of, is_bad, is_name_taken, is_role_taken, property};
 
-use crate::equality::is_same;
 use crate::names::{has_other_role, has_other_sibling};
 use crate::planner::Planner;
 use crate::properties::{SentProperties, read_name, read_role, read_sort_order, read_subscribed};
 use jm_base::{Kind, NoMemory, Text};
-use jm_json::{Json, Member, Members};
+use jm_json::{Json, Member, Members, is_same_tree};
 use mail_counts::build_mailbox_view;
 use mail_records::Mailbox;
 use set_parts::{find_id, has_text, read_mailbox_number, read_reference};
@@ -205,7 +204,7 @@ fn differs(given: Option<&Json>, value: &Json) -> bool
     ensures { result ≡ differs (option_map (λ j. tree_of j.now) given.entry) (tree_of value.now) }
 {
     match given {
-        Some(given) => !is_same(given, value),
+        Some(given) => !is_same_tree(given, value),
         None => true,
     }
 }

@@ -4,7 +4,6 @@
 
 mod checks;
 mod create;
-mod equality;
 mod names;
 mod planner;
 mod properties;

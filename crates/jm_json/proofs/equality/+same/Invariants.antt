@@ -2,8 +2,8 @@ use Rattle.std.proofs.Common.{◌≡◌, map, ◌+◌, ◌*◌, drop}
 use Rattle.jm_json.specs.Tree.{trees_of, fields_of}
 use Rattle.jm_json.specs.Size.{size_of, trees_size, fields_size}
 use Rattle.jm_json.specs.Json.{tree_of, member_of}
-use Rattle.mailbox_creates.specs.Equality.{are_same_fields, are_same_trees}
-use Rattle.mailbox_creates.proofs.equality.+same.Given as goal
+use Rattle.jm_json.specs.Equality.{are_same_fields, are_same_trees}
+use Rattle.jm_json.proofs.equality.+same.Given as goal
 
 abbrev pub decreases-is_same : goal.decreases-is_same
 decreases-is_same l = 4 * size_of (tree_of l.left.now)

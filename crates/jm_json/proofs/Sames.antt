@@ -5,7 +5,7 @@ use Rattle.jm_json.specs.Tree.{trees_of, fields_of}
 use Rattle.jm_json.specs.Json.{tree_of, member_of}
 use Rattle.jm_json.specs.declared.tree.Json.{Json}
 use Rattle.jm_json.specs.declared.tree.Member.{Member}
-use Rattle.mailbox_creates.specs.Equality.{are_same_fields, are_same_trees, is_same}
+use Rattle.jm_json.specs.Equality.{are_same_fields, are_same_trees, is_same}
 
 abbrev pub trees_tested : List Json → List Json → Bool
 trees_tested xs ys = are_same_trees (trees_of (map tree_of xs)) (trees_of (map tree_of ys))

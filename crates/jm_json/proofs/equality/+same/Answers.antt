@@ -1,7 +1,7 @@
 use Rattle.std.proofs.Common.{◌∙◌, ◌<◌, ◌+◌, ◌&&◌, length, drop, sym, ap, arith}
 use Rattle.jm_json.proofs.Sizes.{item_size, member_size}
-use Rattle.mailbox_creates.proofs.Sames.{trees_of_lengths, fields_of_lengths, trees_tested, fields_tested, trees_step, fields_step}
-use Rattle.mailbox_creates.proofs.equality.+same.Goals as goal
+use Rattle.jm_json.proofs.Sames.{trees_of_lengths, fields_of_lengths, trees_tested, fields_tested, trees_step, fields_step}
+use Rattle.jm_json.proofs.equality.+same.Goals as goal
 
 pub are_same_items-returns-then-left-right : goal.are_same_items-returns-then-left-right
 are_same_items-returns-then-left-right t c = sym (trees_of_lengths c.args.left.now c.args.right.now c.if-left-right.true)

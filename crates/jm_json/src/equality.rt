@@ -1,11 +1,20 @@
 // Whether two JSON trees are equal.
-ghost use Rattle.std.specs.Prelude.{bytes_eq, map, ◌&&◌, ◌≡◌};
+ghost use Rattle.std.specs.Prelude.{bytes_eq, map, Decides, ◌&&◌, ◌≡◌};
 ghost use Rattle.jm_json.specs.Json.{member_of, tree_of};
 ghost use Rattle.jm_json.specs.Tree.{boolean, fields_of, list, null, number, object, text, trees_of};
-ghost use Rattle.mailbox_creates.specs.Equality.{are_same_fields, are_same_trees, is_same};
+ghost use Rattle.jm_json.specs.Equality.{are_same_fields, are_same_trees, is_same};
 
+use crate::tree::{Json, Member};
 use jm_base::Text;
-use jm_json::{Json, Member};
+
+/// Returns whether two trees are equal. Of two objects the keys and the values are.
+#[tactic(auto, using(crate::proofs::Equal::is_same_decides))]
+pub fn is_same_tree(left: &Json, right: &Json) -> bool
+    ensures value { result ≡ is_same (tree_of left.now) (tree_of right.now) }
+    ensures equal { Decides result (tree_of left.now ≡ tree_of right.now) }
+{
+    is_same(left, right)
+}
 
 fn is_null(tree: &Json) -> bool
     ensures { result ≡ is_same null (tree_of tree.now) }
@@ -43,9 +52,8 @@ fn is_text(value: &Text, tree: &Json) -> bool
     }
 }
 
-/// Returns whether two trees are equal.
 #[cycle(same)]
-pub fn is_same(left: &Json, right: &Json) -> bool
+fn is_same(left: &Json, right: &Json) -> bool
     ensures { result ≡ is_same (tree_of left.now) (tree_of right.now) }
 {
     match left {
