@@ -210,8 +210,8 @@ fn answer_reading<P: Port>(
     }
 }
 
-/// Answers the tree of a request like `answer_tree`, but takes it away, and returns the answer before
-/// it is a tree or a text.
+/// Answers the tree of a request like `answer_tree`, but takes it away, and returns the answer
+/// before it is a tree or a text.
 pub fn perform_tree<P: Port>(
     alloc: Global,
     port: &mut P,
