@@ -2,3 +2,4 @@ pub mod DelimiterLines
 pub mod Cut
 pub mod UpToDelimiter
 pub mod Pieces
+pub mod WrittenPieces

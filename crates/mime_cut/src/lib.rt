@@ -9,5 +9,5 @@ mod laws;
 mod line_kind;
 
 pub use delimiter::{Delimiter, find_delimiter};
-pub use laws::pieces_are_in_the_message;
+pub use laws::{pieces_are_in_the_message, pieces_are_read_back};
 pub use line_kind::LineKind;
