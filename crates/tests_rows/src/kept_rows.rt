@@ -28,6 +28,24 @@ fn append_hex(out: &mut Bytes, digits: &[u8]) -> Result<bool, NoMemory> {
     Ok(rest.is_empty())
 }
 
+// Appends a byte as often as a word says: two hexadecimal digits and a count. Returns whether they
+// are such.
+fn append_repeated(out: &mut Bytes, digits: &[u8], count: &[u8]) -> Result<bool, NoMemory> {
+    let [high, low] = digits else {
+        return Ok(false);
+    };
+    let Some(byte) = read_hex_byte(*high, *low) else {
+        return Ok(false);
+    };
+    let Some(count) = read_number(count) else {
+        return Ok(false);
+    };
+    for _ in 0..count {
+        out.append(&[byte])?;
+    }
+    Ok(true)
+}
+
 // Appends the bytes of a word. Returns whether it is one.
 fn append_word(out: &mut Bytes, word: &[u8]) -> Result<bool, NoMemory> {
     match word {
@@ -38,7 +56,14 @@ fn append_word(out: &mut Bytes, word: &[u8]) -> Result<bool, NoMemory> {
             }
             None => Ok(false),
         },
-        _ => append_hex(out, word),
+        _ => {
+            let (digits, count) = split_at_byte(word, b'*');
+            if digits.len() == word.len() {
+                append_hex(out, word)
+            } else {
+                append_repeated(out, digits, count)
+            }
+        }
     }
 }
 
