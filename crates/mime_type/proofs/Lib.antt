@@ -5,3 +5,8 @@ pub mod Tags
 pub mod PieceLengths
 pub mod Same
 pub mod ReadBack
+pub mod WrittenValues
+pub mod WrittenTypes
+pub mod WrittenLabels
+pub mod WrittenFields
+pub mod WrittenHeads

@@ -10,18 +10,18 @@ use Rattle.mime_type.specs.TypeText.{IsToken, written, meant}
 use Rattle.mime_type.proofs.Quotes.{quoted_back}
 use Rattle.mime_type.proofs.Utf8.{with_value, after_equals, after_name, with_sub, after_slash, after_main, at_main}
 
-both_true : (p q : Bool) → IsTrue (p && q) → (p ≡ true) × IsTrue q
+pub both_true : (p q : Bool) → IsTrue (p && q) → (p ≡ true) × IsTrue q
 both_true true q h = (refl, h)
 both_true false q h = absurd (true≢false (sym h))
 
 -- a character of a token is none of these
-other : (x y : ℕ) → is_token x ≡ true → is_token y ≡ false → eqb x y ≡ false
+pub other : (x y : ℕ) → is_token x ≡ true → is_token y ≡ false → eqb x y ≡ false
 other x y h k = elim (cases_eq x y) as (λ _. eqb x y ≡ false) [
   | inl e ↦ absurd (true≢false (sym h ∙ ap is_token e ∙ k))
   | inr n ↦ ne_eqb x y n
 ]
 
-class_len : (class : ℕ → Bool) (t : List ℕ) (y : ℕ) (ys : List ℕ) → IsTrue (list_all class t) → class y ≡ false → prefix_len class (t ++ y ∷ ys) ≡ length t
+pub class_len : (class : ℕ → Bool) (t : List ℕ) (y : ℕ) (ys : List ℕ) → IsTrue (list_all class t) → class y ≡ false → prefix_len class (t ++ y ∷ ys) ≡ length t
 class_len class [] y ys h k = rw k refl
 class_len class (x ∷ xs) y ys h k =
     let both = both_true (class x) (list_all class xs) h in
@@ -29,7 +29,7 @@ class_len class (x ∷ xs) y ys h k =
     rw both.0 (omega (arith, more))
 
 -- a run of a class is read up to what is of another
-run_class : (class : ℕ → Bool) (t : List ℕ) (y : ℕ) (ys : List ℕ) → 0 < length t → IsTrue (list_all class t) → class y ≡ false
+pub run_class : (class : ℕ → Bool) (t : List ℕ) (y : ℕ) (ys : List ℕ) → 0 < length t → IsTrue (list_all class t) → class y ≡ false
     → run_at class (t ++ y ∷ ys) ≡ Some (t, y ∷ ys)
 run_class class t y ys any each k =
     let size = class_len class t y ys each k in
@@ -41,10 +41,10 @@ run_class class t y ys any each k =
     ∙ ap (λ a. pair a (drop (length t) (t ++ y ∷ ys))) (take_at t (y ∷ ys) (length t) refl)
     ∙ ap (pair t) (drop_at t (y ∷ ys) (length t) refl)
 
-run_token : (t : List ℕ) (y : ℕ) (ys : List ℕ) → IsToken t → is_token y ≡ false → run_at is_token (t ++ y ∷ ys) ≡ Some (t, y ∷ ys)
+pub run_token : (t : List ℕ) (y : ℕ) (ys : List ℕ) → IsToken t → is_token y ≡ false → run_at is_token (t ++ y ∷ ys) ≡ Some (t, y ∷ ys)
 run_token t y ys h k = run_class is_token t y ys h.some h.each k
 
-not_quote : (b : ℕ) → is_bare b ≡ true → eqb b 34 ≡ false
+pub not_quote : (b : ℕ) → is_bare b ≡ true → eqb b 34 ≡ false
 not_quote b h = elim (cases_eq b 34) as (λ _. eqb b 34 ≡ false) [ inl e ↦ absurd (true≢false (sym h ∙ ap is_bare e)) | inr n ↦ ne_eqb b 34 n ]
 
 -- a value without quote marks is read up to the semicolon
@@ -54,13 +54,13 @@ bare_back (b ∷ bs) rest any each =
     ap (λ v. cond v (quoted_from false (bs ++ 59 ∷ rest)) (run_at is_bare (b ∷ (bs ++ 59 ∷ rest)))) (not_quote b (both_true (is_bare b) (list_all is_bare bs) each).0)
     ∙ run_class is_bare (b ∷ bs) 59 rest any each refl
 
-gap_token : (t rest : List ℕ) → IsToken t → after_blanks (t ++ rest) ≡ Some (t ++ rest)
+pub gap_token : (t rest : List ℕ) → IsToken t → after_blanks (t ++ rest) ≡ Some (t ++ rest)
 gap_token [] rest h = absurd (omega (arith, h.some))
 gap_token (x ∷ xs) rest h =
     let token : is_token x ≡ true = (both_true (is_token x) (list_all is_token xs) h.each).0 in
     rw (other x 32 token refl, other x 9 token refl, other x 40 token refl) refl
 
-mark_slash : (t rest : List ℕ) → IsToken t → after_mark 47 (47 ∷ (t ++ rest)) ≡ Some (t ++ rest)
+pub mark_slash : (t rest : List ℕ) → IsToken t → after_mark 47 (47 ∷ (t ++ rest)) ≡ Some (t ++ rest)
 unfolding after_mark
 mark_slash t rest h = gap_token t rest h
 

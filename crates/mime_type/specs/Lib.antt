@@ -10,3 +10,4 @@ pub mod Head
 pub mod Texts
 pub mod Views
 pub mod TypeText
+pub mod HeadText

@@ -16,5 +16,5 @@ mod part;
 mod values;
 
 pub use head::part_head;
-pub use laws::{bare_values_read_back, quotes_read_back, types_read_back};
+pub use laws::{bare_values_read_back, heads_are_read_back, quotes_read_back, types_read_back};
 pub use part::{Part, Parts};
