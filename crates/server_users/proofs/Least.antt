@@ -122,3 +122,9 @@ stays q (p ∷ ps) e = stays_step (slice_cmp nat_cmp p q) q p ps (λ first. stay
 pub none_left : (places : List (List ℕ)) → least_from None places ≡ None → places ≡ []
 none_left [] e = refl
 none_left (p ∷ ps) e = absurd (stays p ps e)
+
+-- ---- a place alone
+
+-- the least of one place is that place
+pub is_least_alone : (place : List ℕ) → IsLeast (place ∷ []) place
+is_least_alone place = least_is (place ∷ []) place refl

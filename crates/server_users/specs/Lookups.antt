@@ -32,11 +32,12 @@ pub record IsLeast (places : List (List ℕ)) (place : List ℕ) : Type 0 where
 
 -- ---- reading
 
--- The bad places of some bytes. Bytes that are no JSON text whose numbers are integers are bad as a
--- whole (RFC 8259; RFC 7493, 2.2).
+-- The bad places of some bytes. Bytes that are no JSON text are bad as a whole (RFC 8259). If a
+-- number is no integer, the first such number, in the order of keys, is the one bad place (RFC
+-- 7493, 2.2).
 abbrev pub places_by : Reading → List (List ℕ)
 places_by not_json = [] ∷ []
-places_by (not_whole path) = [] ∷ []
+places_by (not_whole path) = path ∷ []
 places_by (whole t) = bad_places t
 
 abbrev pub places_of : List ℕ → List (List ℕ)

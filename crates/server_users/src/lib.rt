@@ -12,6 +12,7 @@ mod limits;
 mod places;
 mod read;
 mod seen_texts;
+mod tokens;
 mod user_checks;
 mod users;
 mod values;

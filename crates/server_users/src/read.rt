@@ -38,13 +38,21 @@ fn find_whole_fault(alloc: Global) -> ConfigFault
     }
 }
 
+// Returns the fault of bytes in which this place alone is bad.
+fn name_place(place: Text) -> ConfigFault
+    ensures { IsFaultOf (place ∷ []) result }
+{
+    ConfigFault::BadConfig(place)
+}
+
 /// Reads the configuration of a server: JSON bytes of the form
 /// `{"users":[{"accounts":[{"id":I,"name":N,"readOnly":B}],"name":N,"token":T}]}`. Other members
 /// are ignored. Accounts are numbered from 0 in the order of their first mention.
 ///
 /// Fails with `BadConfig` if the bytes are not of the form. It carries the least bad place in byte
-/// order as a JSON Pointer (RFC 6901): the empty one if the bytes are no JSON text whose numbers
-/// are integers. Fails with `NoMemory` if an allocation fails.
+/// order as a JSON Pointer (RFC 6901): the empty one if the bytes are no JSON text, and the one of
+/// the first number that is no integer, in the order of keys, if there is one. Fails with
+/// `NoMemory` if an allocation fails.
 pub fn read_users(alloc: Global, bytes: &[u8]) -> Result<Users, ConfigFault>
     ensures ok { IfOk result (IsConfigurationOf bytes.now) }
     ensures fault { IfErr result (IsFaultOf (places_of bytes.now)) }
@@ -52,7 +60,7 @@ pub fn read_users(alloc: Global, bytes: &[u8]) -> Result<Users, ConfigFault>
     match read(alloc, bytes) {
         Ok(tree) => read_tree(alloc, &tree),
         Err(ReadFault::NotJson) => Err(find_whole_fault(alloc)),
-        Err(ReadFault::NotWhole(_)) => Err(find_whole_fault(alloc)),
+        Err(ReadFault::NotWhole(place)) => Err(name_place(place)),
         Err(ReadFault::NoMemory) => Err(ConfigFault::NoMemory),
     }
 }

@@ -3,6 +3,7 @@ ghost use Rattle.std.specs.Prelude.{◌≡◌};
 ghost use Rattle.server_users.specs.Configuration.{AreNumbered};
 ghost use Rattle.server_users.specs.Lookups.{user_with};
 
+use crate::tokens::find_token;
 use jm_base::{Sequence, Text, Texts};
 use std::marker::Model;
 
@@ -69,17 +70,11 @@ impl Users {
         self.account_ids.as_slice()
     }
 
-    /// Returns the index of the user with a token, if there is one.
+    /// Returns the index of the user with a token, if there is one. The time that it takes does not
+    /// tell where the token differs from another.
     pub fn find_user(&self, token: &[u8]) -> Option<usize>
         ensures { result ≡ user_with token.now self.now.users }
     {
         find_token(self.users.as_slice(), token)
     }
-}
-
-// Returns the index of the user with a token.
-fn find_token(users: &[User], token: &[u8]) -> Option<usize>
-    ensures { result ≡ user_with token.now users.now }
-{
-    users.iter().position(|user| user.token.as_bytes() == token)
 }
