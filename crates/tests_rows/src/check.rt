@@ -111,7 +111,7 @@ fn check_run(
     let text = choose_output(row.kind, &ran);
     let ends_so = check_end(alloc, row, &ran, place, report)?;
     let difference = find_difference(
-        row.is_batch(),
+        row.is_whole_batch(),
         row.script.steps.as_slice(),
         row.script.input.as_slice(),
         row.script.wanted.as_slice(),

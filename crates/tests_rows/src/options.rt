@@ -12,8 +12,8 @@ use std::alloc::Global;
 const CONFIG: &str =
     "{\"users\":[{\"accounts\":[{\"id\":\"A1\",\"name\":\"Mail\",\"readOnly\":false}],\"name\":\"ann\",\"token\":\"t\"}]}";
 
-/// The command line, the status and the texts that are wanted, the configuration, the rows that
-/// keepers hold before the run and those that they are to hold after it, which calls fail, how many
+/// The command line, the status and the texts that are wanted, the configuration, the timestamp that
+/// the clock shows, the rows that keepers hold before the run and those that they are to hold after it, which calls fail, how many
 /// bytes a read gets at most, and whether the row is run with its input cut and shortened too. What is not said
 /// has its default.
 #[derive(Drop)]
@@ -24,6 +24,7 @@ pub(crate) struct Options {
     pub(crate) error: Bytes,
     pub(crate) out: Bytes,
     pub(crate) config: Bytes,
+    pub(crate) clock: u64,
     pub(crate) kept: Vec<KeptRow>,
     pub(crate) left: Vec<KeptRow>,
     pub(crate) fails: Fails,
@@ -52,6 +53,13 @@ fn read_status(number: u64, value: &[u8]) -> Result<u8, Fault> {
             Err(_) => Err(Fault::Line(number, "no exit status")),
         },
         None => Err(Fault::Line(number, "no exit status")),
+    }
+}
+
+fn read_timestamp(number: u64, value: &[u8]) -> Result<u64, Fault> {
+    match read_number(value) {
+        Some(time) => Ok(time),
+        None => Err(Fault::Line(number, "no timestamp")),
     }
 }
 
@@ -86,6 +94,7 @@ impl Options {
             error: Bytes::new(alloc),
             out: Bytes::new(alloc),
             config: Bytes::new(alloc),
+            clock: 0,
             kept: Vec::new(alloc),
             left: Vec::new(alloc),
             fails: NO_FAILS,
@@ -112,6 +121,10 @@ impl Options {
         }
         if name == b"config".as_slice() {
             set_text(&mut self.config, value)?;
+            return Ok(true);
+        }
+        if name == b"clock".as_slice() {
+            self.clock = read_timestamp(number, value)?;
             return Ok(true);
         }
         if name == b"short".as_slice() {

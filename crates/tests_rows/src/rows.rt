@@ -101,9 +101,9 @@ impl<'a> Row<'a> {
         Ok(())
     }
 
-    /// Returns whether the row runs `batch`, which answers each line by a line.
-    pub(crate) fn is_batch(&self) -> bool {
-        self.options.arguments.as_slice() == b"batch".as_slice()
+    /// Returns whether the row runs `batch` to its end, which answers each line by a line.
+    pub(crate) fn is_whole_batch(&self) -> bool {
+        self.options.status == 0 && self.options.arguments.as_slice() == b"batch".as_slice()
     }
 
     /// Returns the row of these lines.

@@ -86,6 +86,7 @@ pub(crate) fn run_lines(
 ) -> Result<Ran, NoMemory> {
     let nothing = Setting {
         config: b"",
+        clock: 0,
         kept: &[],
         input: NOTHING,
         fails: NO_FAILS,
@@ -131,6 +132,7 @@ pub(crate) fn run_row(
             arguments,
             Setting {
                 config: row.options.config.as_slice(),
+                clock: row.options.clock,
                 kept: row.options.kept.as_slice(),
                 input,
                 fails,

@@ -89,11 +89,12 @@ pub(crate) fn whole(bytes: &[u8]) -> Input<'_> {
     }
 }
 
-/// What a world in memory gives: the configuration, the rows that keepers begin with, the input of
+/// What a world in memory gives: the configuration, the timestamp that its clocks show, the rows that keepers begin with, the input of
 /// the connection, and which calls fail.
 #[derive(Clone, Copy)]
 pub(crate) struct Setting<'a> {
     pub(crate) config: &'a [u8],
+    pub(crate) clock: u64,
     pub(crate) kept: &'a [KeptRow],
     pub(crate) input: Input<'a>,
     pub(crate) fails: Fails,
@@ -218,7 +219,7 @@ impl<'a> World for RowWorld<'a> {
     }
 
     fn clock(&mut self) -> MemoryClock {
-        MemoryClock::new(Numbers::new(self.alloc), 0)
+        MemoryClock::new(Numbers::new(self.alloc), self.setting.clock)
     }
 
     fn gate(&mut self) -> NoGate {
