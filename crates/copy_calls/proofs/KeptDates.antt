@@ -1,5 +1,5 @@
 -- The date of receipt of an original is kept.
-use Rattle.std.proofs.Common.{◌≡◌, ℕ, Bool, true, false, not, cond, ◌&&◌, pos, ℤ, ◌≤ℤ◌, ◌<ℤ◌, int_lt, Option, Some, None, option_and_then, option_map, unwrap_or, refl, sym, ap, ◌∙◌, arith, List}
+use Rattle.std.proofs.Common.{◌≡◌, ℕ, Bool, true, false, not, cond, ◌&&◌, pos, ℤ, ◌≤ℤ◌, int_lt, Option, Some, None, option_and_then, option_map, unwrap_or, refl, sym, ap, ◌∙◌, arith, List}
 use Rattle.std.specs.Str.{bytes_eq}
 use Rattle.std.proofs.lemmas.Slice.Eq.{bytes_eq-Decides}
 use Rattle.jiff_core.proofs.SignedLemmas.{signed_arith}
@@ -9,7 +9,7 @@ use Rattle.jm_base.specs.declared.identifiers.UtcDate.{UtcDate}
 use Rattle.jm_base.specs.declared.utc_dates.TheConstants.{FIRST_TIMESTAMP, LAST_TIMESTAMP}
 use Rattle.jm_base.proofs.DateTests.{dated}
 use Rattle.jm_base.proofs.WrittenDates.{date_reads_back}
-use Rattle.jm_json.specs.Tree.{Tree, null, text}
+use Rattle.jm_json.specs.Tree.{null, text}
 use Rattle.jm_json.specs.Find.{as_text}
 use Rattle.mail_records.specs.declared.records.Email.{Email}
 use Rattle.mail_import.specs.Properties.{date_of}
