@@ -5,12 +5,16 @@
 //! the clock shows, is not exposed to contracts.
 #![tactic(auto)]
 
+mod closing;
 mod host_clock;
+mod patience;
 mod streams;
 mod tcp;
 mod tcp_socket;
 
+pub use closing::{MAX_CLOSING_SECONDS, MAX_DROPPED_BYTES, MAX_QUIET_SECONDS};
 pub use host_clock::HostClock;
+pub use patience::{BYTES_PER_SECOND, MAX_WAIT_SECONDS};
 pub use streams::{Reading, Writing};
-pub use tcp::TcpLink;
+pub use tcp::{Carried, TcpLink};
 pub use tcp_socket::TcpSocket;

@@ -1,9 +1,48 @@
 // Readers and writers of std as sources and sinks. A file, a terminal or a pipe does not expose its
 // content to contracts.
 ghost use Rattle.std.specs.Prelude.{◌≡◌};
+ghost use Rattle.std.specs.Io.{ReadsAtMost, WritesAtMost};
+ghost use Rattle.std.specs.Io.KnownBytes.{ReadConsumes, WriteAppends};
 
 use jm_edge::{Failed, Sink, Source};
-use std::io::{Read, Write};
+use std::io::{ErrorKind, Read, Write};
+
+// Reads the next bytes. If a signal ends the call before any came, it reads again.
+fn read_again<R: Read>(inner: &mut R, room: &mut [u8]) -> Result<usize, Failed>
+    ensures bound { ReadsAtMost result room.new }
+    ensures bytes { ReadConsumes (R.remaining inner.old) (R.remaining inner.new) result room.new }
+{
+    'read: for _ in 0..u64::MAX {
+        match inner.read(room) {
+            Ok(count) => return Ok(count),
+            Err(error) => {
+                if error.kind() != ErrorKind::Interrupted {
+                    return Err(Failed);
+                }
+            }
+        }
+    }
+    Err(Failed)
+}
+
+// Writes a prefix of the piece. If a signal ends the call before any byte was taken, it writes
+// again.
+fn write_again<W: Write>(inner: &mut W, piece: &[u8]) -> Result<usize, Failed>
+    ensures bound { WritesAtMost result piece.now }
+    ensures bytes { WriteAppends (W.contents inner.old) (W.contents inner.new) result piece.now }
+{
+    'write: for _ in 0..u64::MAX {
+        match inner.write(piece) {
+            Ok(count) => return Ok(count),
+            Err(error) => {
+                if error.kind() != ErrorKind::Interrupted {
+                    return Err(Failed);
+                }
+            }
+        }
+    }
+    Err(Failed)
+}
 
 /// A reader of std, with its faults counted.
 #[derive(Drop)]
@@ -28,7 +67,7 @@ impl<R: Read + Drop> Source for Reading<R> {
     ghost faults = { λ s. s.faults };
 
     fn read(&mut self, room: &mut [u8]) -> Result<usize, Failed> {
-        match self.inner.read(room) {
+        match read_again(&mut self.inner, room) {
             Ok(count) => Ok(count),
             Err(_) => {
                 self.faults = self.faults.saturating_add(1);
@@ -62,7 +101,7 @@ impl<W: Write + Drop> Sink for Writing<W> {
     ghost faults = { λ s. s.faults };
 
     fn put(&mut self, piece: &[u8]) -> Result<usize, Failed> {
-        match self.inner.write(piece) {
+        match write_again(&mut self.inner, piece) {
             Ok(count) => {
                 if count == 0 && !piece.is_empty() {
                     self.faults = self.faults.saturating_add(1);

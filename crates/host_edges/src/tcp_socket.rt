@@ -77,10 +77,10 @@ impl TcpSocket {
     }
 }
 
-// Returns whether the stream had no more bytes within the time of a look.
+// Returns whether the stream had no more bytes within the time of a look, or a signal ended it.
 fn is_quiet(error: &Error) -> bool {
     match error {
-        Error::Io(cause) => cause.kind() == ErrorKind::WouldBlock,
+        Error::Io(cause) => matches!(cause.kind(), ErrorKind::WouldBlock | ErrorKind::Interrupted),
         _ => false,
     }
 }

@@ -1,6 +1,7 @@
 // A keeper that says how often its `load` has failed.
 ghost use Rattle.std.specs.Prelude.{◌≡◌};
 
+use jm_base::Text;
 use jm_edge::EdgeFault;
 use keep_port::{Keeper, Kept};
 use std::alloc::Global;
@@ -11,6 +12,8 @@ use std::alloc::Global;
 pub struct CountedKeeper<K: Keeper> {
     /// The keeper of which the loads are counted.
     pub inner: K,
+    /// The path of what it keeps the account in.
+    pub path: Text,
     /// How often its `load` has failed.
     pub load_faults: u64,
 }

@@ -3,46 +3,19 @@
 ghost use Rattle.std.specs.Prelude.{◌≡◌, ◌≤◌};
 ghost use Rattle.jm_edge.specs.Causes.{Rose};
 
+use crate::accepting::accept_link;
 use crate::counted_keeper::CountedKeeper;
+use crate::databases::{MakesKeepers, build_database_paths};
+use crate::telling::say_finished;
 use host_edges::{HostClock, TcpLink};
 use jm_base::{Bytes, Text};
-use jm_edge::{EdgeFault, Failed, NoGate};
+use jm_edge::{EdgeFault, NoGate};
 use jmap_server::{Finished, World};
-use keep_sqlite::{AtPath, Opens, SqliteKeeper};
-use sqlite::{Alter, File, FileStore};
-use std::alloc::{AllocError, Global};
+use keep_sqlite::SqliteKeeper;
+use std::alloc::Global;
 use std::io::Write;
 use std::net::{Ipv4Addr, TcpListener};
 use std::{fs, io};
-
-/// Makes the keeper of an account that is kept in the database of a file.
-pub trait MakesKeepers: Drop {
-    /// What the databases are kept in.
-    type Store: Alter + Drop + Send;
-
-    /// What opens a database.
-    type Opener: Opens<Self::Store> + Send;
-
-    /// Returns the keeper of the database at a path. It opens nothing.
-    fn make(&self, path: Text) -> SqliteKeeper<Self::Store, Self::Opener>;
-}
-
-/// Makes keepers of the files of the host.
-#[derive(Drop)]
-pub struct HostFiles {
-    /// The host.
-    pub rt: HostRuntime,
-}
-
-impl MakesKeepers for HostFiles {
-    type Store = FileStore<File>;
-
-    type Opener = AtPath;
-
-    fn make(&self, path: Text) -> SqliteKeeper<FileStore<File>, AtPath> {
-        SqliteKeeper::open_later(&self.rt, path)
-    }
-}
 
 // What is listened on, and how often the host and the keepers that came back have failed.
 #[derive(Drop)]
@@ -63,17 +36,22 @@ impl Desk {
     }
 }
 
-/// The host, with its faults counted.
+/// The host, with its faults counted. Of each fault it says the reason on the standard error
+/// output.
 #[derive(Drop)]
 pub struct HostWorld<M: MakesKeepers> {
     rt: HostRuntime,
     files: M,
     desk: Desk,
+    logs: bool,
+    // Whether all accounts were opened, or it was said which one was not.
+    settled: bool,
 }
 
 impl<M: MakesKeepers> HostWorld<M> {
-    /// Returns the host, which has not failed yet, with what makes the keepers of its accounts.
-    pub fn new(rt: &HostRuntime, files: M) -> HostWorld<M>
+    /// Returns the host, which has not failed yet, with what makes the keepers of its accounts. If
+    /// it logs, it says a line on the standard error output of each connection that ended.
+    pub fn new(rt: &HostRuntime, files: M, logs: bool) -> HostWorld<M>
         ensures faults { result.desk.faults ≡ 0 }
         ensures load_faults { result.desk.load_faults ≡ 0 }
     {
@@ -85,6 +63,8 @@ impl<M: MakesKeepers> HostWorld<M> {
                 faults: 0,
                 load_faults: 0,
             },
+            logs,
+            settled: false,
         }
     }
 }
@@ -94,59 +74,25 @@ fn say_where(rt: &HostRuntime, port: u16) {
     let _ = writeln!(rt.stderr(), "listening on 127.0.0.1:{port}");
 }
 
+// Says why a file can't be read. It is no fault if that fails; likewise below.
+fn say_unread(rt: &HostRuntime, name: &str, reason: &io::Error) {
+    let _ = writeln!(rt.stderr(), "cannot read {name}: {reason}");
+}
+
+// Says why a port can't be listened on.
+fn say_unheard(rt: &HostRuntime, port: u16, reason: &io::Error) {
+    let _ = writeln!(rt.stderr(), "cannot listen on 127.0.0.1:{port}: {reason}");
+}
+
+// Says at which account opening the accounts stopped.
+fn say_stop(rt: &HostRuntime, account: &Text, path: &Text) {
+    let (id, file) = (account.as_str(), path.as_str());
+    let _ = writeln!(rt.stderr(), "stopped at {id}: {file}");
+}
+
 // Returns whether memory ran out.
 fn is_memory(error: &io::Error) -> bool {
     error.kind() == io::ErrorKind::OutOfMemory
-}
-
-/// How many connections are waited for, one after the other, until one is accepted. If each of so
-/// many can't be, accepting has failed.
-pub const MAX_ACCEPT_TRIES: u64 = 1_000;
-
-// Returns whether a connection ended before it was accepted: the next one can still be.
-fn is_of_connection(error: &io::Error) -> bool {
-    matches!(
-        error.kind(),
-        io::ErrorKind::ConnectionAborted | io::ErrorKind::ConnectionReset
-    )
-}
-
-// Waits for the next connection. Returns none if it ended before it was accepted, or if TCP_NODELAY
-// can't be set for it. Fails if the listener does.
-fn accept_next(listener: &TcpListener) -> Result<Option<TcpLink>, Failed> {
-    match listener.accept() {
-        Ok((stream, _)) => match TcpLink::new(stream) {
-            Ok(link) => Ok(Some(link)),
-            Err(_) => Ok(None),
-        },
-        Err(error) => {
-            if is_of_connection(&error) {
-                return Ok(None);
-            }
-            Err(Failed)
-        }
-    }
-}
-
-// Waits for a connection, and leaves out those that ended before they were accepted. Fails if there
-// is no listener, if it fails, or after too many of them in a row.
-fn accept_link(listener: &Option<TcpListener>) -> Result<TcpLink, Failed> {
-    let Some(listener) = listener else {
-        return Err(Failed);
-    };
-    for _ in 0..MAX_ACCEPT_TRIES {
-        match accept_next(listener) {
-            Ok(Some(link)) => return Ok(link),
-            Ok(None) => {}
-            Err(_) => return Err(Failed),
-        }
-    }
-    Err(Failed)
-}
-
-// Returns the path of the database of an account in a folder.
-fn build_database_path(alloc: Global, folder: &str, account: &str) -> Result<Text, AllocError> {
-    Ok(Text::from_string(format!(in alloc; "{folder}/{account}.sqlite")?))
 }
 
 impl<M: MakesKeepers> World for HostWorld<M> {
@@ -174,6 +120,7 @@ impl<M: MakesKeepers> World for HostWorld<M> {
                 if is_memory(&error) {
                     return Err(EdgeFault::NoMemory);
                 }
+                say_unread(&self.rt, name.as_str(), &error);
                 self.desk.fail();
                 Err(EdgeFault::Failed)
             }
@@ -186,16 +133,21 @@ impl<M: MakesKeepers> World for HostWorld<M> {
         folder: &Text,
         account: &Text,
     ) -> Result<CountedKeeper<SqliteKeeper<M::Store, M::Opener>>, EdgeFault> {
-        match build_database_path(alloc, folder.as_str(), account.as_str()) {
-            Ok(path) => Ok(CountedKeeper {
-                inner: self.files.make(path),
-                load_faults: 0,
-            }),
+        match build_database_paths(alloc, folder.as_str(), account.as_str()) {
+            Ok((path, copy)) => {
+                self.files.prepare(folder, &path);
+                Ok(CountedKeeper {
+                    inner: self.files.make(path),
+                    path: copy,
+                    load_faults: 0,
+                })
+            }
             Err(_) => Err(EdgeFault::NoMemory),
         }
     }
 
     fn listen(&mut self, _alloc: Global, port: u16) -> Result<(), EdgeFault> {
+        self.settled = true;
         match TcpListener::bind(&self.rt, (Ipv4Addr::LOCALHOST, port)) {
             Ok(listener) => {
                 self.desk.listener = Some(listener);
@@ -206,6 +158,7 @@ impl<M: MakesKeepers> World for HostWorld<M> {
                 if is_memory(&error) {
                     return Err(EdgeFault::NoMemory);
                 }
+                say_unheard(&self.rt, port, &error);
                 self.desk.fail();
                 Err(EdgeFault::Failed)
             }
@@ -213,7 +166,7 @@ impl<M: MakesKeepers> World for HostWorld<M> {
     }
 
     fn line(&mut self, _alloc: Global) -> Result<TcpLink, EdgeFault> {
-        match accept_link(&self.desk.listener) {
+        match accept_link(&self.rt, &self.desk.listener) {
             Ok(link) => Ok(link),
             Err(_) => {
                 self.desk.fail();
@@ -235,14 +188,32 @@ impl<M: MakesKeepers> World for HostWorld<M> {
         ensures count { self.new.desk.faults ≡ self.old.desk.faults }
         ensures load_count { self.new.desk.load_faults ≡ self.old.desk.load_faults }
     {
-        drop(finished);
+        if !self.logs {
+            return;
+        }
+        say_finished(&self.rt, &finished);
     }
 
     fn return_keeper(
         &mut self,
-        _account: &Text,
+        account: &Text,
         keeper: CountedKeeper<SqliteKeeper<M::Store, M::Opener>>,
     ) {
-        self.desk.load_faults = self.desk.load_faults.saturating_add(keeper.load_faults);
+        let CountedKeeper {
+            inner,
+            path,
+            load_faults,
+        } = keeper;
+        drop(inner);
+        self.desk.load_faults = self.desk.load_faults.saturating_add(load_faults);
+        if self.settled {
+            return;
+        }
+        self.settled = true;
+        if load_faults > 0 {
+            self.files.say_why(account, &path);
+            return;
+        }
+        say_stop(&self.rt, account, &path);
     }
 }

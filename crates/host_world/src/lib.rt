@@ -5,8 +5,13 @@
 //! often their `load` has failed.
 #![tactic(auto)]
 
+mod accepting;
 mod counted_keeper;
+mod databases;
 mod host_world;
+mod telling;
 
+pub use accepting::MAX_ACCEPT_TRIES;
 pub use counted_keeper::CountedKeeper;
-pub use host_world::{HostFiles, HostWorld, MAX_ACCEPT_TRIES, MakesKeepers};
+pub use databases::{HostFiles, MAX_NAMING_ID_BYTES, MakesKeepers};
+pub use host_world::HostWorld;

@@ -25,11 +25,17 @@ fn main(rt: HostRuntime) -> ExitCode {
                 &mut out,
                 &mut err,
                 HostFiles { rt },
+                wants_log(&rt),
             );
             status.build_exit_code()
         }
         Err(refused) => refused.say(&mut err).build_exit_code(),
     }
+}
+
+// Returns whether the environment variable JMAP_LOG is set.
+fn wants_log(rt: &(impl env::Env + AllocGlobal)) -> bool {
+    !matches!(env::var(rt, "JMAP_LOG"), Err(env::VarError::NotPresent))
 }
 
 // Does what the arguments say, over the world of the host. The two first arguments are the same.
@@ -41,8 +47,9 @@ fn run_on_host<S: Source, O: Sink, E: Sink, M: MakesKeepers>(
     out: &mut O,
     err: &mut E,
     files: M,
+    logs: bool,
 ) -> Status {
-    let mut world = HostWorld::new(host, files);
+    let mut world = HostWorld::new(host, files, logs);
     run(rt, host.alloc(), words, source, out, err, &mut world)
 }
 

@@ -1,0 +1,70 @@
+// Connections are accepted. One that ended before it was accepted is left out.
+use host_edges::TcpLink;
+use jm_edge::Failed;
+use std::io::{ErrorKind, Write};
+use std::net::TcpListener;
+use std::time::Duration;
+use std::{io, thread};
+
+/// How often accepting a connection is tried, until one is accepted. If each of so many tries
+/// fails, accepting has failed.
+pub const MAX_ACCEPT_TRIES: u64 = 1_000;
+
+// For how many milliseconds accepting waits after a fault that may last, as that no file descriptor
+// is left.
+const PAUSE_MILLISECONDS: u64 = 100;
+
+// Returns whether a connection ended before it was accepted, or a signal came: the next one can be
+// accepted at once.
+fn is_of_connection(error: &io::Error) -> bool {
+    matches!(
+        error.kind(),
+        ErrorKind::ConnectionAborted | ErrorKind::ConnectionReset | ErrorKind::Interrupted
+    )
+}
+
+// Waits for the next connection. Returns none if it ended before it was accepted, or if its options
+// can't be set.
+fn accept_next(rt: &HostRuntime, listener: &TcpListener) -> io::Result<Option<TcpLink>> {
+    let (stream, _) = listener.accept()?;
+    match TcpLink::new(rt, stream) {
+        Ok(link) => Ok(Some(link)),
+        Err(_) => Ok(None),
+    }
+}
+
+// Tries once to accept a connection. Of a fault that is not the connection's it says why, if it is
+// the first one, and waits a little.
+fn try_accept(rt: &HostRuntime, listener: &TcpListener, said: &mut bool) -> Option<TcpLink> {
+    match accept_next(rt, listener) {
+        Ok(link) => link,
+        Err(error) => {
+            if !is_of_connection(&error) {
+                if !*said {
+                    let _ = writeln!(rt.stderr(), "cannot accept a connection: {error}");
+                }
+                *said = true;
+                thread::sleep(rt, Duration::from_millis(PAUSE_MILLISECONDS));
+            }
+            None
+        }
+    }
+}
+
+/// Waits for a connection, and leaves out those that ended before they were accepted. Fails if
+/// there is no listener, or after [`MAX_ACCEPT_TRIES`] tries that failed.
+pub(crate) fn accept_link(
+    rt: &HostRuntime,
+    listener: &Option<TcpListener>,
+) -> Result<TcpLink, Failed> {
+    let Some(listener) = listener else {
+        return Err(Failed);
+    };
+    let mut said = false;
+    for _ in 0..MAX_ACCEPT_TRIES {
+        if let Some(link) = try_accept(rt, listener, &mut said) {
+            return Ok(link);
+        }
+    }
+    Err(Failed)
+}
