@@ -195,7 +195,7 @@ fn all_turns_come<S: Alter + Drop + Send, O: Opens<S> + Send>(
     turns: &[Turn],
 ) -> bool {
     for (text, steps) in turns {
-        if !keeper.access.run(text) || !all_come(rt, keeper, steps) {
+        if !keeper.database.run(text) || !all_come(rt, keeper, steps) {
             return false;
         }
     }

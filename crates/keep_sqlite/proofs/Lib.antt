@@ -1,0 +1,4 @@
+pub mod Appending
+pub mod Inserting
+pub mod Places
+pub mod Texts
