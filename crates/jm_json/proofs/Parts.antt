@@ -43,7 +43,7 @@ name_at false true x s k e f h = rw h (ap (λ y. Some (y ∷ k)) (sym (eqb-true 
 name_at false false x s k e f h = rw (e, f, h) refl
 
 -- a name that is written is read back
-name_back : (k : List ℕ) → name_of (pointer_part k) ≡ Some k
+pub name_back : (k : List ℕ) → name_of (pointer_part k) ≡ Some k
 name_back [] = refl
 name_back (x ∷ k) = name_at _ _ x (pointer_part k) k refl refl (name_back k)
 

@@ -3,6 +3,7 @@ pub mod TreeCodes
 pub mod Size
 pub mod Json
 pub mod Depths
+pub mod Depth
 pub mod JsonValues
 pub mod RoundTrips
 pub mod Order
@@ -11,14 +12,16 @@ pub mod FirstMembers
 pub mod Integers
 pub mod Faults
 pub mod Reading
+pub mod Containers
 pub mod Causes
 pub mod Call
 pub mod Invocations
 pub mod Responses
 pub mod Find
 pub mod Equality
-pub mod Tokens
+pub mod Calls
 pub mod Requests
 pub mod Pointer
+pub mod LeastPlaces
 pub mod Patch
 pub mod Patching

@@ -1,5 +1,5 @@
 // The calls of a request and the responses to them (RFC 8620, sections 3.2 to 3.4).
-ghost use Rattle.std.specs.Prelude.{◌≡◌, ◌==◌, [], ◌∷◌, ◌++◌, map, IfOk, OnOk, OnErr};
+ghost use Rattle.std.specs.Prelude.{◌≡◌, [], ◌∷◌, ◌++◌, map, IfOk, OnOk, OnErr};
 ghost use Rattle.jm_json.specs.Call.{error_of};
 ghost use Rattle.jm_json.specs.Invocations.{call_of};
 

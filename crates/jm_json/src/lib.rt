@@ -5,28 +5,41 @@
 //! byte order.
 #![tactic(auto)]
 
+mod calls;
+mod containers;
 mod copies;
 mod equality;
 mod invocation;
+mod laws;
 mod member_runs;
-mod parser;
 mod patches;
+mod path_parts;
 mod paths;
+mod pointers;
 mod reader;
 mod requests;
 mod responses;
 mod tree;
+mod tree_depth;
 mod writer;
 
+pub use calls::{read_calls, read_responses};
+pub use containers::MAX_CONTAINERS;
 pub use copies::copy;
 pub use equality::is_same_tree;
 pub use invocation::{Created, Invocation, Invocations, Made, Replied};
+pub use laws::{
+    show_that_a_pushed_part_is_followed, show_that_calls_are_read_as_written,
+    show_that_the_least_place_is_least, show_that_what_was_read_reads_back,
+};
 pub use member_runs::MemberRuns;
-pub use parser::{MAX_DEPTH, Scratch};
 pub use patches::{PatchFault, patch};
+pub use path_parts::{push_escaped, strip_prefix, unescape_part};
 pub use paths::{find_child, part_end, pointer};
-pub use reader::{ReadFault, read, read_with};
-pub use requests::{RequestMembers, read_request};
+pub use pointers::{choose_least, push_index, push_name};
+pub use reader::{MAX_DEPTH, ReadFault, read};
+pub use requests::write_request;
 pub use responses::write_responses;
 pub use tree::{Items, Json, Member, Members};
-pub use writer::{write, write_after, write_with};
+pub use tree_depth::depth;
+pub use writer::{write, write_after};

@@ -1,14 +1,15 @@
 // Changes a tree by a patch (RFC 8620, section 5.3).
-ghost use Rattle.std.specs.Prelude.{◌≡◌, ◌<◌, ◌≤◌, ◌&&◌, ◌||◌, [], ◌∷◌, ◌++◌, true, Some, None, map, length, is_some, not, option_map, drop, IfOk, IfSome, OnOk, MatchResult, MatchOption};
+ghost use Rattle.std.specs.Prelude.{◌≡◌, ◌<◌, ◌&&◌, ◌||◌, [], ◌∷◌, ◌++◌, true, Some, None, map, length, is_some, not, option_map, drop, IfOk, OnOk, MatchResult};
 ghost use Rattle.jm_json.specs.Json.{tree_of, member_of};
 ghost use Rattle.jm_json.specs.Find.{as_object, find};
 ghost use Rattle.jm_json.specs.Order.{KeysRise};
 ghost use Rattle.jm_json.specs.KeyIndices.{IsKeyIndex};
-ghost use Rattle.jm_json.specs.Pointer.{cut, name_of, unescaped};
+ghost use Rattle.jm_json.specs.Pointer.{cut};
 ghost use Rattle.jm_json.specs.Patch.{at_member, goes_on, is_prefix, is_placed as is_placed_at, member_named, set_member, changed, all_changed, first_invalid_path, patched, patching, patching_by};
 ghost use Rattle.jm_json.specs.Patching.{ExplainsPatch};
 
 use crate::copies::copy;
+use crate::path_parts::{is_name, unescape_part};
 use crate::paths::{find_member, part_end, skip_byte};
 use crate::tree::{Json, KeyIndex, Member, Members, place_of};
 use jm_base::{NoMemory, Text};
@@ -165,84 +166,6 @@ fn member<'a>(tree: &'a Json, part: &[u8]) -> Option<&'a Json>
     match tree.as_object() {
         Some(members) => find_member(members.as_slice(), part),
         None => None,
-    }
-}
-
-// A byte of a name that is escaped in a part, and the rest of the part.
-#[derive(Clone, Copy)]
-struct Unescaped<'a> {
-    byte: u8,
-    rest: &'a [u8],
-}
-
-// Returns the first byte of the name that is escaped as this byte and the rest.
-fn unescape_first<'a>(byte: u8, rest: &'a [u8]) -> Option<Unescaped<'a>>
-    ensures name { MatchOption result (name_of (byte ∷ rest.now) ≡ None)
-        (λ u. name_of (byte ∷ rest.now) ≡ option_map (λ k. u.byte ∷ k) (name_of u.rest.now)) }
-    ensures shorter { IfSome result (λ u. length u.rest.now ≤ length rest.now) }
-{
-    match byte {
-        b'~' => unescape_tilde(rest),
-        b'/' => None,
-        _ => Some(Unescaped { byte, rest }),
-    }
-}
-
-fn unescape_tilde<'a>(part: &'a [u8]) -> Option<Unescaped<'a>>
-    ensures name { MatchOption result (unescaped true part.now ≡ None)
-        (λ u. unescaped true part.now ≡ option_map (λ k. u.byte ∷ k) (name_of u.rest.now)) }
-    ensures shorter { IfSome result (λ u. length u.rest.now ≤ length part.now) }
-{
-    match part.split_first() {
-        Some((first, rest)) => unescape_letter(*first, rest),
-        None => None,
-    }
-}
-
-fn unescape_letter<'a>(letter: u8, rest: &'a [u8]) -> Option<Unescaped<'a>>
-    ensures name { MatchOption result (unescaped true (letter ∷ rest.now) ≡ None)
-        (λ u. unescaped true (letter ∷ rest.now) ≡ option_map
-        (λ k. u.byte ∷ k) (name_of u.rest.now)) }
-    ensures shorter { IfSome result (λ u. length u.rest.now ≤ length rest.now) }
-{
-    match letter {
-        b'0' => Some(Unescaped { byte: b'~', rest }),
-        b'1' => Some(Unescaped { byte: b'/', rest }),
-        _ => None,
-    }
-}
-
-fn is_name(part: &[u8]) -> bool
-    ensures { result ≡ is_some (name_of part.now) }
-{
-    let mut rest = part;
-    'bytes: while let Some((byte, more)) = rest.split_first() {
-        match unescape_first(*byte, more) {
-            Some(first) => rest = first.rest,
-            None => return false,
-        }
-    }
-    true
-}
-
-// Returns the name that is escaped as a part, if there is one.
-fn unescape_part(alloc: Global, part: &[u8]) -> Result<Option<Text>, NoMemory>
-    ensures { IfOk result (λ o. o ≡ name_of part.now) }
-{
-    let mut name = Vec::with_capacity(alloc, part.len())?;
-    let mut rest = part;
-    'bytes: while let Some((byte, more)) = rest.split_first() {
-        match unescape_first(*byte, more) {
-            Some(first) => {
-                name.push(first.byte)?;
-                rest = first.rest;
-            }
-            None => return Ok(None),
-        }
-    }
-    match Text::from_utf8(name) {
-        Some(name) => Ok(Some(name)),
-        None => Err(NoMemory),
     }
 }
 

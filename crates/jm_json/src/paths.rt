@@ -1,5 +1,5 @@
 // JSON Pointer (RFC 6901): the value that a path names in a tree.
-ghost use Rattle.std.specs.Prelude.{◌≡◌, ◌≢◌, ◌≤◌, ◌<◌, ◌+◌, ◌^◌, ℕ, [], ◌∷◌, Some, None, map, length, take, drop, option_map, option_and_then, decimal, bytes_eq, IsTrue, MatchOption};
+ghost use Rattle.std.specs.Prelude.{◌≡◌, ◌≢◌, ◌≤◌, ◌<◌, ◌^◌, ℕ, [], ◌∷◌, Some, None, map, length, take, drop, option_map, option_and_then, decimal, bytes_eq, IsTrue, MatchOption};
 ghost use Rattle.jm_json.specs.Json.{tree_of, member_of};
 ghost use Rattle.jm_json.specs.Find.{find};
 ghost use Rattle.jm_json.specs.Order.{KeysRise};

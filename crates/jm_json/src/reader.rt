@@ -1,7 +1,9 @@
 // Reads JSON bytes (RFC 8259) as a tree.
-ghost use Rattle.std.specs.Prelude.{◌≡◌, ◌∷◌, ◌++◌, [], Some, None, IfOk, IfErr, OnOk, MatchResult, MatchOption, decimal, false};
-ghost use Rattle.std.specs.Prelude.{List, ℕ, true};
+ghost use Rattle.std.specs.Prelude.{◌≡◌, ◌≤◌, IsUtf8, Some, None, IfOk, IfErr, OnOk, MatchResult, MatchOption, decimal, true, false};
+ghost use Rattle.json.specs.Lex.{tokens};
 ghost use Rattle.serde_json.specs.Data.{array, object};
+ghost use Rattle.jm_json.specs.Containers.{containers_in};
+ghost use Rattle.jm_json.specs.declared.containers.TheConstants.{MAX_CONTAINERS};
 ghost use Rattle.jm_json.specs.Reading as reading;
 ghost use Rattle.jm_json.specs.Reading.{reading_of};
 ghost use Rattle.jm_json.specs.Causes.{IsCauseOf};
@@ -10,15 +12,21 @@ ghost use Rattle.serde_json.specs.Find.{of_integer};
 ghost use Rattle.jm_json.specs.Tree.{trees_of, fields_of};
 ghost use Rattle.jm_json.specs.Json.{tree_of};
 ghost use Rattle.jm_json.specs.JsonValues.{data_of, items_of, members_of};
-ghost use Rattle.jm_json.specs.Integers.{is_whole, first_invalid, first_invalid_item, first_invalid_member, under, pointer_byte, pointer_part};
+ghost use Rattle.jm_json.specs.Integers.{is_whole, first_invalid, first_invalid_item, first_invalid_member, under, pointer_part};
 ghost use Rattle.jm_json.specs.Faults.{IsUnder, Refuses};
-ghost use Rattle.jm_json.specs.Order.{KeysRise};
 
-use crate::parser::{INTEGER_LIMIT, Scratch, Stop, read_plainly};
+use crate::containers::has_few_containers;
+use crate::path_parts::push_escaped;
 use crate::tree::{Items, Json, Members};
-use jm_base::{NoMemory, Text};
+use jm_base::{NUMBER_LIMIT, NoMemory, Text};
 use serde_json::{Map, Number, Value};
 use std::alloc::{AllocError, Global};
+
+/// How many arrays and objects may be open at one byte of a text that is read.
+pub const MAX_DEPTH: usize = 127;
+
+// The integers that are read are below this limit, and above its negative.
+const INTEGER_LIMIT: i64 = NUMBER_LIMIT as i64;
 
 /// Why bytes are not read: they are no JSON, a number is no integer within the limits (`NotWhole`
 /// has its JSON Pointer, RFC 6901), or an allocation failed.
@@ -59,35 +67,38 @@ impl From<NoMemory> for Misfit {
 
 /// Reads JSON bytes, nested at most `MAX_DEPTH` deep, all of whose numbers are integers below 2^53
 /// and above -2^53. Of members with one key the last counts. The pointer of `NotWhole` names the
-/// first number of another form in the order of the keys.
+/// first number of another form in the order of the keys. A text that has more than
+/// `MAX_CONTAINERS` objects and lists is answered by `NoMemory`.
 pub fn read(alloc: Global, bytes: &[u8]) -> Result<Json, ReadFault>
-    ensures { MatchResult result (λ t. reading_of bytes.now ≡ reading.whole (tree_of t))
+    ensures reading { MatchResult result (λ t. reading_of bytes.now ≡ reading.whole (tree_of t))
         (λ e. IsCauseOf e (reading_of bytes.now)) }
+    ensures few { OnOk result (containers_in (tokens bytes.now) ≤ MAX_CONTAINERS) }
 {
-    let mut scratch = Scratch::new(alloc);
-    read_with(alloc, &mut scratch, bytes)
-}
-
-/// Reads JSON bytes like `read`, but reuses the buffers of the reader.
-pub fn read_with(alloc: Global, scratch: &mut Scratch, bytes: &[u8]) -> Result<Json, ReadFault>
-    ensures { MatchResult result (λ t. reading_of bytes.now ≡ reading.whole (tree_of t))
-        (λ e. IsCauseOf e (reading_of bytes.now)) }
-{
-    match read_plainly(alloc, scratch, bytes) {
-        Ok(tree) => Ok(tree),
-        Err(Stop::NoMemory) => Err(ReadFault::NoMemory),
-        Err(Stop::Irregular) => read_exactly(alloc, bytes),
+    match simdutf8::compat::from_utf8(bytes) {
+        Ok(text) => read_text(alloc, text),
+        Err(_) => Err(ReadFault::NotJson),
     }
 }
 
-// Reads the bytes as a value of serde_json, in which a number of another form is looked for.
-#[cold]
-#[inline(never)]
-fn read_exactly(alloc: Global, bytes: &[u8]) -> Result<Json, ReadFault>
-    ensures { MatchResult result (λ t. reading_of bytes.now ≡ reading.whole (tree_of t))
-        (λ e. IsCauseOf e (reading_of bytes.now)) }
+fn read_text(alloc: Global, text: &str) -> Result<Json, ReadFault>
+    requires { IsUtf8 text.now }
+    ensures reading { MatchResult result (λ t. reading_of text.now ≡ reading.whole (tree_of t))
+        (λ e. IsCauseOf e (reading_of text.now)) }
+    ensures few { OnOk result (containers_in (tokens text.now) ≤ MAX_CONTAINERS) }
 {
-    let value = match Value::from_slice(alloc, bytes) {
+    if !has_few_containers(alloc, text) {
+        return Err(ReadFault::NoMemory);
+    }
+    read_value(alloc, text)
+}
+
+// Reads a text as a value of serde_json, and moves the value into a tree.
+fn read_value(alloc: Global, text: &str) -> Result<Json, ReadFault>
+    requires { IsUtf8 text.now }
+    ensures { MatchResult result (λ t. reading_of text.now ≡ reading.whole (tree_of t))
+        (λ e. IsCauseOf e (reading_of text.now)) }
+{
+    let value = match Value::from_str(alloc, text) {
         Ok(value) => value,
         Err(e) => {
             if e.is_memory() {
@@ -96,27 +107,28 @@ fn read_exactly(alloc: Global, bytes: &[u8]) -> Result<Json, ReadFault>
             return Err(ReadFault::NotJson);
         }
     };
-    match build_tree(alloc, &value) {
+    match build_tree(alloc, value) {
         Ok(tree) => Ok(tree),
         Err(Misfit::NotWhole(path)) => Err(ReadFault::NotWhole(path)),
         Err(Misfit::NoMemory) => Err(ReadFault::NoMemory),
     }
 }
 
+// Moves a value into a tree.
 #[cycle(tree)]
-fn build_tree(alloc: Global, value: &Value) -> Result<Json, Misfit>
-    ensures ok { IfOk result (λ t. data_of (tree_of t) ≡ view value.now) }
-    ensures whole { IfOk result (λ t. first_invalid (view value.now) ≡ None) }
-    ensures err { IfErr result (λ e. Refuses e (view value.now)) }
+fn build_tree(alloc: Global, value: Value) -> Result<Json, Misfit>
+    ensures ok { IfOk result (λ t. data_of (tree_of t) ≡ view value) }
+    ensures whole { IfOk result (λ t. first_invalid (view value) ≡ None) }
+    ensures err { IfErr result (λ e. Refuses e (view value)) }
 {
     match value {
         Value::Null => Ok(Json::Null),
-        Value::Bool(b) => Ok(Json::Bool(*b)),
-        Value::Number(number) => match read_integer(number) {
+        Value::Bool(b) => Ok(Json::Bool(b)),
+        Value::Number(number) => match read_integer(&number) {
             Some(z) => Ok(Json::Int(z)),
             None => Err(Misfit::NotWhole(Text::from_str(alloc, "")?)),
         },
-        Value::String(text) => Ok(Json::Text(Text::from_str(alloc, text.as_str())?)),
+        Value::String(text) => Ok(Json::Text(Text::from_string(text))),
         Value::Array(values) => Ok(Json::List(build_items(alloc, values)?)),
         Value::Object(values) => Ok(Json::Object(build_members(alloc, values)?)),
     }
@@ -140,44 +152,36 @@ fn read_integer(number: &Number) -> Option<i64>
 }
 
 #[cycle(tree)]
-fn build_items(alloc: Global, values: &Vec<Value>) -> Result<Items, Misfit>
-    ensures ok { IfOk result (λ ts. items_of (trees_of ts) ≡ items_view values.now.items) }
-    ensures whole { IfOk result (λ ts. first_invalid_item 0 (items_view values.now.items) ≡ None) }
-    ensures err { IfErr result (λ e. Refuses e (array (items_view values.now.items))) }
+fn build_items(alloc: Global, values: Vec<Value>) -> Result<Items, Misfit>
+    ensures ok { IfOk result (λ ts. items_of (trees_of ts) ≡ items_view values.items) }
+    ensures whole { IfOk result (λ ts. first_invalid_item 0 (items_view values.items) ≡ None) }
+    ensures err { IfErr result (λ e. Refuses e (array (items_view values.items))) }
 {
-    let mut items = Items::new(alloc);
-    for i in 0..values.len() {
-        match build_tree(alloc, &values[i]) {
+    let mut items = Items::with_room(alloc, values.len())?;
+    for value in values {
+        match build_tree(alloc, value) {
             Ok(tree) => items.push(tree)?,
-            Err(fault) => return Err(move_fault_to_list(alloc, i, fault)),
+            Err(fault) => return Err(move_fault_to_list(alloc, items.as_slice().len(), fault)),
         }
     }
     Ok(items)
 }
 
 #[cycle(tree)]
-fn build_members(alloc: Global, values: &Map<String, Value>) -> Result<Members, Misfit>
-    ensures ok { IfOk result (λ ms. members_of (fields_of ms) ≡ members_view values.now.entries) }
+fn build_members(alloc: Global, values: Map<String, Value>) -> Result<Members, Misfit>
+    ensures ok { IfOk result (λ ms. members_of (fields_of ms) ≡ members_view values.entries) }
     ensures whole { IfOk result
-        (λ ms. first_invalid_member (members_view values.now.entries) ≡ None) }
-    ensures err { IfErr result (λ e. Refuses e (object (members_view values.now.entries))) }
+        (λ ms. first_invalid_member (members_view values.entries) ≡ None) }
+    ensures err { IfErr result (λ e. Refuses e (object (members_view values.entries))) }
 {
-    let mut members = Members::new(alloc);
-    for (name, value) in values.iter() {
+    let mut members = Members::with_room(alloc, values.len())?;
+    for (name, value) in values {
         match build_tree(alloc, value) {
-            Ok(tree) => push_named(alloc, &mut members, name.as_str(), tree)?,
+            Ok(tree) => members.push(Text::from_string(name), tree)?,
             Err(fault) => return Err(move_fault_to_object(alloc, name.as_str(), fault)),
         }
     }
     Ok(members)
-}
-
-// Adds a member whose key comes after the others.
-fn push_named(alloc: Global, members: &mut Members, name: &str, value: Json) -> Result<(), NoMemory>
-    requires { KeysRise (members.old ++ (name.now, tree_of value) ∷ []) }
-    ensures { OnOk result (members.new ≡ members.old ++ (name.now, tree_of value) ∷ []) }
-{
-    members.push(Text::from_str(alloc, name)?, value)
 }
 
 // Makes the fault of an item a fault of its list.
@@ -213,32 +217,11 @@ fn join_index_and_path(alloc: Global, index: usize, path: Text) -> Result<Text, 
     Ok(Text::from_string(format!(in alloc; "/{index}{rest}")?))
 }
 
-// Adds a byte of a key to a JSON Pointer (RFC 6901, section 3).
-fn push_pointer_byte(pointer: &mut Vec<u8>, byte: u8) -> Result<(), AllocError>
-    ensures { OnOk result (pointer.new.items ≡ pointer.old.items ++ pointer_byte byte) }
-{
-    match byte {
-        b'~' => pointer.extend_from_slice(b"~0"),
-        b'/' => pointer.extend_from_slice(b"~1"),
-        _ => Ok(pointer.push(byte)?),
-    }
-}
-
-// Returns the part of a JSON Pointer that names this key.
-fn write_pointer_part(alloc: Global, key: &str) -> Result<Vec<u8>, AllocError>
-    ensures { IfOk result (λ bytes. bytes.items ≡ 47 ∷ pointer_part key.now) }
-{
-    let mut bytes = vec![in alloc; b'/']?;
-    for b in key.as_bytes() {
-        push_pointer_byte(&mut bytes, *b)?;
-    }
-    Ok(bytes)
-}
-
 fn join_key_and_path(alloc: Global, key: &str, path: Text) -> Result<Text, NoMemory>
     ensures { IfOk result (λ t. t ≡ under (pointer_part key.now) path) }
 {
-    let mut bytes = write_pointer_part(alloc, key)?;
+    let mut bytes = vec![in alloc; b'/']?;
+    push_escaped(&mut bytes, key.as_bytes())?;
     bytes.extend_from_slice(path.as_bytes())?;
     match Text::from_utf8(bytes) {
         Some(text) => Ok(text),

@@ -144,6 +144,38 @@ impl Json {
             None
         }
     }
+
+    /// Returns the string, if the tree is one.
+    pub fn into_text(self) -> Option<Text>
+        ensures { result ≡ as_text (tree_of self) }
+    {
+        match self {
+            Json::Text(text) => Some(text),
+            _ => None,
+        }
+    }
+
+    /// Returns the items, if the tree is a list.
+    #[tactic(auto, using(crate::proofs::Lists::lists_back))]
+    pub fn into_items(self) -> Option<Items>
+        ensures { result ≡ as_list (tree_of self) }
+    {
+        match self {
+            Json::List(items) => Some(items),
+            _ => None,
+        }
+    }
+
+    /// Returns the members, if the tree is an object.
+    #[tactic(auto, using(crate::proofs::Lists::lists_back))]
+    pub fn into_members(self) -> Option<Members>
+        ensures { result ≡ as_object (tree_of self) }
+    {
+        match self {
+            Json::Object(members) => Some(members),
+            _ => None,
+        }
+    }
 }
 
 impl Items {

@@ -1,4 +1,4 @@
-use Rattle.std.proofs.Common.{◌≡◌, [], map, subst}
+use Rattle.std.proofs.Common.{map, subst}
 use Rattle.jm_json.specs.Json.{member_of}
 use Rattle.jm_json.specs.Order.{KeysRise, put_all}
 use Rattle.jm_json.proofs.Merging.{merged_rises}

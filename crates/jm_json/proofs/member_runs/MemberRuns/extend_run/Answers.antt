@@ -1,4 +1,4 @@
-use Rattle.std.proofs.Common.{[], ◌∷◌, ◌++◌, ap, ◌∙◌}
+use Rattle.std.proofs.Common.{ap, ◌∙◌}
 use Rattle.jm_json.specs.Json.{tree_of}
 use Rattle.jm_json.specs.Order.{put_all}
 use Rattle.jm_json.proofs.Merging.{rises_at_end, put_all_end}

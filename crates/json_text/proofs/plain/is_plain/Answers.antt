@@ -1,5 +1,0 @@
-use Rattle.json.proofs.Printed.Plain.{escape_on_plain}
-use Rattle.json_text.proofs.plain.is_plain.Goals as goal
-
-pub returns : goal.returns
-returns c = escape_on_plain c.is_plain_between.result c.args.text.now c.is_plain_between.ensures
