@@ -1,5 +1,5 @@
 -- One edit more of a list of edits that fit.
-use Rattle.std.proofs.Common.{◌≡◌, ◌↔◌, ℕ, ◌+◌, ◌<◌, ◌^◌, Bool, true, false, IsTrue, List, [], ◌∷◌, length, is_some, suc, refl, sym, ◌∙◌, subst, arith}
+use Rattle.std.proofs.Common.{◌≡◌, ◌↔◌, ℕ, ◌+◌, ◌<◌, ◌^◌, Bool, true, false, IsTrue, List, ◌∷◌, length, is_some, suc, refl, sym, subst, arith}
 use Rattle.mail_records.specs.Contents.{Content, mailbox_at, email_at, thread_at}
 use Rattle.mail_records.specs.Edits.{after_edit, after_edits, next_after, Fits, AllFit, PutFits, KeepsThread, AllKeepThread, HasNumbers}
 use Rattle.mail_records.specs.declared.edits.Edit.{Edit}

@@ -1,5 +1,4 @@
 -- The order of keys is total, and equal keys are one.
-use Rattle.std.proofs.Common.{◌≡◌, ℕ, ℤ, refl, ◌∙◌, ◌&&◌}
 use Rattle.std.specs.Cmp.{IsTotalOrder, then_total, on_total, nat_cmp_total, int_cmp_total}
 use Rattle.std.specs.Cmp.Lexicographic.{options_total, nat_list_cmp_total}
 use Rattle.mail_records.specs.Orders.{Key, key_cmp}

@@ -1,7 +1,6 @@
 -- The keys of entries next to a table: what they come to as a record is put or dropped, and the parts of them.
-use Rattle.std.proofs.Common.{◌≡◌, ◌≢◌, ℕ, ◌+◌, ◌<◌, ◌≤◌, Bool, true, false, ◌||◌, ◌&&◌, not, cond, eqb, List, [], ◌∷◌, drop, map, filter, length, get_or, Option, Some, None, refl, sym, ap, ap₂, ◌∙◌, subst, arith, ⊎_elim, inl, inr, eqb-true, ℤ, ◌⊎◌}
+use Rattle.std.proofs.Common.{◌≡◌, ℕ, ◌+◌, ◌<◌, Bool, true, false, ◌||◌, ◌&&◌, not, cond, eqb, List, [], ◌∷◌, drop, map, filter, length, get_or, Option, Some, None, refl, sym, ap, ap₂, ◌∙◌, subst, arith, ⊎_elim, inl, inr, eqb-true, ◌⊎◌}
 use Rattle.std.specs.List.{AllByRecursion}
-use Rattle.std.specs.List.Sorted.{IsStrictlySortedBy}
 use Rattle.std.specs.declared.cmp.Ordering.{Ordering}
 use Rattle.std.specs.declared.cmp.Ordering.TheVariants.{Less, Equal, Greater}
 use Rattle.std.specs.Ordering.{is_eq, is_lt, is_gt, ordering_then, nat_cmp, int_cmp}
@@ -48,7 +47,7 @@ eq_Equal Greater e = absurd (true≢false (sym e))
 pub nat_equal : (a b : ℕ) → is_eq (nat_cmp a b) ≡ true → a ≡ b
 nat_equal a b e = grind (arith, e)
 
-equal_number : (a b : Key) → is_eq (key_cmp a b) ≡ true → a.number ≡ b.number
+pub equal_number : (a b : Key) → is_eq (key_cmp a b) ≡ true → a.number ≡ b.number
 equal_number a b e =
     let places = nat_cmp a.place b.place in
     let numbers = ordering_then (nat_cmp a.number b.number) places in
@@ -72,7 +71,7 @@ not_and true = refl
 not_and false = refl
 
 -- no key of one number is among those of another
-has_none : (n : ℕ) (k : Key) → eqb n k.number ≡ false → (ks : List Key) → AllByRecursion (λ x. x.number ≡ n) ks → has_key k ks ≡ false
+pub has_none : (n : ℕ) (k : Key) → eqb n k.number ≡ false → (ks : List Key) → AllByRecursion (λ x. x.number ≡ n) ks → has_key k ks ≡ false
 has_none n k other [] all = refl
 has_none n k other (x ∷ xs) all =
     ⊎_elim

@@ -1,5 +1,5 @@
 -- The keys of links by index.
-use Rattle.std.proofs.Common.{◌≡◌, ℕ, ◌+◌, ◌<◌, List, [], ◌∷◌, length, get_or, None, pos, zero, suc, refl, ap, ◌∙◌, arith}
+use Rattle.std.proofs.Common.{◌≡◌, ℕ, ◌+◌, ◌<◌, List, [], ◌∷◌, length, get_or, None, pos, zero, suc, refl, ap, arith}
 use Rattle.mail_records.specs.Orders.{Key, link_keys_from}
 
 pub link_count : (n p : ℕ) (links : List (List ℕ)) → length (link_keys_from n p links) ≡ length links

@@ -1,5 +1,5 @@
 -- What stays as a history's floor moves up to the end of some of its entries.
-use Rattle.std.proofs.Common.{◌≡◌, ℕ, ◌+◌, ◌-◌, ◌≤◌, ◌^◌, not, eqb, suc, List, [], ◌∷◌, ◌++◌, take, map, length, Option, Some, None, refl, sym, ap, ◌∙◌, subst, arith, length-append}
+use Rattle.std.proofs.Common.{◌≡◌, ℕ, ◌+◌, ◌-◌, ◌≤◌, not, eqb, suc, List, [], ◌∷◌, ◌++◌, take, map, length, Option, Some, None, refl, sym, ap, ◌∙◌, subst, arith, length-append}
 use Rattle.std.specs.List.{AllByRecursion}
 use Rattle.std.proofs.lemmas.List.{map-append, length-map}
 use Rattle.jm_base.specs.declared.identifiers.Id.{Id}
@@ -62,7 +62,7 @@ content_at-moved_up h c k le =
 
 -- ---- states
 
-floors_are : (h : History) (kind : Kind) (k : ℕ) → floor_of (floors_at h k) kind ≡ state_at h kind k
+pub floors_are : (h : History) (kind : Kind) (k : ℕ) → floor_of (floors_at h k) kind ≡ state_at h kind k
 floors_are h OfMailbox k = refl
 floors_are h OfEmail k = refl
 floors_are h OfThread k = refl

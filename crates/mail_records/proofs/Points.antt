@@ -75,7 +75,7 @@ kept_none : (b : Bool) (e : Edit) (es : List Edit) → (if b then e ∷ es else 
 kept_none true e es h = absurd (cc)
 kept_none false e es h = (refl, h)
 
-with_none : (b : Bool) (o : Option ℕ) → place_with b o ≡ None → (b ≡ false) × (o ≡ None)
+pub with_none : (b : Bool) (o : Option ℕ) → place_with b o ≡ None → (b ≡ false) × (o ≡ None)
 with_none true None h = absurd (cc)
 with_none false None h = (refl, refl)
 with_none b (Some n) h = absurd (cc)
@@ -92,7 +92,7 @@ none_kept kind (e ∷ es) h =
     let parts = with_none (is_kind kind (kind_of e)) (last_place (is_kind_of kind) (map id_of es)) h in
     ap (λ b. if b then e ∷ edits_of_kind kind es else edits_of_kind kind es) parts.0 ∙ none_kept kind es parts.1
 
-abbrev place_in : Kind → List Edit → Option ℕ
+abbrev pub place_in : Kind → List Edit → Option ℕ
 place_in kind es = last_place (is_kind_of kind) (map id_of es)
 
 state_of-grown_by : (h : History) (kind : Kind) (more : List Entry) → state_of (grown_by h more) kind

@@ -1,5 +1,5 @@
 -- Lists that rise by an order R: what a put, a removal and a part of them come to.
-use Rattle.std.proofs.Common.{◌≡◌, ◌≢◌, ℕ, ◌+◌, ◌<◌, ◌≤◌, Bool, true, false, ◌||◌, ◌&&◌, not, List, [], ◌∷◌, ◌++◌, take, drop, insert, map, filter, length, get_or, zero, suc, refl, sym, ap, ap₂, ◌∙◌, subst, arith, take-append-drop, add-one, ⊎_elim}
+use Rattle.std.proofs.Common.{◌≡◌, ℕ, ◌+◌, ◌<◌, ◌≤◌, Bool, true, false, ◌||◌, ◌&&◌, not, List, [], ◌∷◌, ◌++◌, take, drop, insert, map, filter, length, get_or, zero, suc, refl, sym, ap, ap₂, ◌∙◌, subst, arith, take-append-drop, add-one, ⊎_elim}
 use Rattle.std.specs.List.{AllByRecursion, remove}
 use Rattle.std.specs.List.Sorted.{IsStrictlySortedBy, IsPartitionPoint}
 use Rattle.std.specs.declared.cmp.Ordering.{Ordering}
@@ -7,7 +7,7 @@ use Rattle.std.specs.declared.cmp.Ordering.TheVariants.{Less, Equal, Greater}
 use Rattle.std.specs.Ordering.{is_eq, is_lt, is_gt, ordering_reverse, match_ordering}
 use Rattle.std.specs.Cmp.{IsTotalOrder}
 use Rattle.std.proofs.lemmas.Bool.{cases_Bool, true≢false}
-use Rattle.std.proofs.lemmas.List.{drop_more, drop_all, take_all, map-append}
+use Rattle.std.proofs.lemmas.List.{drop_more, drop_all, map-append}
 use Rattle.std.proofs.lemmas.List.Kept.{IsStrictlySortedBy-filter}
 use Rattle.mail_records.specs.Orders.{has_by}
 use Rattle.mail_records.specs.OrderSteps.{IsPlaceBy, put_in, put_all_in, take_out, take_all_out}

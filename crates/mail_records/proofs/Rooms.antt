@@ -1,5 +1,5 @@
 -- Room in tables and orders, and what begins empty.
-use Rattle.std.proofs.Common.{◌≡◌, ℕ, ◌+◌, ◌-◌, ◌≤◌, List, [], ◌∷◌, Option, Some, None, length, min, refl, sym, ap, ◌∙◌, subst, arith}
+use Rattle.std.proofs.Common.{◌≡◌, ℕ, ◌+◌, ◌-◌, ◌≤◌, List, [], Option, Some, None, length, min, refl, sym, ap, ◌∙◌, subst, arith}
 use Rattle.std.specs.List.Sorted.{IsStrictlySortedBy}
 use Rattle.mail_records.specs.Tables.{lookup, put}
 use Rattle.mail_records.specs.Orders.{AreKeys, Key, any_key, key_of_role, keys_of}

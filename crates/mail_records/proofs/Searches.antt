@@ -1,5 +1,5 @@
 -- What a search in a table knows of the records around the place of a number.
-use Rattle.std.proofs.Common.{◌≡◌, ℕ, ◌+◌, ◌-◌, ◌<◌, ◌≤◌, true, false, eqb, List, [], ◌∷◌, ◌++◌, Some, take, drop, length, get_or, zero, suc, refl, sym, ap, ◌∙◌, subst, arith, ne_eqb, eq-eqb}
+use Rattle.std.proofs.Common.{◌≡◌, ℕ, ◌+◌, ◌<◌, ◌≤◌, true, false, eqb, List, [], ◌∷◌, ◌++◌, Some, take, drop, length, get_or, zero, suc, refl, sym, ap, ◌∙◌, subst, arith, ne_eqb, eq-eqb}
 use Rattle.std.specs.List.{AllByRecursion}
 use Rattle.std.proofs.lemmas.List.{take-append-le, drop-append-le, drop_all, length-append}
 use Rattle.mail_records.specs.Tables.{IsFrom, IsPlace, IsTable, lookup}

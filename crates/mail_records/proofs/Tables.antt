@@ -148,6 +148,15 @@ IsTable-without number n (x ∷ xs) table =
     (λ (s : eqb (number x) n ≡ false). rw s (All-kept (λ y. number x < number y) (λ y. not (eqb (number y) n)) xs table.0, IsTable-without number n xs table.1))
     (cases_Bool (eqb (number x) n))
 
+-- what is made of each record has its number
+pub IsTable-map : {R S : Type 0} (number : R → ℕ) (key : S → ℕ) (f : R → S) → ((x : R) → key (f x) ≡ number x) → (xs : List R) → IsTable number xs → IsTable key (map f xs)
+IsTable-map number key f same [] table = tt
+IsTable-map {R} {S} number key f same (x ∷ xs) table = (above xs table.0, IsTable-map number key f same xs table.1)
+  where
+    above : (ys : List R) → AllByRecursion (λ y. number x < number y) ys → AllByRecursion (λ z. key (f x) < key z) (map f ys)
+    above [] all = tt
+    above (y ∷ ys) all = (let one = same x in let other = same y in let lt = all.0 in omega (arith, one, other, lt), above ys all.1)
+
 -- A function over a table's records that keeps their numbers goes through a put and a removal.
 pub map_put : {R S : Type 0} (number : R → ℕ) (key : S → ℕ) (f : R → S) → ((x : R) → key (f x) ≡ number x) → (r : R) (xs : List R)
     → map f (put number r xs) ≡ put key (f r) (map f xs)

@@ -19,10 +19,11 @@ pub record Content : Type 0 where
   pub next_email : ℕ
   pub next_thread : ℕ
 
--- a content, and for how many edits there is room
+-- a content, for how many edits there is room, and how many of them may put an email
 pub record Held : Type 0 where
   pub content : Content
   pub spare : ℕ
+  pub email_spare : ℕ
 
 -- no record, and the first number of each kind is 1
 abbrev pub empty_content : Content

@@ -100,6 +100,16 @@ IsSmall (PutEmail item was) =
     × (length item.summary.links ≤ MAX_LINKS_PER_EMAIL)
 IsSmall _ = ⊤
 
+-- how many emails an edit puts
+abbrev pub puts_of : Edit → ℕ
+puts_of (PutEmail item was) = 1
+puts_of _ = 0
+
+-- how many of these edits put an email
+abbrev pub email_puts : List Edit → ℕ
+email_puts [] = 0
+email_puts (e ∷ es) = puts_of e + email_puts es
+
 -- there is a 64-bit number after the next one of the edit's kind
 abbrev pub HasNext : Content → Edit → Type 0
 HasNext c e = next_of c (kind_of e) + 1 < 2 ^ 64

@@ -9,3 +9,4 @@ pub mod OrderSteps
 pub mod Laws
 pub mod Views
 pub mod FloorMoves
+pub mod Waiting

@@ -7,7 +7,7 @@ use Rattle.std.specs.Ordering.{match_ordering, ordering_then, nat_cmp, int_cmp, 
 use Rattle.std.specs.Option.{option_cmp}
 use Rattle.std.specs.Cmp.Lexicographic.{slice_cmp}
 use Rattle.mail_records.specs.Tables.{without}
-use Rattle.mail_records.specs.Orders.{Key}
+use Rattle.mail_records.specs.Orders.{Key, key_cmp}
 
 -- with this item at its index, if none is equal to it
 abbrev pub put_in : {K : Type 0} → (K → K → Ordering) → K → List K → List K
@@ -34,6 +34,10 @@ pub record IsPlaceBy {E K : Type 0} (R : K → K → Ordering) (f : E → K) (k 
   pub within : i ≤ length es
   pub before : AllByRecursion (λ e. is_lt (R (f e) k) ≡ true) (take i es)
   pub from : AllByRecursion (λ e. is_lt (R (f e) k) ≡ false) (drop i es)
+
+-- the order of two entries by their keys
+abbrev pub compare_by : {E : Type 0} → (E → Key) → E → E → Ordering
+compare_by f a b = key_cmp (f a) (f b)
 
 -- the records without that of this number, if it moves
 abbrev pub rows_besides : {R : Type 0} → Bool → (R → ℕ) → ℕ → List R → List R

@@ -2,6 +2,7 @@
 -- a record's number.
 use Rattle.std.specs.Prelude.{ℕ, ◌<◌, ◌≤◌, not, nat_lt, ◌==◌, if◌then◌else◌, List, [], ◌∷◌, length, take, drop, Option, Some, None, filter, ⊤}
 use Rattle.std.specs.List.{AllByRecursion}
+use Rattle.jm_base.specs.Splices.{has}
 
 -- the record of a number
 abbrev pub lookup : {R : Type 0} → (R → ℕ) → ℕ → List R → Option R
@@ -19,6 +20,10 @@ put number r (x ∷ xs) =
 -- without the record of this number
 abbrev pub without : {R : Type 0} → (R → ℕ) → ℕ → List R → List R
 without number n rs = filter (λ r. not (number r == n)) rs
+
+-- without the records of these numbers
+abbrev pub without_all : {R : Type 0} → (R → ℕ) → List ℕ → List R → List R
+without_all number ns rs = filter (λ r. not (has ns (number r))) rs
 
 -- the numbers rise strictly: each record is there once
 abbrev pub IsTable : {R : Type 0} → (R → ℕ) → List R → Type 0

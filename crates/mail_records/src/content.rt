@@ -1,12 +1,13 @@
 // The content of an account: a table of each kind of record, and the next numbers.
 ghost use Rattle.std.specs.Prelude.{◌≡◌, ◌+◌, ◌*◌, ◌<◌, ◌≤◌, ◌^◌, false, Some, None, OnOk, OnErr, IfOk, MatchOption, length, map};
 ghost use Rattle.mail_records.specs.Contents.{blob_of, mailbox_number, email_number, thread_number, mailbox_at, email_at, thread_at, next_of, empty_content};
-ghost use Rattle.mail_records.specs.Edits.{Fits, HasNext, IsSmall, after_edit};
+ghost use Rattle.mail_records.specs.Edits.{Fits, HasNext, IsSmall, after_edit, email_puts, puts_of};
 ghost use Rattle.mail_records.specs.Orders.{AreByReceived, AreChildren, AreChildrenNamed, AreInMailbox, AreInThread, AreWithLink, AreWithRole};
 ghost use Rattle.mail_records.specs.Tables.{IsTable};
 ghost use Rattle.jm_base.specs.declared.limits.TheConstants.{MAX_MAILBOXES_PER_EMAIL};
 ghost use Rattle.mail_records.specs.declared.limits.TheConstants.{MAX_LINKS_PER_EMAIL};
 
+use crate::edits::count_email_puts;
 use crate::emails::Emails;
 use crate::limits::MAX_LINKS_PER_EMAIL;
 use crate::mailboxes::Mailboxes;
@@ -18,7 +19,8 @@ use std::alloc::Global;
 use std::marker::Model;
 
 /// The mailboxes, emails and threads of an account, each by number, and the next number of each
-/// kind. Contracts also see `spare`: for how many edits room is reserved.
+/// kind. Contracts also see for how many edits room is reserved, and how many of them may put an
+/// email.
 #[derive(Drop)]
 pub struct Content {
     pub(crate) mailboxes: Mailboxes,
@@ -46,10 +48,10 @@ impl Model for Content {
         next_email = c.next_email;
         next_thread = c.next_thread;
       };
-      spare = min c.mailboxes.spare
-          (min c.emails.spare
+      spare = min c.mailboxes.spare c.threads.spare;
+      email_spare = min c.emails.spare
           (min (c.emails.placed / MAX_MAILBOXES_PER_EMAIL)
-          (min (c.emails.linked / MAX_LINKS_PER_EMAIL) c.threads.spare)));
+          (c.emails.linked / MAX_LINKS_PER_EMAIL));
     } };
 }
 
@@ -66,6 +68,41 @@ impl Content {
             next_email: 1,
             next_thread: 1,
         }
+    }
+
+    /// Returns the content of these records and next numbers. Each list is in number order. Each
+    /// order of the content is sorted once.
+    pub fn of(
+        alloc: Global,
+        mailboxes: Vec<Mailbox>,
+        emails: Vec<Email>,
+        threads: Vec<Thread>,
+        next_mailbox: u64,
+        next_email: u64,
+        next_thread: u64,
+    ) -> Result<Content, NoMemory>
+        requires mailboxes { IsTable mailbox_number mailboxes.items }
+        requires emails { IsTable email_number emails.items }
+        requires threads { IsTable thread_number threads.items }
+        ensures { IfOk result (λ c. c.content ≡ record {
+          mailboxes = mailboxes.items;
+          emails = emails.items;
+          threads = threads.items;
+          next_mailbox = next_mailbox;
+          next_email = next_email;
+          next_thread = next_thread;
+        }) }
+    {
+        let mailboxes = Mailboxes::from_rows(alloc, mailboxes)?;
+        let emails = Emails::from_rows(alloc, emails)?;
+        Ok(Content {
+            mailboxes,
+            emails,
+            threads: Table::from_rows(threads),
+            next_mailbox,
+            next_email,
+            next_thread,
+        })
     }
 
     /// Returns a copy of the content, in memory of its own.
@@ -190,7 +227,7 @@ impl Content {
     }
 
     /// Lends the emails in a mailbox in the order of the time received, then number.
-    pub fn find_in_mailbox(&self, mailbox: u64) -> &[Placed]
+    pub fn in_mailbox(&self, mailbox: u64) -> &[Placed]
         ensures { AreInMailbox self.now.content mailbox result.now }
     {
         self.emails.find_in_mailbox(mailbox)
@@ -208,21 +245,25 @@ impl Content {
     pub fn reserve(&mut self, edits: &[Edit]) -> Result<(), NoMemory>
         ensures same { self.new.content ≡ self.old.content }
         ensures spare { OnOk result (length edits.now ≤ self.new.spare) }
-        ensures no_less { self.old.spare ≤ self.new.spare }
+        ensures email_spare { OnOk result (email_puts edits.now ≤ self.new.email_spare) }
+        ensures no_less { (self.old.spare ≤ self.new.spare)
+            × (self.old.email_spare ≤ self.new.email_spare) }
     {
-        self.make_room(edits.len())
+        self.make_room(edits.len(), count_email_puts(edits))
     }
 
-    // Makes room for so many edits.
-    fn make_room(&mut self, edits: usize) -> Result<(), NoMemory>
+    // Makes room for so many edits, of which so many put an email.
+    fn make_room(&mut self, edits: usize, puts: usize) -> Result<(), NoMemory>
         ensures same { self.new.content ≡ self.old.content }
         ensures spare { OnOk result (edits ≤ self.new.spare) }
-        ensures no_less { self.old.spare ≤ self.new.spare }
+        ensures email_spare { OnOk result (puts ≤ self.new.email_spare) }
+        ensures no_less { (self.old.spare ≤ self.new.spare)
+            × (self.old.email_spare ≤ self.new.email_spare) }
     {
-        let placed = multiply_counts(edits, MAX_MAILBOXES_PER_EMAIL as usize)?;
-        let linked = multiply_counts(edits, MAX_LINKS_PER_EMAIL as usize)?;
+        let placed = multiply_counts(puts, MAX_MAILBOXES_PER_EMAIL as usize)?;
+        let linked = multiply_counts(puts, MAX_LINKS_PER_EMAIL as usize)?;
         self.mailboxes.reserve(edits)?;
-        self.emails.reserve(edits, placed, linked)?;
+        self.emails.reserve(puts, placed, linked)?;
         self.threads.reserve(edits)?;
         Ok(())
     }
@@ -233,6 +274,7 @@ impl Content {
         ensures content { self.new.content ≡ after_edit self.old.content
             (Edit.PutMailbox item was false) }
         ensures spare { self.old.spare ≤ self.new.spare + 1 }
+        ensures email_spare { self.old.email_spare ≤ self.new.email_spare }
     {
         if !was {
             self.next_mailbox = item.number + 1;
@@ -241,12 +283,13 @@ impl Content {
     }
 
     fn put_email(&mut self, item: Email, was: bool)
-        requires room { 1 ≤ self.old.spare }
+        requires room { 1 ≤ self.old.email_spare }
         requires mailboxes { length item.mailboxes ≤ MAX_MAILBOXES_PER_EMAIL }
         requires links { length item.summary.links ≤ MAX_LINKS_PER_EMAIL }
         requires next { was ≡ false → item.number + 1 < 2 ^ 64 }
         ensures content { self.new.content ≡ after_edit self.old.content (Edit.PutEmail item was) }
-        ensures spare { self.old.spare ≤ self.new.spare + 1 }
+        ensures spare { self.old.spare ≤ self.new.spare }
+        ensures email_spare { self.old.email_spare ≤ self.new.email_spare + 1 }
     {
         if !was {
             self.next_email = item.number + 1;
@@ -259,6 +302,7 @@ impl Content {
         requires next { was ≡ false → item.number + 1 < 2 ^ 64 }
         ensures content { self.new.content ≡ after_edit self.old.content (Edit.PutThread item was) }
         ensures spare { self.old.spare ≤ self.new.spare + 1 }
+        ensures email_spare { self.old.email_spare ≤ self.new.email_spare }
     {
         if !was {
             self.next_thread = item.number + 1;
@@ -291,7 +335,7 @@ impl Content {
         ensures ok { OnOk result (self.new.content ≡ after_edit self.old.content edit) }
         ensures err { OnErr result (self.new.content ≡ self.old.content) }
     {
-        self.make_room(1)?;
+        self.make_room(1, 0)?;
         match edit {
             Edit::PutMailbox { item, was, .. } => Ok(self.put_mailbox(item, was)),
             Edit::DropMailbox { number } => Ok(self.mailboxes.take_out(number)),
@@ -305,11 +349,13 @@ impl Content {
     /// Applies an edit that fits, for which room is reserved. Allocates nothing.
     pub fn apply_ready(&mut self, edit: Edit)
         requires room { 1 ≤ self.old.spare }
+        requires email_room { puts_of edit ≤ self.old.email_spare }
         requires fits { Fits self.old.content edit }
         requires next { HasNext self.old.content edit }
         requires small { IsSmall edit }
         ensures content { self.new.content ≡ after_edit self.old.content edit }
         ensures spare { self.old.spare ≤ self.new.spare + 1 }
+        ensures email_spare { self.old.email_spare ≤ self.new.email_spare + puts_of edit }
     {
         match edit {
             Edit::PutMailbox { item, was, .. } => self.put_mailbox(item, was),

@@ -1,6 +1,7 @@
 // Edits, and the commits that they come in.
 
 ghost use Rattle.std.specs.Prelude.{◌≡◌, IfOk};
+ghost use Rattle.mail_records.specs.Edits.{email_puts};
 
 use crate::{Email, Mailbox, Record, Thread};
 use jm_base::{Blobs, Kind, NoMemory, Sequence};
@@ -42,7 +43,7 @@ pub enum Edit {
 }
 
 impl Edit {
-    ghost use Rattle.mail_records.specs.Edits.{kind_of};
+    ghost use Rattle.mail_records.specs.Edits.{kind_of, puts_of};
 
     /// Returns the kind of the record that the edit puts or drops.
     pub fn kind(&self) -> Kind
@@ -52,6 +53,20 @@ impl Edit {
             Edit::PutMailbox { .. } | Edit::DropMailbox { .. } => Kind::Mailbox,
             Edit::PutEmail { .. } | Edit::DropEmail { .. } => Kind::Email,
             Edit::PutThread { .. } | Edit::DropThread { .. } => Kind::Thread,
+        }
+    }
+
+    // Returns how many emails the edit puts: one or none.
+    fn count_puts(&self) -> usize
+        ensures { result ≡ puts_of self.now }
+    {
+        match self {
+            Edit::PutEmail { .. } => 1,
+            Edit::PutMailbox { .. }
+            | Edit::DropMailbox { .. }
+            | Edit::DropEmail { .. }
+            | Edit::PutThread { .. }
+            | Edit::DropThread { .. } => 0,
         }
     }
 
@@ -81,6 +96,17 @@ impl Edit {
             Edit::DropThread { number } => Ok(Edit::DropThread { number: *number }),
         }
     }
+}
+
+/// Returns how many of these edits put an email.
+pub(crate) fn count_email_puts(edits: &[Edit]) -> usize
+    ensures { result ≡ email_puts edits.now }
+{
+    let mut count = 0;
+    for edit in edits {
+        count += edit.count_puts();
+    }
+    count
 }
 
 /// A list of edits, in the order in which they are applied.

@@ -3,9 +3,12 @@
 ghost use Rattle.std.specs.Prelude.{◌≡◌, ◌+◌, ◌≤◌, [], None, Some, OnOk, IfOk, ◌&&◌, length, map};
 ghost use Rattle.mail_records.specs.Contents.{blob_of, email_number};
 ghost use Rattle.mail_records.specs.Orders.{AreKeys, any_key, has_text, is_in_group, keys_of, dated_key, dated_owner, link_keys, linked_key, linked_owner, mailbox_keys, placed_key, placed_owner, received_keys, thread_keys, threaded_key, threaded_owner};
-ghost use Rattle.mail_records.specs.Tables.{put, without};
+ghost use Rattle.mail_records.specs.Tables.{IsTable, put, without, without_all};
+ghost use Rattle.std.specs.List.Sorted.{IsStrictlyIncreasing};
 
 use crate::entries::{Dated, EmailBlob, Linked, Placed, Threaded};
+use crate::fills::fill;
+use crate::order_drops::forget_all;
 use crate::orders::{copy_entries, find_group_entries, forget, leave, settle, with_text};
 use crate::{Email, Record, Table};
 use jm_base::NoMemory;
@@ -53,6 +56,20 @@ impl Model for Emails {
         (keys_of email_number linked_owner linked_key e.table.rows e.by_link.items) };
 }
 
+// Returns the number of each email with that of its blob, in number order.
+fn collect_blobs(alloc: Global, rows: &[Email]) -> Result<Vec<EmailBlob>, NoMemory>
+    ensures { IfOk result (λ v. v.items ≡ map blob_of rows.now) }
+{
+    let mut all = Vec::with_capacity(alloc, rows.len())?;
+    for email in rows {
+        all.push(EmailBlob {
+            email: email.number,
+            blob: email.blob,
+        })?;
+    }
+    Ok(all)
+}
+
 impl Emails {
     /// Returns no emails. It takes no memory.
     pub(crate) fn new(alloc: Global) -> Emails
@@ -66,6 +83,27 @@ impl Emails {
             by_mailbox: Vec::new(alloc),
             by_link: Vec::new(alloc),
         }
+    }
+
+    /// Returns these emails, which are in number order. Each of their orders is sorted once.
+    pub(crate) fn from_rows(alloc: Global, rows: Vec<Email>) -> Result<Emails, NoMemory>
+        requires { IsTable email_number rows.items }
+        ensures { IfOk result (λ e. e.rows ≡ rows.items) }
+    {
+        let blobs = Table::from_rows(collect_blobs(alloc, &rows)?);
+        let table = Table::from_rows(rows);
+        let by_received = fill(alloc, &table)?;
+        let by_thread = fill(alloc, &table)?;
+        let by_mailbox = fill(alloc, &table)?;
+        let by_link = fill(alloc, &table)?;
+        Ok(Emails {
+            table,
+            blobs,
+            by_received,
+            by_thread,
+            by_mailbox,
+            by_link,
+        })
     }
 
     /// Copies the emails into memory of their own.
@@ -165,6 +203,22 @@ impl Emails {
         forget(&self.table, &mut self.by_link, number);
         self.table.take_out(number);
         self.blobs.take_out(number);
+    }
+
+    /// Takes the emails of these numbers out, which rise, in one pass.
+    pub(crate) fn take_out_all(&mut self, numbers: &[u64])
+        requires { IsStrictlyIncreasing numbers.now }
+        ensures rows { self.new.rows ≡ without_all email_number numbers.now self.old.rows }
+        ensures spare { self.old.spare ≤ self.new.spare }
+        ensures placed { self.old.placed ≤ self.new.placed }
+        ensures linked { self.old.linked ≤ self.new.linked }
+    {
+        forget_all(&self.table, &mut self.by_received, numbers);
+        forget_all(&self.table, &mut self.by_thread, numbers);
+        forget_all(&self.table, &mut self.by_mailbox, numbers);
+        forget_all(&self.table, &mut self.by_link, numbers);
+        self.table.take_out_all(numbers);
+        self.blobs.take_out_all(numbers);
     }
 
     /// Lends all emails in the order of the time received, then number.

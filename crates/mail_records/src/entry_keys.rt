@@ -76,6 +76,10 @@ impl Entry<Mailbox> for Named {
 
     ghost keys = { name_keys };
 
+    fn owner(&self) -> u64 {
+        self.mailbox
+    }
+
     fn key_in<'a>(&self, table: &'a Table<Mailbox>) -> SortKey<'a> {
         if let Some(mailbox) = table.get(self.mailbox) {
             return SortKey {
@@ -125,6 +129,10 @@ impl Entry<Mailbox> for Roled {
 
     ghost keys = { role_keys };
 
+    fn owner(&self) -> u64 {
+        self.mailbox
+    }
+
     fn key_in<'a>(&self, table: &'a Table<Mailbox>) -> SortKey<'a> {
         if let Some(mailbox) = table.get(self.mailbox) {
             return build_text_key(find_role_text(mailbox), self.mailbox, 0);
@@ -161,6 +169,10 @@ impl Entry<Email> for Dated {
 
     ghost keys = { received_keys };
 
+    fn owner(&self) -> u64 {
+        self.email
+    }
+
     fn key_in<'a>(&self, _table: &'a Table<Email>) -> SortKey<'a> {
         build_bare_key(self.received, self.email, 0)
     }
@@ -191,6 +203,10 @@ impl Entry<Email> for Threaded {
     ghost key = { threaded_key };
 
     ghost keys = { thread_keys };
+
+    fn owner(&self) -> u64 {
+        self.email
+    }
 
     fn key_in<'a>(&self, _table: &'a Table<Email>) -> SortKey<'a> {
         build_group_key(self.thread, self.received, self.email)
@@ -223,6 +239,10 @@ impl Entry<Email> for Placed {
     ghost key = { placed_key };
 
     ghost keys = { mailbox_keys };
+
+    fn owner(&self) -> u64 {
+        self.email
+    }
 
     fn key_in<'a>(&self, _table: &'a Table<Email>) -> SortKey<'a> {
         build_group_key(self.mailbox, self.received, self.email)
@@ -290,6 +310,10 @@ impl Entry<Email> for Linked {
     ghost key = { linked_key };
 
     ghost keys = { link_keys };
+
+    fn owner(&self) -> u64 {
+        self.email
+    }
 
     fn key_in<'a>(&self, table: &'a Table<Email>) -> SortKey<'a> {
         if let Some(email) = table.get(self.email) {

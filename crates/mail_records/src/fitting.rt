@@ -1,15 +1,17 @@
 // Whether edits fit a content and keep the threads of emails, and lists of edits applied whole.
 ghost use Rattle.std.specs.Prelude.{◌≡◌, ◌↔◌, ◌+◌, ◌≤◌, ◌<◌, ⊤, Some, None, IsTrue, true, is_some, IfOk, MatchOption, length};
 ghost use Rattle.mail_records.specs.Contents.{email_number};
-ghost use Rattle.mail_records.specs.Edits.{AllFit, AllKeepThread, Fits, HasNumbers, IsSmall, KeepsThread, PutFits, after_edits};
+ghost use Rattle.mail_records.specs.Edits.{AllFit, AllKeepThread, Fits, HasNumbers, IsSmall, KeepsThread, PutFits, after_edits, email_puts};
 ghost use Rattle.mail_records.specs.Tables.{lookup};
 ghost use Rattle.mail_records.specs.declared.records.Email.{Email as TheEmail};
 ghost use Rattle.std.specs.List.{AllByRecursion};
 
-use crate::{Content, Edit, Edits, Email, Record, Table, apply};
+use crate::waiting::Waiting;
+use crate::{Content, Edit, Edits, Email, Record, Table};
 use jm_base::NoMemory;
 use std::alloc::Global;
 use std::collections::VecDeque;
+use std::mem;
 
 fn put_fits<R: Record>(table: &Table<R>, number: u64, was: bool, next: u64) -> bool
     ensures { IsTrue result ↔ PutFits (is_some
@@ -99,19 +101,25 @@ pub fn keeps_thread(content: &Content, edit: &Edit) -> bool
 }
 
 /// Applies edits of which each fits the content before it, and for which room is reserved. It
-/// takes no memory.
+/// needs no memory: where there is some, many removals are one pass over the records.
 pub fn apply_all_ready(content: &mut Content, edits: Edits)
     requires room { length edits ≤ content.old.spare }
+    requires email_room { email_puts edits ≤ content.old.email_spare }
     requires fits { AllFit content.old.content edits }
     requires next { HasNumbers (length edits) content.old.content }
     requires small { AllByRecursion IsSmall edits }
     ensures content { content.new.content ≡ after_edits content.old.content edits }
     ensures spare { content.old.spare ≤ content.new.spare + length edits }
+    ensures email_spare { content.old.email_spare ≤ content.new.email_spare + email_puts edits }
 {
-    let mut rest = VecDeque::from_vec(edits.into_vec());
+    let list = edits.into_vec();
+    let alloc = *list.allocator();
+    let mut waiting = Waiting::new(alloc, mem::replace(content, Content::new(alloc)));
+    let mut rest = VecDeque::from_vec(list);
     while let Some(edit) = rest.pop_front() {
-        content.apply_ready(edit);
+        waiting.apply_ready(edit);
     }
+    *content = waiting.finish();
 }
 
 /// What comes of edits of which each fits the content before it.
@@ -124,10 +132,12 @@ pub struct Applied {
 }
 
 // Returns whether the edits up to one kept the threads of their emails, and this one does.
-fn has_kept_threads(before: bool, content: &Content, edit: &Edit) -> bool
-    ensures { IsTrue result ↔ (IsTrue before × KeepsThread content.now.content edit.now) }
+fn has_kept_threads(before: bool, waiting: &mut Waiting, edit: &Edit) -> bool
+    ensures same { waiting.new.content ≡ waiting.old.content }
+    ensures kept { IsTrue result ↔ (IsTrue before × KeepsThread waiting.old.content edit.now) }
 {
-    before && keeps_thread(content, edit)
+    let keeps = waiting.keeps_thread(edit);
+    before && keeps
 }
 
 /// Applies edits one after the other, or returns None if one of them doesn't fit the content before
@@ -145,17 +155,17 @@ pub fn apply_fitting(
     ensures threads { IfOk result (λ o. MatchOption o ⊤
         (λ a. IsTrue a.keeps_threads ↔ AllKeepThread content.content edits.now)) }
 {
-    let mut made = content;
+    let mut waiting = Waiting::new(alloc, content);
     let mut keeps_threads = true;
     for edit in edits {
-        if !fits(&made, edit) {
+        if !waiting.fits(edit) {
             return Ok(None);
         }
-        keeps_threads = has_kept_threads(keeps_threads, &made, edit);
-        apply(alloc, &mut made, edit)?;
+        keeps_threads = has_kept_threads(keeps_threads, &mut waiting, edit);
+        waiting.apply(alloc, edit)?;
     }
     Ok(Some(Applied {
-        content: made,
+        content: waiting.finish(),
         keeps_threads,
     }))
 }

@@ -1,6 +1,6 @@
 // What holds of all histories: laws of the definitions, each as the contract of a function that
 // does nothing.
-ghost use Rattle.std.specs.Prelude.{◌≡◌, ◌+◌, ◌++◌, ◌<◌, ◌≤◌, Bool, ℕ, List, [], drop, length};
+ghost use Rattle.std.specs.Prelude.{◌≡◌, ◌+◌, ◌++◌, ◌<◌, ◌≤◌, ◌↔◌, Bool, ℕ, List, [], drop, length};
 ghost use Rattle.std.specs.List.{AllByRecursion};
 ghost use Rattle.jm_base.specs.declared.identifiers.Kind.{Kind};
 ghost use Rattle.mail_records.specs.Contents.{AreNumbered, AreTables, NextAtMost, SameRecords, email_number, mailbox_number};
@@ -114,6 +114,21 @@ pub fn records_stay_below_a_floor_that_moved_up()
     ensures { (h : History) (kind : Kind) (c k : ℕ) → FloorsAtMost h.floors h.floor
         → state_at h kind (end_after h c) ≤ k → k ≤ end_after h c
         → SameRecords kind (content_at (moved_up h c) k) (content_at h k) }
+{}
+
+/// If the floor of a history moves up to the end of its first entries, the states of a kind are as
+/// before from the kind's new floor position on, and so are its edits after each such position. So
+/// what was touched since a state that is still reached is the same.
+pub fn edits_and_states_outlast_a_floor()
+    ensures edits { (h : History) (kind : Kind) (c from upto : ℕ)
+        → state_at h kind (end_after h c) ≤ from
+        → edits_of_kind kind (edits_between (moved_up h c) from upto)
+        ≡ edits_of_kind kind (edits_between h from upto) }
+    ensures state { (h : History) (kind : Kind) (c k : ℕ) → FloorsAtMost h.floors h.floor
+        → state_at h kind (end_after h c) ≤ k
+        → state_at (moved_up h c) kind k ≡ state_at h kind k }
+    ensures reached { (h : History) (kind : Kind) (c s : ℕ) → Reaches (moved_up h c) kind s
+        ↔ (state_at h kind (end_after h c) ≤ s) × (s ≤ end_of h) }
 {}
 
 /// Each record that an edit of a history names has a number from 1 and below its kind's next one.

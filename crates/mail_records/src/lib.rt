@@ -8,17 +8,21 @@
 
 mod content;
 mod copies;
+mod dropped;
 mod edits;
 mod emails;
 mod entries;
 mod entry_keys;
+mod fills;
 mod fitting;
 mod laws;
 mod limits;
 mod mailboxes;
+mod order_drops;
 mod orders;
 mod records;
 mod table;
+mod waiting;
 
 pub use content::{Content, apply};
 pub use edits::{Commit, Edit, Edits, Stamp, copy_edits};

@@ -2,9 +2,10 @@
 ghost use Rattle.std.specs.Prelude.{◌≡◌, ◌+◌, ◌≤◌, [], None, OnOk, IfOk, ◌&&◌};
 ghost use Rattle.mail_records.specs.Contents.{mailbox_number};
 ghost use Rattle.mail_records.specs.Orders.{AreKeys, has_text, is_in_group, keys_of, name_keys, named_key, named_owner, role_keys, roled_key, roled_owner};
-ghost use Rattle.mail_records.specs.Tables.{put, without};
+ghost use Rattle.mail_records.specs.Tables.{IsTable, put, without};
 
 use crate::entries::{Named, Roled};
+use crate::fills::fill;
 use crate::orders::{copy_entries, find_group_entries, forget, leave, settle, with_text};
 use crate::{Mailbox, Record, Table};
 use jm_base::NoMemory;
@@ -51,6 +52,21 @@ impl Mailboxes {
             by_name: Vec::new(alloc),
             by_role: Vec::new(alloc),
         }
+    }
+
+    /// Returns these mailboxes, which are in number order. Each of their orders is sorted once.
+    pub(crate) fn from_rows(alloc: Global, rows: Vec<Mailbox>) -> Result<Mailboxes, NoMemory>
+        requires { IsTable mailbox_number rows.items }
+        ensures { IfOk result (λ m. m.rows ≡ rows.items) }
+    {
+        let table = Table::from_rows(rows);
+        let by_name = fill(alloc, &table)?;
+        let by_role = fill(alloc, &table)?;
+        Ok(Mailboxes {
+            table,
+            by_name,
+            by_role,
+        })
     }
 
     /// Copies the mailboxes into memory of their own.

@@ -46,6 +46,10 @@ pub(crate) trait Entry<R: Record>: Copy {
 
     ghost keys: { R → List Key };
 
+    /// Returns the number of the entry's record.
+    fn owner(&self) -> u64
+        ensures { result ≡ owner self.now };
+
     /// Returns the key of the entry, whose record is looked up in the table where the key needs it.
     fn key_in<'a>(&self, table: &'a Table<R>) -> SortKey<'a>
         ensures { result ≡ key (lookup R.number (owner self.now) table.now.rows) self.now };
@@ -72,8 +76,8 @@ pub(crate) trait Entry<R: Record>: Copy {
     ghost keys_number: { (r : R) → AllByRecursion (λ k. k.number ≡ R.number r) (keys r) };
 }
 
-// Compares two keys.
-fn compare(one: &SortKey, other: &SortKey) -> Ordering
+/// Compares two keys.
+pub(crate) fn compare(one: &SortKey, other: &SortKey) -> Ordering
     ensures { result ≡ key_cmp one.now other.now }
 {
     match compare_prefix(one, other.group, other.text) {

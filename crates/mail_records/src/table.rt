@@ -1,9 +1,12 @@
 // A finite map from numbers to records: the records in number order in a vector, with room that may
 // be ready for more.
-ghost use Rattle.std.specs.Prelude.{◌≡◌, ◌+◌, ◌<◌, ◌≤◌, ℕ, [], Some, None, OnOk, IfOk, IfSome, MatchOption, take, insert, remove, slice_set, vec_len, vec_capacity};
+ghost use Rattle.std.specs.Prelude.{◌≡◌, ◌+◌, ◌<◌, ◌≤◌, not, ℕ, [], Some, None, OnOk, IfOk, IfSome, MatchOption, take, insert, remove, slice_set, vec_len, vec_capacity};
 ghost use Rattle.std.specs.List.{AllByRecursion};
-ghost use Rattle.mail_records.specs.Tables.{IsFrom, IsPlace, IsTable, lookup, put, without};
+ghost use Rattle.mail_records.specs.Tables.{IsFrom, IsPlace, IsTable, lookup, put, without, without_all};
+ghost use Rattle.std.specs.List.Sorted.{IsStrictlyIncreasing};
+ghost use Rattle.jm_base.specs.Splices.{has};
 
+use crate::dropped::is_among;
 use jm_base::NoMemory;
 use std::alloc::Global;
 use std::marker::Model;
@@ -165,6 +168,21 @@ fn take_out<R: Record>(rows: &mut Vec<R>, number: u64)
     }
 }
 
+// Takes the records of these numbers out, which rise.
+fn take_out_all<R: Record>(rows: &mut Vec<R>, numbers: &[u64])
+    requires { IsStrictlyIncreasing numbers.now }
+    ensures items { rows.new.items ≡ without_all R.number numbers.now rows.old.items }
+    ensures len { vec_len rows.new ≤ vec_len rows.old }
+    ensures capacity { vec_capacity rows.new ≡ vec_capacity rows.old }
+{
+    rows.retain(
+        |row|
+            ensures { IsStrictlyIncreasing numbers.entry.now → result
+                ≡ not (has numbers.entry.now (R.number row.now)) }
+        { !is_among(numbers, row.number()) },
+    );
+}
+
 // Returns a copy of the records, in memory of its own.
 fn collect_row_copies<R: Record>(alloc: Global, rows: &[R]) -> Result<Vec<R>, NoMemory>
     ensures { IfOk result (λ v. v.items ≡ rows.now) }
@@ -204,6 +222,14 @@ impl<R: Record> Table<R> {
         Table {
             rows: Vec::new(alloc),
         }
+    }
+
+    /// Returns the table of these records, which are in number order.
+    pub fn from_rows(rows: Vec<R>) -> Table<R>
+        requires { IsTable R.number rows.items }
+        ensures { result.rows ≡ rows.items }
+    {
+        Table { rows }
     }
 
     /// Returns a copy of the table, in memory of its own.
@@ -256,5 +282,14 @@ impl<R: Record> Table<R> {
         ensures spare { self.old.spare ≤ self.new.spare }
     {
         take_out(&mut self.rows, number);
+    }
+
+    /// Takes the records of these numbers out, which rise, in one pass.
+    pub fn take_out_all(&mut self, numbers: &[u64])
+        requires { IsStrictlyIncreasing numbers.now }
+        ensures rows { self.new.rows ≡ without_all R.number numbers.now self.old.rows }
+        ensures spare { self.old.spare ≤ self.new.spare }
+    {
+        take_out_all(&mut self.rows, numbers);
     }
 }

@@ -69,7 +69,7 @@ fn find_first_with_link(content: &Content, link: &Text, subject: &Text) -> Optio
 /// takes no memory.
 ///
 /// [`thread_of`]: crate::thread_of
-pub fn find_joined_thread(content: &Content, summary: &Summary) -> Option<u64>
+pub fn thread_in(content: &Content, summary: &Summary) -> Option<u64>
     ensures { result ≡ joined_thread content.now.content.emails summary.now }
 {
     let _emails = content.emails();

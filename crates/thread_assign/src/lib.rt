@@ -3,7 +3,7 @@
 //! A new email joins the thread of the least numbered email that names a message id in common with
 //! it and has the same subject, without the prefixes of replies and forwards. Without such an email
 //! it begins a thread of its own. [`thread_of`] looks through a list of emails;
-//! [`find_joined_thread`] looks up the links of the new email in a content, and answers the same.
+//! [`thread_in`] looks up the links of the new email in a content, and answers the same.
 #![tactic(auto)]
 
 mod by_links;
@@ -11,6 +11,6 @@ mod candidates;
 mod laws;
 mod rule;
 
-pub use by_links::find_joined_thread;
+pub use by_links::thread_in;
 pub use laws::least_related_email_decides;
 pub use rule::thread_of;

@@ -1,4 +1,4 @@
-use Rattle.std.proofs.Common.{◌≡◌, Some, None, refl, ap, ◌∙◌}
+use Rattle.std.proofs.Common.{refl, ap, ◌∙◌}
 use Rattle.mail_records.specs.Tables.{lookup, without}
 use Rattle.mail_records.proofs.KeyTables.{left, same_tables, lookups_absent, lookup_number}
 use Rattle.mail_records.proofs.orders.forget.Goals as goal

@@ -1,4 +1,4 @@
-use Rattle.std.proofs.Common.{◌≡◌, Some, None, refl, sym, ap, ◌∙◌}
+use Rattle.std.proofs.Common.{◌≡◌, None, sym, ap, ◌∙◌}
 use Rattle.mail_records.specs.Tables.{lookup, put, without}
 use Rattle.mail_records.proofs.KeyTables.{same_tables, lookups_absent, lookups_put, lookup_number}
 use Rattle.mail_records.proofs.orders.leave.Goals as goal

@@ -1,4 +1,3 @@
-use Rattle.std.proofs.Common.{◌≡◌, true, refl, ◌∙◌}
 use Rattle.mail_records.specs.Tables.{put, without}
 use Rattle.mail_records.proofs.KeyTables.{kept, left, lookups_put}
 use Rattle.mail_records.proofs.orders.leave_for.Goals as goal

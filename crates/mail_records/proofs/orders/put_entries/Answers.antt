@@ -1,4 +1,4 @@
-use Rattle.std.proofs.Common.{◌≡◌, ◌<◌, ◌+◌, ◌≤◌, Some, drop, length, get_or, refl, sym, ap, ◌∙◌, subst, arith}
+use Rattle.std.proofs.Common.{◌≡◌, ◌<◌, ◌+◌, Some, drop, length, get_or, sym, ap, ◌∙◌, subst, arith}
 use Rattle.mail_records.specs.Tables.{lookup}
 use Rattle.mail_records.specs.Orders.{KeysRise, key_cmp, key_of, keys_of}
 use Rattle.mail_records.specs.OrderSteps.{put_all_in, put_in}

@@ -1,4 +1,4 @@
-use Rattle.std.proofs.Common.{◌≡◌, Some, None, false, not, refl, sym, ap, ◌∙◌, subst}
+use Rattle.std.proofs.Common.{sym, ap, ◌∙◌, subst}
 use Rattle.mail_records.specs.Tables.{lookup, without}
 use Rattle.mail_records.specs.Orders.{AreKeys, KeysRise, any_key, keys_of}
 use Rattle.mail_records.specs.OrderSteps.{rows_besides}

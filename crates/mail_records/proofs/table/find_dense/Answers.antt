@@ -1,4 +1,4 @@
-use Rattle.std.proofs.Common.{◌<◌, sym, ◌∙◌, arith}
+use Rattle.std.proofs.Common.{sym, ◌∙◌, arith}
 use Rattle.mail_records.proofs.Searches.{lookup_at}
 use Rattle.mail_records.proofs.table.find_dense.Goals as goal
 

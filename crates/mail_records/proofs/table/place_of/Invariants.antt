@@ -1,4 +1,4 @@
-use Rattle.std.proofs.Common.{◌≡◌, ◌<◌, ℕ}
+use Rattle.std.proofs.Common.{◌<◌}
 use Rattle.mail_records.specs.Tables.{IsFrom}
 use Rattle.mail_records.proofs.table.place_of.Given as goal
 

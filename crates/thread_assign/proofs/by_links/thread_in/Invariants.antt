@@ -1,6 +1,6 @@
 use Rattle.std.proofs.Common.{◌≡◌, take}
 use Rattle.thread_assign.specs.Candidates.{first_candidate, has_any}
-use Rattle.thread_assign.proofs.by_links.find_joined_thread.Given as goal
+use Rattle.thread_assign.proofs.by_links.thread_in.Given as goal
 
 -- the best up to here is the first email with one of the links up to here
 abbrev pub invariant-loop-link : goal.invariant-loop-link

@@ -2,7 +2,7 @@ use Rattle.std.proofs.Common.{◌∙◌, ap₂, subst}
 use Rattle.mail_records.specs.Contents.{email_number}
 use Rattle.mail_records.specs.Tables.{IsTable}
 use Rattle.thread_assign.specs.Candidates.{lesser}
-use Rattle.thread_assign.proofs.by_links.find_joined_thread.Goals as goal
+use Rattle.thread_assign.proofs.by_links.thread_in.Goals as goal
 use Rattle.thread_assign.proofs.Lesser.{no_link, one_link_more}
 
 pub loop-link-init : goal.loop-link-init
