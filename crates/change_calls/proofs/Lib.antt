@@ -9,3 +9,7 @@ pub mod Next
 pub mod Taking
 pub mod Finding
 pub mod Moving
+pub mod Spread
+pub mod Walked
+pub mod Earlier
+pub mod Floored

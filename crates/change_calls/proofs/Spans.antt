@@ -209,7 +209,7 @@ ends_at h kind from max count reached within few most =
 
 -- ---- from the notes of a log
 
-more_is : (left p end : ℕ) (more : Bool) → p + left ≡ end → more ≡ not (eqb left 0) → more ≡ not (eqb p end)
+pub more_is : (left p end : ℕ) (more : Bool) → p + left ≡ end → more ≡ not (eqb left 0) → more ≡ not (eqb p end)
 more_is left p end more sum is =
     ⊎_elim
     (λ (none : left ≡ 0).

@@ -1,5 +1,5 @@
 -- For private clauses: what the notes of edits say of each record that they name.
-use Rattle.std.specs.Prelude.{◌≡◌, ◌≢◌, ℕ, ◌+◌, ◌≤◌, Bool, true, false, not, ◌&&◌, ◌||◌, if◌then◌else◌, List, [], ◌∷◌, length, take, filter, Option, Some, None}
+use Rattle.std.specs.Prelude.{◌≡◌, ◌≢◌, ℕ, ◌+◌, ◌-◌, ◌≤◌, Bool, true, false, not, ◌&&◌, ◌||◌, if◌then◌else◌, List, [], ◌∷◌, length, take, filter, Option, Some, None}
 use Rattle.std.specs.BTreeMap.{insert_entry, is_at}
 use Rattle.std.specs.List.{list_all}
 use Rattle.std.specs.Map.{keys_of, lookup}
@@ -36,6 +36,15 @@ marks_after kind marks note =
 abbrev pub marks_with : Kind → MarkTable → List Note → MarkTable
 marks_with kind marks [] = marks
 marks_with kind marks (n ∷ ns) = marks_with kind (marks_after kind marks n) ns
+
+-- the notes of the kind
+abbrev pub notes_of : Kind → List Note → List Note
+notes_of kind notes = filter (λ (n : Note). is_kind kind n.kind) notes
+
+-- the position before this one, or the end
+abbrev pub before_or_end : Option ℕ → ℕ → ℕ
+before_or_end (Some position) end = position - 1
+before_or_end None end = end
 
 -- the marks of the first notes, as many as there may be
 pub record IsWalk (kind : Kind) (max : Option ℕ) (notes : List Note) (taken : ℕ) (marks : MarkTable)

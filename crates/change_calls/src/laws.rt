@@ -1,12 +1,13 @@
 // What holds of pages of changes: laws of the definitions, each as the contract of a function that
 // does nothing.
-ghost use Rattle.std.specs.Prelude.{◌≡◌, ◌≢◌, ◌||◌, ◌<◌, ◌≤◌, ℕ, None, Option, Some, List, true};
+ghost use Rattle.std.specs.Prelude.{◌≡◌, ◌≢◌, ◌==◌, ◌||◌, ◌<◌, ◌≤◌, ℕ, ℤ, None, Option, Some, List, min, not, true};
 ghost use Rattle.jm_base.specs.Ids.{state_text};
 ghost use Rattle.jm_base.specs.declared.identifiers.TheConstants.{NUMBER_LIMIT};
 ghost use Rattle.jm_base.specs.declared.identifiers.Kind.{Kind};
-ghost use Rattle.mail_records.specs.Histories.{FloorsAtMost, History, end_of};
+ghost use Rattle.mail_records.specs.FloorMoves.{moved_up};
+ghost use Rattle.mail_records.specs.Histories.{FloorsAtMost, History, account_after, end_after, end_of};
 ghost use Rattle.mail_records.specs.States.{AreTouched, Reaches, state_at};
-ghost use Rattle.change_calls.specs.Changes.{is_within, page_end, reached_state, touched};
+ghost use Rattle.change_calls.specs.Changes.{answer_of, is_within, page_end, page_of, reached_state, touched};
 ghost use Rattle.change_calls.specs.Pages.{BringsUpToDate, GoesOn, IsPage, has};
 
 /// A page is exact (RFC 8620, section 5.2). `touched` are exactly the records that the edits
@@ -46,4 +47,42 @@ pub fn pages_bring_up_to_date()
         → FloorsAtMost h.floors h.floor → from ≤ end_of h → is_within max 1 ≡ true
         → page_end h kind max from ≢ end_of h
         → from < state_at h kind (page_end h kind max from) }
+{}
+
+/// A page of the account after its first entries is the page of the whole account between the same
+/// positions, but that the whole account may have more. It ends where the page of the whole account
+/// ends, or at the end of these entries if that is before. A state that the account reached then is
+/// the same state of the whole account.
+pub fn pages_are_of_one_history()
+    ensures page { (h : History) (kind : Kind) (c from p : ℕ) → from ≤ end_after h c
+        → p ≤ end_after h c
+        → page_of (account_after h c) kind from p
+        ≡ record (page_of h kind from p) { more = not (p == end_after h c) } }
+    ensures ends { (h : History) (kind : Kind) (max : Option ℕ) (c from : ℕ)
+        → from ≤ end_after h c
+        → page_end (account_after h c) kind max from
+        ≡ min (page_end h kind max from) (end_after h c) }
+    ensures read { (h : History) (kind : Kind) (c : ℕ) (text : List ℕ) (s : ℕ)
+        → reached_state (account_after h c) kind text ≡ Some s
+        → reached_state h kind text ≡ Some s }
+{}
+
+/// If the floor of a history moves up to the end of its first entries, a call for changes from a
+/// state that is reached still, one from the kind's new floor position on, is answered as before.
+pub fn pages_outlast_a_floor()
+    ensures page { (h : History) (kind : Kind) (c from p : ℕ) → FloorsAtMost h.floors h.floor
+        → state_at h kind (end_after h c) ≤ from → from ≤ p
+        → page_of (moved_up h c) kind from p ≡ page_of h kind from p }
+    ensures ends { (h : History) (kind : Kind) (max : Option ℕ) (c from : ℕ)
+        → state_at h kind (end_after h c) ≤ from
+        → page_end (moved_up h c) kind max from ≡ page_end h kind max from }
+    ensures read { (h : History) (kind : Kind) (c : ℕ) (text : List ℕ) (s : ℕ)
+        → FloorsAtMost h.floors h.floor → reached_state (moved_up h c) kind text ≡ Some s
+        → (reached_state h kind text ≡ Some s) × (state_at h kind (end_after h c) ≤ s) }
+    ensures kept { (h : History) (kind : Kind) (c : ℕ) (text : List ℕ) (s : ℕ)
+        → reached_state h kind text ≡ Some s → state_at h kind (end_after h c) ≤ s
+        → reached_state (moved_up h c) kind text ≡ Some s }
+    ensures answer { (h : History) (kind : Kind) (c : ℕ) (text : List ℕ) (max : Option ℤ) (s : ℕ)
+        → FloorsAtMost h.floors h.floor → reached_state (moved_up h c) kind text ≡ Some s
+        → answer_of (moved_up h c) kind text max ≡ answer_of h kind text max }
 {}

@@ -12,7 +12,9 @@ mod pages;
 mod response;
 mod touched_records;
 
-pub use laws::{pages_are_exact, pages_bring_up_to_date};
+pub use laws::{
+    pages_are_exact, pages_are_of_one_history, pages_bring_up_to_date, pages_outlast_a_floor,
+};
 pub use page::{ChangeFault, ChangePage};
 pub use pages::{changes, find_state};
 pub use response::{CallFault, answer_changes};

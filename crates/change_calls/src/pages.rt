@@ -1,12 +1,12 @@
 // Changes since a state (RFC 8620, section 5.2).
-ghost use Rattle.std.specs.Prelude.{◌≡◌, ◌≤◌, ◌==◌, false, not, IfErr, IfOk, IfSome};
+ghost use Rattle.std.specs.Prelude.{◌≡◌, ◌≤◌, ◌==◌, false, not, IfErr, IfOk, IfSome, slice_get};
 ghost use Rattle.mail_records.specs.Histories.{History};
 ghost use Rattle.mail_records.specs.States.{state_at};
 ghost use Rattle.state_log.specs.Logs.{IsLogOf, log_end};
 ghost use Rattle.change_calls.specs.Changes.{ChangesFail, IsKeptBy, answer_of, answered, is_some_there, maximum_of, page_end, page_of, positive, reached_state};
-ghost use Rattle.change_calls.specs.TouchedRecords.{page_with};
+ghost use Rattle.change_calls.specs.TouchedRecords.{before_or_end, page_with};
 
-use crate::touched_records::{Mark, are_counts, collect_numbers, mark_notes};
+use crate::touched_records::{Mark, are_counts, collect_numbers, mark_positions};
 use crate::{ChangeFault, ChangePage};
 use jm_base::{Kind, NoMemory, Numbers, read_state};
 use state_log::Log;
@@ -63,10 +63,20 @@ fn find_state_at(log: &Log, kind: Kind, position: u64, more: bool) -> u64
     log.state_of(kind)
 }
 
-fn is_some_left(left: usize) -> bool
-    ensures { result ≡ not (left == 0) }
+// Returns the position before that of the first edit that a page leaves out, or the end.
+fn find_page_end(positions: &[u64], taken: usize, end: u64) -> u64
+    ensures { result ≡ before_or_end (slice_get positions.now taken) end }
 {
-    left != 0
+    match positions.get(taken) {
+        Some(position) => position.saturating_sub(1),
+        None => end,
+    }
+}
+
+fn is_below(upto: u64, end: u64) -> bool
+    ensures { result ≡ not (upto == end) }
+{
+    upto != end
 }
 
 fn has_items(numbers: &Numbers) -> bool
@@ -114,12 +124,11 @@ fn make_page(
         → page ≡ page_of h kind from (page_end h kind max from)) }
 {
     let end = log.end();
-    let notes = log.find_notes_between(from, end);
-    let walk = mark_notes(alloc, notes, kind, max)?;
-    let count = notes.len();
-    let left = count - walk.taken;
-    let more = is_some_left(left);
-    let new_state = find_state_at(log, kind, end - left as u64, more);
+    let positions = log.positions_between(kind, from, end);
+    let walk = mark_positions(alloc, log, kind, from, positions, max)?;
+    let upto = find_page_end(positions, walk.taken, end);
+    let more = is_below(upto, end);
+    let new_state = find_state_at(log, kind, upto, more);
     let page = build_page(alloc, &walk.marks, new_state, more)?;
     Ok(page)
 }
@@ -133,7 +142,7 @@ fn make_page(
 /// not that of a state from which all edits of the kind are known, or with `NoMemory` if an
 /// allocation fails.
 ///
-/// It costs what the edits since the state cost, up to where the page ends.
+/// It costs what the edits of the kind since the state cost, up to where the page ends.
 #[tactic(auto, using(crate::proofs::Finding::answers))]
 pub fn changes(
     alloc: Global,

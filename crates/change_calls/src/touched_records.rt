@@ -1,11 +1,13 @@
 // What the notes of edits say of each record that they name.
-ghost use Rattle.std.specs.Prelude.{◌≡◌, ◌+◌, IfOk, false, length, true};
+ghost use Rattle.std.specs.Prelude.{◌≡◌, ◌≤◌, ◌+◌, ◌-◌, IfOk, drop, false, length, true};
 ghost use Rattle.change_calls.specs.Changes.{is_within};
 ghost use Rattle.mail_records.specs.States.{is_kind};
-ghost use Rattle.change_calls.specs.TouchedRecords.{IsFull, IsTaken, IsWalk, are_counts, is_mark, mark_after, mark_of, numbers_marked};
+ghost use Rattle.change_calls.specs.TouchedRecords.{IsFull, IsTaken, IsWalk, are_counts, is_mark, mark_after, mark_of, notes_of, numbers_marked};
+ghost use Rattle.state_log.specs.Logs.{ids_in, log_end};
+ghost use Rattle.state_log.specs.Positions.{positions_of};
 
 use jm_base::{Kind, NoMemory, Numbers};
-use state_log::Note;
+use state_log::{Log, Note};
 use std::alloc::Global;
 use std::collections::BTreeMap;
 
@@ -93,20 +95,27 @@ fn take_note(
     Ok(true)
 }
 
-/// Sets the marks of the records of a kind that the first notes name, up to the first note that
-/// would name more than the maximum.
-pub fn mark_notes(
+/// Sets the marks of the records of a kind that the edits after a position name, up to the first
+/// edit that would name more than the maximum. The positions are those of the kind's edits.
+pub fn mark_positions(
     alloc: Global,
-    notes: &[Note],
+    log: &Log,
     kind: Kind,
+    from: u64,
+    positions: &[u64],
     max: Option<u64>,
 ) -> Result<Walk, NoMemory>
-    ensures { IfOk result (λ w. IsWalk kind max notes.now w.taken w.marks.entries) }
+    requires reached { from ≤ log_end log.now }
+    requires positions { positions.now ≡ positions_of kind (log.now.floor + (from - log.now.floor))
+        (ids_in (drop (from - log.now.floor) log.now.notes)) }
+    ensures { IfOk result (λ w. IsWalk kind max
+        (notes_of kind (drop (from - log.now.floor) log.now.notes)) w.taken w.marks.entries) }
 {
     let mut marks = BTreeMap::new(alloc);
     let mut taken = 0;
-    for note in notes {
-        if !take_note(&mut marks, note, kind, max)? {
+    for position in positions {
+        let note = log.note(*position);
+        if !take_note(&mut marks, &note, kind, max)? {
             return Ok(Walk { marks, taken });
         }
         taken += 1;

@@ -1,5 +1,5 @@
 -- How the log of a history begins, and what keeps it that history's.
-use Rattle.std.proofs.Common.{◌≡◌, ℕ, ◌+◌, ◌≤◌, List, [], ◌++◌, map, take, length, refl, sym, ap, ◌∙◌, subst, arith}
+use Rattle.std.proofs.Common.{◌≡◌, ℕ, ◌+◌, ◌≤◌, List, [], ◌++◌, map, take, length, refl, sym, ap, ◌∙◌, arith}
 use Rattle.std.proofs.lemmas.List.{length-map, map-append}
 use Rattle.jm_base.specs.declared.identifiers.Kind.{Kind}
 use Rattle.mail_records.specs.Histories.{History, Floors, FloorsAtMost, Entry, Committed, Refused, entry_edits, edits_of, edits_in, floor_of, grown, empty_history}
@@ -8,8 +8,7 @@ use Rattle.mail_records.specs.declared.edits.Commit.{Commit}
 use Rattle.mail_records.specs.declared.edits.Stamp.{Stamp}
 use Rattle.mail_records.proofs.Prefixes.{edits_of-grown, edits_of-refused}
 use Rattle.mail_records.proofs.Reached.{last_position-bounds, length_take}
-use Rattle.jm_base.specs.declared.identifiers.Kind.TheVariants.{Mailbox as OfMailbox, Email as OfEmail, Thread as OfThread}
-use Rattle.state_log.specs.Logs.{Notes, IsLogOf, Keeps, ids_in, note_id, note_of}
+use Rattle.state_log.specs.Logs.{Notes, IsLogOf, ids_in, note_id, note_of}
 use Rattle.state_log.specs.declared.notes.Note.{Note}
 
 -- a history without entries has the log without notes that begins where it does
@@ -66,13 +65,3 @@ last_position-front kind floor floors notes k low =
     let short = (length_take k (ids_in notes)).1 in
     let same : length (ids_in notes) ≡ length notes = length-map notes note_id in
     (b.0, omega arith)
-
--- the state of a kind that a log keeps is from the kind's floor position to the last position
-pub Keeps-reached : (kind : Kind) (floor : ℕ) (floors states : Floors) (notes : List Note) → Keeps floor floors states notes
-    → (floor_of floors kind ≤ floor_of states kind) × (floor_of states kind ≤ floor + length notes)
-Keeps-reached OfMailbox floor floors states notes keeps =
-    subst (λ n. (floors.mailbox ≤ n) × (n ≤ floor + length notes)) (sym keeps.mailbox) (last_position-notes OfMailbox floor floors notes keeps.low)
-Keeps-reached OfEmail floor floors states notes keeps =
-    subst (λ n. (floors.email ≤ n) × (n ≤ floor + length notes)) (sym keeps.email) (last_position-notes OfEmail floor floors notes keeps.low)
-Keeps-reached OfThread floor floors states notes keeps =
-    subst (λ n. (floors.thread ≤ n) × (n ≤ floor + length notes)) (sym keeps.thread) (last_position-notes OfThread floor floors notes keeps.low)

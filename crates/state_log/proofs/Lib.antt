@@ -1,4 +1,5 @@
-pub mod Placed
+pub mod Spanned
 pub mod Named
 pub mod Agreement
 pub mod Kept
+pub mod Placed

@@ -1,5 +1,5 @@
 -- The numbers of a kind among ids.
-use Rattle.std.proofs.Common.{◌≡◌, ℕ, Bool, true, false, ◌||◌, eqb, List, [], ◌∷◌, take, drop, refl, sym, ap, ap₂, ◌∙◌, arith, ⊎_elim, IsPermutation, Contains, eqb-true}
+use Rattle.std.proofs.Common.{◌≡◌, ℕ, true, false, ◌||◌, eqb, List, [], ◌∷◌, take, drop, refl, sym, ap, ◌∙◌, ⊎_elim}
 use Rattle.std.specs.List.{list_any}
 use Rattle.std.specs.List.Sorted.{IsStrictlyIncreasing}
 use Rattle.std.proofs.lemmas.Bool.{cases_Bool}

@@ -1,13 +1,15 @@
 -- What a log keeps of each edit, and what it shows of states.
-use Rattle.std.specs.Prelude.{◌≡◌, ℕ, ◌+◌, ◌<◌, ◌^◌, Bool, false, true, List, [], ◌∷◌, length, map, if◌then◌else◌}
+use Rattle.std.specs.Prelude.{◌≡◌, ℕ, ◌+◌, ◌-◌, ◌<◌, ◌^◌, Bool, false, true, List, [], ◌∷◌, length, map, take, if◌then◌else◌, Option, Some, None, is_some}
+use Rattle.std.specs.List.{AllByRecursion}
 use Rattle.jm_base.specs.declared.identifiers.Id.{Id}
 use Rattle.jm_base.specs.declared.identifiers.Kind.{Kind}
 use Rattle.jm_base.specs.declared.identifiers.Kind.TheVariants.{Mailbox as OfMailbox, Email as OfEmail, Thread as OfThread}
 use Rattle.mail_records.specs.Edits.{id_of, named_thread}
 use Rattle.mail_records.specs.Histories.{History, Floors, FloorsAtMost, edits_of}
-use Rattle.mail_records.specs.States.{is_kind, last_position}
+use Rattle.mail_records.specs.States.{is_id, is_kind, last_place, placed_above}
 use Rattle.mail_records.specs.declared.edits.Edit.{Edit}
 use Rattle.mail_records.specs.declared.edits.Edit.TheVariants.{PutMailbox, PutEmail, PutThread}
+use Rattle.state_log.specs.Positions.{Places, positions_of}
 use Rattle.state_log.specs.declared.notes.Note.{Note}
 
 -- a log: where it begins, a note of each edit since, and for how many more there is room
@@ -59,20 +61,44 @@ ids_in notes = map note_id notes
 abbrev pub log_end : Notes → ℕ
 log_end l = l.floor + length l.notes
 
+-- the position of the last edit before the one at a position, whose note this is, that names the
+-- same record, or 0 where none after the floor does
+abbrev pub edit_before : Notes → Note → ℕ → ℕ
+edit_before l n position =
+    placed_above l.floor 0
+    (last_place (is_id n.kind n.number) (take (position - l.floor - 1) (ids_in l.notes)))
+
 -- the log is that of a history: it begins at the same floor, and has a note of each of its edits
 pub record IsLogOf (h : History) (l : Notes) : Type 0 where
   pub floor : l.floor ≡ h.floor
   pub floors : l.floors ≡ h.floors
   pub notes : l.notes ≡ map note_of (edits_of h)
 
+-- a thread, if there is one, and these
+abbrev pub with_thread : Option ℕ → List ℕ → List ℕ
+with_thread None threads = threads
+with_thread (Some thread) threads = thread ∷ threads
+
+-- the threads that notes name, each time that they do
+abbrev pub threads_named : List Note → List ℕ
+threads_named [] = []
+threads_named (n ∷ ns) = with_thread n.thread (threads_named ns)
+
+-- the note names a thread if and only if its record is an email
+abbrev pub HasThread : Note → Type 0
+HasThread n = is_some n.thread ≡ is_kind OfEmail n.kind
+
 -- what the fields of a log keep: its last position is of 64 bits, each kind's floor position is at
--- most the floor, and the state of each kind is known
-pub record Keeps (floor : ℕ) (floors states : Floors) (notes : List Note) : Type 0 where
+-- most the floor, and the positions of each kind and the threads of emails are those of its notes
+pub record Keeps (floor : ℕ) (floors : Floors) (notes : List Note) (places : Places)
+    : Type 0 where
   pub short : floor + length notes < 2 ^ 64
   pub low : FloorsAtMost floors floor
-  pub mailbox : states.mailbox ≡ last_position OfMailbox floor floors (ids_in notes)
-  pub email : states.email ≡ last_position OfEmail floor floors (ids_in notes)
-  pub thread : states.thread ≡ last_position OfThread floor floors (ids_in notes)
+  pub mailbox : places.mailbox ≡ positions_of OfMailbox floor (ids_in notes)
+  pub email : places.email ≡ positions_of OfEmail floor (ids_in notes)
+  pub thread : places.thread ≡ positions_of OfThread floor (ids_in notes)
+  pub email_threads : places.email_threads ≡ threads_named notes
+  pub named : AllByRecursion HasThread notes
 
 -- the numbers of a kind among ids, in order
 abbrev pub numbers_named : Kind → List Id → List ℕ

@@ -1,11 +1,13 @@
 // What holds of the log of a history: laws of the definitions, each as the contract of a function
 // that does nothing.
-ghost use Rattle.std.specs.Prelude.{◌≡◌, ◌++◌, ◌-◌, ◌≤◌, [], ℕ, List, map, take};
+ghost use Rattle.std.specs.Prelude.{◌≡◌, ◌++◌, ◌+◌, ◌-◌, ◌<◌, ◌≤◌, [], ℕ, List, length, map, take};
+ghost use Rattle.std.specs.List.{All};
 ghost use Rattle.jm_base.specs.declared.identifiers.Kind.{Kind};
 ghost use Rattle.mail_records.specs.Histories.{Entry, History, Refused, empty_history, end_of, entry_edits, floor_of, grown};
 ghost use Rattle.mail_records.specs.States.{AreNamed, AreTouched, Reaches, ids_between, last_position, state_at, state_of};
 ghost use Rattle.mail_records.specs.declared.edits.Stamp.{Stamp};
-ghost use Rattle.state_log.specs.Logs.{IsLogOf, Notes, ids_in, log_end, note_of};
+ghost use Rattle.state_log.specs.Logs.{IsLogOf, Notes, ids_in, log_end, note_of, numbers_named};
+ghost use Rattle.state_log.specs.Positions.{number_at, positions_of};
 
 /// A log stays that of its history: one without notes is that of a history without entries which
 /// begins where it does, and with a note of each edit of an entry it is that of the history with
@@ -40,4 +42,18 @@ pub fn logs_tell_histories()
     ensures touched { (h : History) (l : Notes) (kind : Kind) (from upto : ℕ) (numbers : List ℕ)
         → IsLogOf h l → AreNamed kind (ids_between l.floor from upto (ids_in l.notes)) numbers
         → AreTouched h kind from upto numbers }
+{}
+
+/// The positions of a kind between two positions are positions of notes, and the numbers that the
+/// notes there name are those that the edits of the kind between the two positions name, in order.
+pub fn positions_name_numbers()
+    ensures noted { (l : Notes) (kind : Kind) (from upto : ℕ) → from ≤ upto → upto ≤ log_end l
+        → All (λ p. (l.floor < p) × (p ≤ l.floor + length l.notes))
+        (positions_of kind (l.floor + (from - l.floor))
+        (ids_between l.floor from upto (ids_in l.notes))) }
+    ensures numbers { (l : Notes) (kind : Kind) (from upto : ℕ)
+        → map (number_at l.floor (ids_in l.notes))
+        (positions_of kind (l.floor + (from - l.floor))
+        (ids_between l.floor from upto (ids_in l.notes)))
+        ≡ numbers_named kind (ids_between l.floor from upto (ids_in l.notes)) }
 {}

@@ -4,11 +4,12 @@
 //! A position counts edits. The first edit after the floor has the position floor + 1.
 #![tactic(auto)]
 
+mod kind_positions;
 mod laws;
 mod log;
 mod notes;
 mod touched;
 
-pub use laws::{logs_follow_histories, logs_tell_histories};
+pub use laws::{logs_follow_histories, logs_tell_histories, positions_name_numbers};
 pub use log::{Log, note_all_ready};
 pub use notes::Note;

@@ -1,14 +1,18 @@
 // The log: a note of each edit after the floor, and the state of each kind.
-ghost use Rattle.std.specs.Prelude.{◌≡◌, ◌↔◌, ◌+◌, ◌-◌, ◌++◌, ◌∷◌, [], ◌<◌, ◌≤◌, ◌^◌, IsTrue, OnOk, OnErr, IfOk, length, map, take, drop, if◌then◌else◌, slice_index_or};
-ghost use Rattle.mail_records.specs.Histories.{floor_of};
-ghost use Rattle.mail_records.specs.States.{AreNamed, ids_between, is_kind, last_position};
-ghost use Rattle.state_log.specs.Logs.{ids_in, log_end, note_of};
+ghost use Rattle.std.specs.Prelude.{◌≡◌, ◌↔◌, ◌+◌, ◌-◌, ◌++◌, ◌∷◌, [], ℕ, ◌<◌, ◌≤◌, ◌^◌, IsTrue, OnOk, OnErr, IfOk, length, map, take, drop, slice_index_or};
+ghost use Rattle.jm_base.specs.declared.identifiers.Kind.TheVariants.{Mailbox as OfMailbox, Email as OfEmail, Thread as OfThread};
+ghost use Rattle.mail_records.specs.FloorMoves.{moved_up};
+ghost use Rattle.mail_records.specs.Histories.{History, end_after, floor_of};
+ghost use Rattle.mail_records.specs.States.{AreNamed, ids_between, last_position};
+ghost use Rattle.state_log.specs.Logs.{IsLogOf, edit_before, ids_in, log_end, note_of, threads_named};
+ghost use Rattle.state_log.specs.Positions.{positions_of};
 ghost use Rattle.state_log.specs.declared.notes.Note.{Note as TheNote};
 
 use crate::Note;
-use crate::notes::{find_last_place, note_of};
-use crate::touched::collect_touched;
-use jm_base::{Kind, NoMemory, Numbers};
+use crate::kind_positions::{KindPositions, cut_front, last_or};
+use crate::notes::note_of;
+use crate::touched::{collect_numbers_at, find_last_naming};
+use jm_base::{Kind, NoMemory, Numbers, put_in_order};
 use mail_records::Edit;
 use std::alloc::Global;
 use std::marker::Model;
@@ -27,12 +31,12 @@ struct Positions {
 pub struct Log {
     floor: u64,
     floors: Positions,
-    states: Positions,
     notes: Vec<Note>,
+    places: KindPositions,
 }
 
 impl Model for Log {
-    ghost use Rattle.std.specs.Prelude.{◌-◌, vec_len, vec_capacity};
+    ghost use Rattle.std.specs.Prelude.{◌-◌, min, vec_len, vec_capacity};
     ghost use Rattle.state_log.specs.Logs.{Notes, Keeps};
 
     ghost Value = { Notes };
@@ -45,13 +49,13 @@ impl Model for Log {
         thread = l.floors.thread;
       };
       notes = l.notes.items;
-      spare = vec_capacity l.notes - vec_len l.notes;
+      spare = min (vec_capacity l.notes - vec_len l.notes) l.places.spare;
     } };
 
     ghost invariant = { λ l. Keeps l.floor
         (record { mailbox = l.floors.mailbox; email = l.floors.email; thread = l.floors.thread })
-        (record { mailbox = l.states.mailbox; email = l.states.email; thread = l.states.thread })
-        l.notes.items };
+        l.notes.items
+        l.places };
 }
 
 // Returns the position of a kind.
@@ -66,30 +70,6 @@ fn find_kind_position(positions: &Positions, kind: Kind) -> u64
         Kind::Mailbox => positions.mailbox,
         Kind::Email => positions.email,
         Kind::Thread => positions.thread,
-    }
-}
-
-// Returns the positions with that of one kind moved.
-fn move_position(positions: Positions, kind: Kind, position: u64) -> Positions
-    ensures mailbox { result.mailbox ≡ (if is_kind Kind.Mailbox kind then position
-        else positions.mailbox) }
-    ensures email { result.email ≡ (if is_kind Kind.Email kind then position else positions.email) }
-    ensures thread { result.thread ≡ (if is_kind Kind.Thread kind then position
-        else positions.thread) }
-{
-    match kind {
-        Kind::Mailbox => Positions {
-            mailbox: position,
-            ..positions
-        },
-        Kind::Email => Positions {
-            email: position,
-            ..positions
-        },
-        Kind::Thread => Positions {
-            thread: position,
-            ..positions
-        },
     }
 }
 
@@ -111,8 +91,8 @@ impl Log {
         Log {
             floor,
             floors,
-            states: floors,
             notes: Vec::new(alloc),
+            places: KindPositions::new(alloc),
         }
     }
 
@@ -129,7 +109,10 @@ impl Log {
             (ids_in self.now.notes) }
         ensures reached { (floor_of self.now.floors kind ≤ result) × (result ≤ log_end self.now) }
     {
-        find_kind_position(&self.states, kind)
+        last_or(
+            self.places.of_kind(kind),
+            find_kind_position(&self.floors, kind),
+        )
     }
 
     /// Returns the state of a kind at a position: the position of its last edit up to there, else
@@ -139,10 +122,8 @@ impl Log {
             (take (position - self.now.floor) (ids_in self.now.notes)) }
         ensures reached { (floor_of self.now.floors kind ≤ result) × (result ≤ log_end self.now) }
     {
-        match find_last_place(self.find_notes_upto(position), kind) {
-            Some(place) => self.floor + place as u64,
-            None => find_kind_position(&self.floors, kind),
-        }
+        let floor = find_kind_position(&self.floors, kind);
+        self.places.find_last_upto(kind, position, floor)
     }
 
     // Lends the notes of the edits up to a position.
@@ -179,7 +160,32 @@ impl Log {
         ensures { IfOk result (AreNamed kind (ids_between self.now.floor from upto
             (ids_in self.now.notes))) }
     {
-        collect_touched(alloc, self.find_notes_between(from, upto), kind)
+        let positions = self.positions_between(kind, from, upto);
+        let mut numbers = collect_numbers_at(alloc, &self.notes, self.floor, positions)?;
+        put_in_order(&mut numbers);
+        Ok(Numbers::from_vec(numbers))
+    }
+
+    /// Lends the positions of the edits of a kind after one position, up to another, in order.
+    pub fn positions_between(&self, kind: Kind, from: u64, upto: u64) -> &[u64]
+        requires order { from ≤ upto }
+        requires within { upto ≤ log_end self.now }
+        ensures { result.now ≡ positions_of kind
+            (self.now.floor + (from - self.now.floor))
+            (ids_between self.now.floor from upto (ids_in self.now.notes)) }
+    {
+        self.places.positions_between(kind, from, upto)
+    }
+
+    /// Lends the threads of the emails that the edits after one position, up to another, name, in
+    /// the order of the edits.
+    pub fn threads_between(&self, from: u64, upto: u64) -> &[u64]
+        requires order { from ≤ upto }
+        requires within { upto ≤ log_end self.now }
+        ensures { result.now ≡ threads_named (drop (from - self.now.floor)
+            (take (upto - self.now.floor) self.now.notes)) }
+    {
+        self.places.threads_between(from, upto)
     }
 
     /// Lends the notes of the edits after one position, up to another, in order.
@@ -204,6 +210,19 @@ impl Log {
         self.notes[(position - self.floor - 1) as usize]
     }
 
+    /// Returns the position of the last edit before the one at a position that names the same
+    /// record, or 0 if none after the floor does. It looks back over the edits of the kind.
+    pub fn find_edit_before(&self, position: u64) -> u64
+        requires above { self.now.floor < position }
+        requires within { position ≤ log_end self.now }
+        ensures { (d : TheNote) → result ≡ edit_before self.now
+            (slice_index_or self.now.notes (position - self.now.floor - 1) d) position }
+    {
+        let note = self.note(position);
+        let positions = self.positions_between(note.kind, self.floor, position - 1);
+        find_last_naming(&self.notes, self.floor, positions, note.number)
+    }
+
     /// Makes room for notes of these edits. If an allocation fails, all but the room is
     /// as before.
     pub fn reserve(&mut self, edits: &[Edit]) -> Result<(), NoMemory>
@@ -212,6 +231,7 @@ impl Log {
         ensures no_less { self.old.spare ≤ self.new.spare }
     {
         self.notes.reserve(edits.len())?;
+        self.places.reserve(edits.len())?;
         Ok(())
     }
 
@@ -223,6 +243,7 @@ impl Log {
         ensures err { OnErr result (self.new ≡ record self.old { spare = self.new.spare }) }
     {
         self.notes.reserve(1)?;
+        self.places.reserve(1)?;
         self.note_ready(edit);
         Ok(())
     }
@@ -248,8 +269,42 @@ impl Log {
     {
         let note = note_of(edit);
         let position = self.floor + self.notes.len() as u64 + 1;
-        self.states = move_position(self.states, note.kind, position);
+        self.places.push_ready(&note, position);
         self.notes.push_reserved(note);
+    }
+
+    /// Moves the floor up to a position: what was up to there is forgotten, but for the position of
+    /// each kind there. Allocates nothing.
+    pub fn move_floor(&mut self, floor: u64)
+        requires later { self.old.floor ≤ floor }
+        requires within { floor ≤ log_end self.old }
+        ensures moved { self.new ≡ record {
+          floor = floor;
+          floors = record {
+            mailbox = last_position OfMailbox self.old.floor self.old.floors
+                (take (floor - self.old.floor) (ids_in self.old.notes));
+            email = last_position OfEmail self.old.floor self.old.floors
+                (take (floor - self.old.floor) (ids_in self.old.notes));
+            thread = last_position OfThread self.old.floor self.old.floors
+                (take (floor - self.old.floor) (ids_in self.old.notes));
+          };
+          notes = drop (floor - self.old.floor) self.old.notes;
+          spare = self.new.spare;
+        } }
+        ensures spare { self.old.spare ≤ self.new.spare }
+        ensures history { (h : History) (c : ℕ) → IsLogOf h self.old → floor ≡ end_after h c
+            → IsLogOf (moved_up h c) self.new }
+    {
+        let floors = Positions {
+            mailbox: self.state_at(Kind::Mailbox, floor),
+            email: self.state_at(Kind::Email, floor),
+            thread: self.state_at(Kind::Thread, floor),
+        };
+        let count = (floor - self.floor) as usize;
+        self.floors = floors;
+        self.floor = floor;
+        self.places.drop_upto(floor);
+        cut_front(&mut self.notes, count);
     }
 }
 

@@ -1,7 +1,7 @@
 // What a log keeps of an edit.
-ghost use Rattle.std.specs.Prelude.{◌≡◌, ◌≤◌, false, true, IfSome, length};
-ghost use Rattle.mail_records.specs.States.{is_kind, is_kind_of, last_place};
-ghost use Rattle.state_log.specs.Logs.{ids_in, note_of};
+ghost use Rattle.std.specs.Prelude.{◌≡◌, false, true};
+ghost use Rattle.mail_records.specs.States.{is_kind};
+ghost use Rattle.state_log.specs.Logs.{HasThread, note_of};
 
 use jm_base::Kind;
 use mail_records::Edit;
@@ -67,7 +67,8 @@ fn drop_note(kind: Kind, number: u64, thread: Option<u64>) -> Note
 
 /// Returns the note of an edit.
 pub fn note_of(edit: &Edit) -> Note
-    ensures { result ≡ note_of edit.now }
+    ensures value { result ≡ note_of edit.now }
+    ensures named { HasThread result }
 {
     match edit {
         Edit::PutMailbox { item, was, counts } => {
@@ -88,19 +89,4 @@ pub fn is_of(note: &Note, kind: Kind) -> bool
     ensures { result ≡ is_kind kind note.now.kind }
 {
     note.kind == kind
-}
-
-/// Returns the index of the last note of a kind, counted from 1.
-pub fn find_last_place(notes: &[Note], kind: Kind) -> Option<usize>
-    ensures value { result ≡ last_place (is_kind_of kind) (ids_in notes.now) }
-    ensures within { IfSome result (λ n. n ≤ length notes.now) }
-{
-    let mut place = notes.len();
-    while place > 0 {
-        if is_of(&notes[place - 1], kind) {
-            return Some(place);
-        }
-        place -= 1;
-    }
-    None
 }

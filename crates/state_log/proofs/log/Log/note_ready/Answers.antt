@@ -8,9 +8,7 @@ pub invariant_of-self : goal.invariant_of-self
 invariant_of-self c =
     let inside = c.self.inside in
     let floors : Floors = record { mailbox = inside.floors.mailbox; email = inside.floors.email; thread = inside.floors.thread } in
-    let states : Floors = record { mailbox = inside.states.mailbox; email = inside.states.email; thread = inside.states.thread } in
-    let now : Floors = record { mailbox = c.move_position-self-inside.result.mailbox; email = c.move_position-self-inside.result.email; thread = c.move_position-self-inside.result.thread } in
     let short : inside.floor + length inside.notes.items + 1 < 2 ^ 64 = subst (λ v. log_end v + 1 < 2 ^ 64) (sym c.self.view_is) c.requires.short in
-    subst (Keeps inside.floor floors now) (sym c.push_reserved.ensures.items)
-    (Keeps-push inside.floor floors states now inside.notes.items c.note_of-note.result (inside.floor + c.len.result + 1) c.self.invariant short (omega arith)
-    c.move_position-self-inside.ensures.mailbox c.move_position-self-inside.ensures.email c.move_position-self-inside.ensures.thread)
+    subst (λ ns. Keeps inside.floor floors ns c.push_ready.new.self) (sym c.push_reserved.ensures.items)
+    (Keeps-push inside.floor floors inside.notes.items c.note_of-note.result inside.places c.push_ready.new.self (inside.floor + c.len.result + 1) c.self.invariant short (omega arith) c.note_of-note.ensures.named
+    c.push_ready.ensures.mailbox c.push_ready.ensures.email c.push_ready.ensures.thread c.push_ready.ensures.email_threads)

@@ -1,31 +1,31 @@
-use Rattle.std.proofs.Common.{◌+◌, ◌-◌, ◌≤◌, ◌∙◌, ap, sym, subst}
-use Rattle.mail_records.specs.Histories.{FloorsAtMost, floor_of}
-use Rattle.state_log.specs.Logs.{log_end}
-use Rattle.state_log.proofs.Placed.{last_position-found, last_position-none}
+use Rattle.std.proofs.Common.{◌≡◌, ◌≤◌, ◌-◌, ◌∙◌, ap, sym, subst, take}
+use Rattle.mail_records.specs.Histories.{Floors, FloorsAtMost, floor_of}
+use Rattle.mail_records.specs.States.{last_position}
+use Rattle.state_log.specs.Logs.{ids_in, log_end}
+use Rattle.state_log.specs.Positions.{count_upto, last_or, places_of}
 use Rattle.state_log.proofs.Kept.{last_position-front}
+use Rattle.state_log.proofs.Placed.{Keeps-in_order, state_at-kept}
 use Rattle.state_log.proofs.log.Log.state_at.Goals as goal
 
-pub returns-in-Some-clause-state : goal.returns-in-Some-clause-state
-returns-in-Some-clause-state c =
-    let now = c.args.self.now in
-    ap (λ v. v.floor + c.in-Some.place) c.self.view_is
-    ∙ last_position-found c.args.kind now.floor now.floors now.notes c.find_notes_upto.result.now (c.args.position - now.floor) c.in-Some.place c.find_notes_upto.ensures c.in-Some.ensures.value
+pub find_last_upto-requires : goal.find_last_upto-requires
+find_last_upto-requires c =
+    let inside = c.self.inside in
+    let floors : Floors = record { mailbox = inside.floors.mailbox; email = inside.floors.email; thread = inside.floors.thread } in
+    Keeps-in_order inside.floor floors inside.notes.items inside.places c.self.invariant
 
-pub returns-in-Some-clause-reached : goal.returns-in-Some-clause-reached
-returns-in-Some-clause-reached c =
-    let now = c.args.self.now in
-    subst (λ n. (floor_of now.floors c.args.kind ≤ n) × (n ≤ log_end now)) (sym (returns-in-Some-clause-state c))
-    (last_position-front c.args.kind now.floor now.floors now.notes (c.args.position - now.floor) (subst (λ v. FloorsAtMost v.floors v.floor) c.self.view_is c.self.invariant.low))
+pub returns-clause-state : goal.returns-clause-state
+returns-clause-state c =
+    let inside = c.self.inside in
+    let kind = c.args.kind in
+    let floors : Floors = record { mailbox = inside.floors.mailbox; email = inside.floors.email; thread = inside.floors.thread } in
+    let ps = places_of inside.places kind in
+    subst (λ v. c.find_last_upto.result ≡ last_position kind v.floor v.floors (take (c.args.position - v.floor) (ids_in v.notes))) c.self.view_is
+    (c.find_last_upto.ensures
+    ∙ (ap (λ n. last_or (take (count_upto ps c.args.position) ps) n) c.find_kind_position-floor.ensures
+    ∙ state_at-kept kind inside.floor floors inside.notes.items inside.places c.args.position c.self.invariant))
 
-pub returns-in-None-clause-state : goal.returns-in-None-clause-state
-returns-in-None-clause-state c =
+pub returns-clause-reached : goal.returns-clause-reached
+returns-clause-reached c =
     let now = c.args.self.now in
-    c.find_kind_position.ensures
-    ∙ (ap (λ v. floor_of v.floors c.args.kind) c.self.view_is
-    ∙ last_position-none c.args.kind now.floor now.floors now.notes c.find_notes_upto.result.now (c.args.position - now.floor) c.find_notes_upto.ensures c.in-None.ensures.value)
-
-pub returns-in-None-clause-reached : goal.returns-in-None-clause-reached
-returns-in-None-clause-reached c =
-    let now = c.args.self.now in
-    subst (λ n. (floor_of now.floors c.args.kind ≤ n) × (n ≤ log_end now)) (sym (returns-in-None-clause-state c))
+    subst (λ n. (floor_of now.floors c.args.kind ≤ n) × (n ≤ log_end now)) (sym (returns-clause-state c))
     (last_position-front c.args.kind now.floor now.floors now.notes (c.args.position - now.floor) (subst (λ v. FloorsAtMost v.floors v.floor) c.self.view_is c.self.invariant.low))
