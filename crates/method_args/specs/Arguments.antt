@@ -1,6 +1,6 @@
 -- The arguments of a method call: the members of an object, by name (RFC 8620, 3.2 and 5). Members
 -- of names that a method does not have are ignored.
-use Rattle.std.specs.Prelude.{ℕ, ℤ, pos, negsuc, List, [], ◌∷◌, length, ◌==◌, Bool, true, false, ◌&&◌, ◌||◌, Option, Some, None, is_some, option_and_then, if◌then◌else◌, codes}
+use Rattle.std.specs.Prelude.{ℕ, ℤ, pos, negsuc, List, [], ◌∷◌, Bool, true, false, ◌&&◌, ◌||◌, Option, Some, None, is_some, option_and_then, if◌then◌else◌, codes}
 use Rattle.std.specs.List.{list_all}
 use Rattle.jm_json.specs.Tree.{Tree, null, boolean, number, text, list, object}
 use Rattle.jm_json.specs.Find.{find, as_text, as_list, as_object, texts_from}
@@ -8,7 +8,7 @@ use Rattle.method_args.specs.declared.form.Argument.{Argument}
 use Rattle.method_args.specs.declared.form.Presence.{Presence}
 use Rattle.method_args.specs.declared.form.Presence.TheVariants.{Required, Optional, Nullable}
 use Rattle.method_args.specs.declared.form.Shape.{Shape}
-use Rattle.method_args.specs.declared.form.Shape.TheVariants.{String, Strings, Flag, Integer, Count, Object, Objects, EmptyList, EmptyObject}
+use Rattle.method_args.specs.declared.form.Shape.TheVariants.{String, Strings, Flag, Integer, Count, Object, Objects}
 
 -- ---- values
 
@@ -69,8 +69,6 @@ has_shape Integer t = is_some (number_of t)
 has_shape Count t = is_some (as_count t)
 has_shape Object t = is_some (as_object t)
 has_shape Objects t = passes are_objects (as_object t)
-has_shape EmptyList t = passes (λ ts. length ts == 0) (as_list t)
-has_shape EmptyObject t = passes (λ ms. length ms == 0) (as_object t)
 
 abbrev pub may_be_absent : Presence → Bool
 may_be_absent Required = false

@@ -1,3 +1,8 @@
+pub mod Added
 pub mod Arguments
 pub mod Ids
+pub mod Outcomes
+pub mod Places
+pub mod ReadValues
 pub mod Wrapped
+pub mod WrittenIds

@@ -35,10 +35,6 @@ pub enum Shape {
     Object,
     /// An object whose values are objects.
     Objects,
-    /// A list without items: of an argument that a method does not support yet.
-    EmptyList,
-    /// An object without members: of an argument that a method does not support yet.
-    EmptyObject,
 }
 
 /// An argument of a method.
@@ -163,26 +159,6 @@ fn is_object_of_objects(value: &Json) -> bool
     }
 }
 
-#[tactic(auto, using(jm_json::proofs::Lists::lists_back))]
-fn is_empty_list(value: &Json) -> bool
-    ensures { result ≡ has_shape Shape.EmptyList (tree_of value.now) }
-{
-    match value {
-        Json::List(items) => items.as_slice().is_empty(),
-        Json::Null | Json::Bool(_) | Json::Int(_) | Json::Text(_) | Json::Object(_) => false,
-    }
-}
-
-#[tactic(auto, using(jm_json::proofs::Lists::lists_back))]
-fn is_empty_object(value: &Json) -> bool
-    ensures { result ≡ has_shape Shape.EmptyObject (tree_of value.now) }
-{
-    match value {
-        Json::Object(members) => members.as_slice().is_empty(),
-        Json::Null | Json::Bool(_) | Json::Int(_) | Json::Text(_) | Json::List(_) => false,
-    }
-}
-
 fn has_shape(shape: Shape, value: &Json) -> bool
     ensures { result ≡ has_shape shape (tree_of value.now) }
 {
@@ -194,8 +170,6 @@ fn has_shape(shape: Shape, value: &Json) -> bool
         Shape::Count => is_count(value),
         Shape::Object => is_object(value),
         Shape::Objects => is_object_of_objects(value),
-        Shape::EmptyList => is_empty_list(value),
-        Shape::EmptyObject => is_empty_object(value),
     }
 }
 
