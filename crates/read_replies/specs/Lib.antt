@@ -1,0 +1,4 @@
+pub mod Plans
+pub mod Reads
+pub mod Targets
+pub mod Replies

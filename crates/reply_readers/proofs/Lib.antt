@@ -1,0 +1,5 @@
+pub mod EachOnce
+pub mod Formed
+pub mod LeftRecords
+pub mod ReadBacks
+pub mod ReadLists

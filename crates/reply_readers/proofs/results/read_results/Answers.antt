@@ -1,0 +1,8 @@
+use Rattle.reply_readers.specs.Results.{results_places}
+use Rattle.jm_json.specs.Json.{tree_of}
+use Rattle.reply_readers.proofs.Formed.{formed}
+use Rattle.reply_readers.proofs.results.read_results.Goals as goal
+
+pub returns-in-None-clause-form : goal.returns-in-None-clause-form
+returns-in-None-clause-form c =
+    formed c.read_valid.result c.in_ok-place.field-0 (results_places c.args.kind c.args.account.now c.args.position c.args.limit c.args.pointer.now (tree_of c.args.args.now)) c.in-None.is c.in_ok-place.ensures
