@@ -15,3 +15,4 @@ pub mod WrittenIds
 pub mod WrittenDates
 pub mod WrittenNames
 pub mod WrittenAddresses
+pub mod WrittenFolds

@@ -348,10 +348,13 @@ date_all test m p named =
     (space_onto test p.space (time_word m) z (clock_all test p.digits p.colon m.time.hour m.time.minute m.time.second)
     (zone_all test p.digits p.plus p.minus m.offset.behind m.offset.minutes)))))
 
+pub date_inline : (m : ZonedDateTime) → IsDateTime m → list_all is_inline (date_value m) ≡ true
+date_inline m h = date_all is_inline m (record { digits = inline; space = refl; plus = refl; minus = refl; colon = refl }) (month_at m h).inline
+
 date_line : (m : ZonedDateTime) → IsDateTime m → on_one_line (date_value m) ≡ date_value m
 date_line m h =
     ap unfolded (raw_back (date_value m) (date_all is_written m (record { digits = written; space = refl; plus = refl; minus = refl; colon = refl }) (month_at m h).written))
-    ∙ unfolded_alone (date_value m) (date_all is_inline m (record { digits = inline; space = refl; plus = refl; minus = refl; colon = refl }) (month_at m h).inline)
+    ∙ unfolded_alone (date_value m) (date_inline m h)
 
 no_weekday : (d n : List ℕ) (rest : List (List ℕ)) → is_comma n ≡ false → without_weekday (d ∷ n ∷ rest) ≡ Some (d ∷ n ∷ rest)
 no_weekday d n rest h = rw h refl

@@ -23,7 +23,7 @@ id_small b h =
     let two = both_true (leb 33 b) (leb b 126) three.0 in
     omega (arith, leb-true b 126 two.1)
 
-abbrev is_printed : ℕ → Bool
+abbrev pub is_printed : ℕ → Bool
 is_printed b = is_between 32 126 b
 
 abbrev is_dark : ℕ → Bool
@@ -52,13 +52,13 @@ lacks_close (b ∷ bs) h (suc k) low e = lacks_close bs (both_true (is_no_close 
 
 -- ---- on one line
 
-abbrev AllIds : List (List ℕ) → Type 0
+abbrev pub AllIds : List (List ℕ) → Type 0
 AllIds ids = AllByRecursion IsId ids
 
 abbrev angles : List (List ℕ) → List (List ℕ)
 angles ids = map angled ids
 
-printed_angled : (id : List ℕ) → IsId id → list_all is_printed (angled id) ≡ true
+pub printed_angled : (id : List ℕ) → IsId id → list_all is_printed (angled id) ≡ true
 printed_angled id h = both_all is_printed id (62 ∷ []) (all_weaker is_id_character is_printed id_printed id h.each) refl
 
 angled_fold : (ids : List (List ℕ)) → AllIds ids → AllFold (angles ids) (angles ids)

@@ -119,7 +119,7 @@ spaces_gone t = let same : 1 + prefix_len is_space t ≡ suc (prefix_len is_spac
 
 -- ---- the text form
 
-plain_parts : (text : List ℕ) → is_plain_text text ≡ true → list_all (is_between 32 126) text ≡ true
+pub plain_parts : (text : List ℕ) → is_plain_text text ≡ true → list_all (is_between 32 126) text ≡ true
 plain_parts text h =
     let parts = both_true (leb (length text) 900) (list_all (is_between 32 126) text && not (has_word_start text)) h in
     (both_true (list_all (is_between 32 126) text) (not (has_word_start text)) parts.1).0

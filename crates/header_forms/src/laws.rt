@@ -3,6 +3,7 @@
 ghost use Rattle.std.specs.Prelude.{◌≡◌, ◌<◌, map, [], ◌∷◌, ◌++◌, List, ℕ, Some, None, true, length, codes};
 ghost use Rattle.std.specs.List.{AllByRecursion, list_all};
 ghost use Rattle.std.specs.Str.{IsUtf8, chars, encode_utf8_all};
+ghost use Rattle.mime_lines.specs.Written.{is_folded};
 ghost use Rattle.mail_text.specs.declared.comment.State.TheVariants.{Outside};
 ghost use Rattle.mail_text.specs.Comments.{after_text};
 ghost use Rattle.mail_text.specs.Texts.{trimmed};
@@ -121,4 +122,15 @@ pub fn dates_are_read_back()
 pub fn addresses_are_read_back()
     ensures { (addresses : List Address) → AllByRecursion IsMailbox addresses
         → addresses_in (on_one_line (addresses_value addresses)) ≡ addresses }
+{}
+
+/// In each of these written values a space follows each line end, so that no other field begins in
+/// a value.
+pub fn written_values_are_folded()
+    ensures texts { (text : List ℕ) → IsFieldText text → is_folded (text_value text) ≡ true }
+    ensures identifiers { (ids : List (List ℕ)) → AllByRecursion IsId ids
+        → is_folded (ids_value ids) ≡ true }
+    ensures dates { (m : ZonedDateTime) → IsDateTime m → is_folded (date_value m) ≡ true }
+    ensures addresses { (addresses : List Address) → AllByRecursion IsMailbox addresses
+        → is_folded (addresses_value addresses) ≡ true }
 {}

@@ -29,6 +29,6 @@ pub use laws::{
     addresses_are_read_back, check_example_dates, check_example_forms,
     comments_in_dates_change_nothing, dates_are_read_back, identifiers_are_read_back,
     plain_groups_hold_their_items, plain_texts_are_one_address, quoted_names_are_read_back,
-    texts_are_read_back,
+    texts_are_read_back, written_values_are_folded,
 };
 pub use texts::{read_raw, read_text_form, unfold_value};

@@ -3,3 +3,5 @@ pub mod PartLimit
 pub mod Budget
 pub mod Places
 pub mod Numbers
+pub mod WrittenParts
+pub mod Boundaries

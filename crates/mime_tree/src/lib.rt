@@ -5,5 +5,8 @@ mod laws;
 mod part;
 mod walk;
 
-pub use laws::{first_parts_are_kept, leaves_are_numbered_in_order};
+pub use laws::{
+    first_parts_are_kept, leaves_are_numbered_in_order, numbered_boundaries_keep_parts_apart,
+    parts_are_read_back,
+};
 pub use walk::parts;

@@ -1,0 +1,6 @@
+pub mod QuotedBytes
+pub mod WordStarts
+pub mod Pieces
+pub mod Heads
+pub mod DateTimes
+pub mod Leads
