@@ -11,3 +11,4 @@ pub mod Places
 mod Required
 pub mod FirstByte
 mod LastByte
+mod OwnTexts

@@ -5,7 +5,14 @@ ghost use Rattle.std.specs.List.{list_all, list_any};
 ghost use Rattle.jm_base.specs.declared.identifiers.Kind.{Kind};
 ghost use Rattle.jm_json.specs.Tree.{Tree, null, no_fields, object};
 ghost use Rattle.filter_terms.specs.Filters.{holds};
-ghost use Rattle.filter_terms.specs.Laws.{EmailsDecide, MailboxesDecide, each_matches, operation};
+ghost use Rattle.filter_terms.specs.Laws.{
+  EmailsDecide,
+  MailboxesDecide,
+  OwnTextsDecide,
+  TextsOfRecordDecide,
+  each_matches,
+  operation,
+};
 ghost use Rattle.filter_terms.specs.Targets.{Target};
 
 /// Whether a filter matches depends on the record alone: on the mailbox, or on the email and, if
@@ -14,6 +21,14 @@ ghost use Rattle.filter_terms.specs.Targets.{Target};
 pub fn filters_see_only_their_record()
     ensures emails { EmailsDecide }
     ensures mailboxes { MailboxesDecide }
+{}
+
+/// Whether a filter matches an email depends, of all texts, on those of the email's own message. If
+/// two stores of messages have the same texts for that message, the filter matches the email in
+/// both or in neither. No text decides whether it matches a mailbox (RFC 8621, section 4.4.1).
+pub fn filters_see_only_their_texts()
+    ensures emails { OwnTextsDecide }
+    ensures records { TextsOfRecordDecide }
 {}
 
 /// AND matches where each condition does, OR where some does, NOT where none does. So an empty AND

@@ -31,6 +31,8 @@ pub use faults::TermFault;
 pub use filter::{
     Filter, find_required_text, is_wide, matches, matches_email, matches_mailbox, read_filter,
 };
-pub use laws::{filters_see_only_their_record, operators_join_their_conditions};
+pub use laws::{
+    filters_see_only_their_record, filters_see_only_their_texts, operators_join_their_conditions,
+};
 pub use required_text::RequiredText;
 pub use texts::{OpenedMessage, Place, Texts2};

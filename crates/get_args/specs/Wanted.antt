@@ -1,6 +1,6 @@
 -- The properties that the arguments of an Email/get or an Email/parse ask for (RFC 8621, 4.2 and
 -- 4.9).
-use Rattle.std.specs.Prelude.{⊤, ℕ, Bool, true, List, [], ◌∷◌, ◌++◌, map, Option, Some, None, option_map, option_and_then, codes, if◌then◌else◌}
+use Rattle.std.specs.Prelude.{⊤, ℕ, Bool, true, false, List, [], ◌∷◌, ◌++◌, map, Option, Some, None, option_map, option_and_then, unwrap_or, codes, if◌then◌else◌}
 use Rattle.jm_json.specs.Tree.{Tree, boolean, text, list, object, trees_of, fields_of}
 use Rattle.jm_json.specs.Find.{find, as_object}
 use Rattle.method_args.specs.Arguments.{as_strings, given, flag_in, count_in}
@@ -116,3 +116,33 @@ read_arguments =
       list (trees_of (map text (message_names ++ codes "bodyStructure" ∷ []))),
     )
     ∷ []))
+
+-- the properties of an email that a client keeps, in the order in which it asks for them
+abbrev pub cached_names : List (List ℕ)
+cached_names =
+    codes "id" ∷ codes "blobId" ∷ codes "threadId" ∷ codes "mailboxIds" ∷ codes "keywords"
+    ∷ codes "size" ∷ codes "receivedAt" ∷ codes "from" ∷ codes "subject" ∷ codes "preview"
+    ∷ codes "hasAttachment" ∷ []
+
+abbrev pub cached_names_tree : Tree
+cached_names_tree = list (trees_of (map text cached_names))
+
+-- the arguments of the Email/get by which a client asks for these emails of an account
+abbrev pub cached_arguments : List ℕ → List (List ℕ) → Tree
+cached_arguments account ids =
+    object (fields_of (
+    (codes "accountId", text account)
+    ∷ (codes "ids", list (trees_of (map text ids)))
+    ∷ (codes "properties", cached_names_tree)
+    ∷ []))
+
+-- what these arguments ask for
+unfoldable pub cached_wanted : Wanted
+cached_wanted = record {
+  properties = unwrap_or (each named_property (with_id false cached_names)) [];
+  parts = unwrap_or (each named_part_property part_names) [];
+  text_values = false;
+  html_values = false;
+  all_values = false;
+  most_bytes = 0;
+}

@@ -15,9 +15,11 @@ mod selection;
 mod wanted;
 
 pub use fault::{WantedFault, blame_argument};
-pub use laws::arguments_of_read_are_taken;
+pub use laws::{arguments_of_a_client_are_taken, arguments_of_read_are_taken};
 pub use property::{
     HeaderProperty, MetadataProperty, NamedPartProperty, NamedProperty, PartProperty, Property,
 };
 pub use selection::{Selection, find_hidden_properties, read_selection};
-pub use wanted::{Wanted, build_wanted_for_read, read_wanted, read_wanted_members};
+pub use wanted::{
+    Wanted, build_cached_names, build_wanted_for_read, read_wanted, read_wanted_members,
+};

@@ -5,7 +5,7 @@ ghost use Rattle.jm_json.specs.Json.{tree_of};
 ghost use Rattle.jm_json.specs.Tree.{text};
 ghost use Rattle.method_args.specs.Arguments.{count_in, flag_in};
 ghost use Rattle.get_args.specs.Faults.{Blames, ReadingFails};
-ghost use Rattle.get_args.specs.Wanted.{asked, default_names, names_by, parts_in, properties_in, read_arguments, wanted_by, wanted_in, with_id};
+ghost use Rattle.get_args.specs.Wanted.{asked, cached_names_tree, default_names, names_by, parts_in, properties_in, read_arguments, wanted_by, wanted_in, with_id};
 
 use crate::WantedFault;
 use crate::fault::blame_argument;
@@ -77,6 +77,21 @@ const PART_NAMES: [&str; 10] = [
     "cid",
     "language",
     "location",
+];
+
+// The properties of an email that a client keeps.
+const CACHED_NAMES: [&str; 11] = [
+    "id",
+    "blobId",
+    "threadId",
+    "mailboxIds",
+    "keywords",
+    "size",
+    "receivedAt",
+    "from",
+    "subject",
+    "preview",
+    "hasAttachment",
 ];
 
 fn default_names(alloc: Global, parse: bool) -> Result<Vec<&'static str>, NoMemory>
@@ -258,6 +273,14 @@ fn read_arguments(alloc: Global) -> Result<Json, NoMemory>
     args.set(alloc, "fetchTextBodyValues", Json::Bool(true))?;
     args.set(alloc, "properties", Json::List(names))?;
     Ok(Json::Object(args))
+}
+
+/// Returns the names of the properties of an email that a client keeps, as the argument
+/// `properties` of an Email/get (RFC 8621, section 4.2).
+pub fn build_cached_names(alloc: Global) -> Result<Json, NoMemory>
+    ensures { IfOk result (λ t. tree_of t ≡ cached_names_tree) }
+{
+    Ok(Json::List(build_name_items(alloc, &CACHED_NAMES)?))
 }
 
 /// Returns the properties of a message that the command line prints: the default properties of an

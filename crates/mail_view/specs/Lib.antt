@@ -11,4 +11,7 @@ pub mod Threads
 pub mod Emails
 pub mod Gets
 pub mod Parses
+pub mod CachedViews
+pub mod RecordPlaces
 pub mod Sizes
+pub mod Laws

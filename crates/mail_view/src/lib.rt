@@ -6,6 +6,7 @@
 #![tactic(auto)]
 
 mod headers;
+mod laws;
 mod message;
 mod message_view;
 mod metadata;
@@ -15,5 +16,9 @@ mod sizes;
 mod structure;
 mod values;
 
+pub use laws::{
+    client_gets_are_answered_with_views, views_are_those_of_states, views_have_their_form,
+    views_have_their_members, views_stay_as_blobs_are_added,
+};
 pub use message_view::view;
 pub use metadata::{write_date, write_keyword_set};

@@ -1,5 +1,6 @@
 -- From what a log and a content say to what is asked of their history.
-use Rattle.std.proofs.Common.{◌≡◌, ℕ, ◌-◌, Bool, true, false, ◌||◌, ◌&&◌, List, Option, Some, None, Result, Ok, Err, IfOk, IfErr, refl, sym, ap, ap₂, ◌∙◌, map, drop, take, length, take_all, arith}
+use Rattle.std.proofs.Common.{◌≡◌, ℕ, ◌+◌, ◌-◌, if◌then◌else◌, Bool, true, false, ◌||◌, ◌&&◌, List, [], ◌∷◌, Option, Some, None, Result, Ok, Err, IfOk, IfErr, refl, sym, ap, ap₂, ◌∙◌, subst, map, drop, take, length, take_all, ne_eqb, arith}
+use Rattle.std.specs.Prelude.{◌==◌}
 use Rattle.std.specs.List.{list_any}
 use Rattle.std.proofs.lemmas.Bool.{true≢false}
 use Rattle.std.specs.List.Sorted.{IsStrictlyIncreasing}
@@ -8,18 +9,20 @@ use Rattle.jm_base.specs.Splices.{has, with_index}
 use Rattle.mail_records.specs.Contents.{Content}
 use Rattle.mail_records.specs.Histories.{History, content_of, edits_after, edits_of}
 use Rattle.mail_records.specs.States.{AreNamed, ids_between, is_id, last_position, state_of}
-use Rattle.state_log.specs.Logs.{IsLogOf, Notes, ids_in, log_end, note_of}
+use Rattle.state_log.specs.Logs.{IsLogOf, Notes, ids_in, log_end, note_of, threads_named}
 use Rattle.state_log.specs.declared.notes.Note.{Note}
 use Rattle.state_log.proofs.Agreement.{state_of-log}
 use Rattle.state_log.proofs.Named.{ids-between}
-use Rattle.change_calls.specs.Changes.{reached_state}
+use Rattle.change_calls.specs.Changes.{is_within, reached_state}
 use Rattle.filter_terms.specs.Texts.{MessageTexts}
 use Rattle.query_engine.specs.Queries.{result_list}
 use Rattle.query_engine.specs.Views.{QueryTree}
-use Rattle.query_changes.specs.Deltas.{AreOf, answer_of, answer_since, answer_within, cannot_calculate, delta_of}
-use Rattle.query_changes.specs.Notes.{is_in_threads, notes_touch, threads_named}
+use Rattle.query_changes.specs.Deltas.{Answer, AreOf, DeltaFails, IsShown, answer_of, answer_since, answer_within, answered, cannot_calculate, change_count, delta_of, shown, too_many}
+use Rattle.query_changes.specs.Notes.{is_in_threads, notes_touch}
 use Rattle.query_changes.specs.Touched.{is_touched, looks_at_threads, touched}
 use Rattle.query_changes.specs.declared.delta.Delta.{Delta}
+use Rattle.query_changes.specs.declared.delta.DeltaFault.{DeltaFault}
+use Rattle.query_changes.specs.declared.delta.DeltaFault.TheVariants.{CannotCalculate, NoMemory, TooMany}
 use Rattle.query_changes.proofs.Touching.{has-touched_by, notes_touch-edits, touched_is, with_index-same}
 
 -- the notes after a position are those of the edits after it
@@ -94,11 +97,62 @@ delta_is h l c q texts from d numbers list are found ran removed added state tot
     let is_total : d.total ≡ length (result_list q (content_of h) texts) = total ∙ ap length now in
     λ i. record { removed = is_removed i; added = is_added i; new_state = is_state i; total = is_total i }
 
+-- ---- nothing is touched
+
+pub no_numbers : (ns : List ℕ) → true ≡ (length ns == 0) → ns ≡ []
+no_numbers [] e = refl
+no_numbers (n ∷ ns) e = absurd (true≢false (e ∙ ne_eqb (length (n ∷ ns)) 0 (λ (z : length (n ∷ ns) ≡ 0). omega (arith, z))))
+
+no_items : (start : ℕ) (list : List ℕ) → with_index (has []) start list ≡ []
+no_items start [] = refl
+no_items start (n ∷ ns) = no_items (start + 1) ns
+
+pub nothing_shown : (h : History) (l : Notes) (c : Content) (q : QueryTree) (texts : ℕ → MessageTexts) (from : ℕ) (d : Delta) → AreOf h l c → [] ≡ touched h q from
+    → d.removed ≡ [] → d.added ≡ [] → d.new_state ≡ last_position q.kind l.floor l.floors (ids_in l.notes)
+    → shown false d ≡ shown false (delta_of h q texts from)
+nothing_shown h l c q texts from d are found removed added state =
+    let list = result_list q (content_of h) texts in
+    let is_removed : d.removed ≡ touched h q from = removed ∙ found in
+    let is_added : d.added ≡ with_index (is_touched h q from) 0 list =
+    added
+    ∙ (sym (no_items 0 list)
+    ∙ with_index-same (has []) (is_touched h q from) (λ n. ap (λ (ns : List ℕ). has ns n) found ∙ has-touched_by q (edits_after h from) (content_of h) n) 0 list) in
+    let is_state : d.new_state ≡ state_of h q.kind = state ∙ state_of-log h l q.kind are.log in
+    λ i. record { removed = is_removed i; added = is_added i; new_state = is_state i; total = 0 }
+
 -- ---- the answer
 
-pub answer_delta : (h : History) (q : QueryTree) (texts : ℕ → MessageTexts) (since : List ℕ) (max : Option ℕ) (from : ℕ) (d : Delta) → Some from ≡ reached_state h q.kind since → d ≡ delta_of h q texts from
-    → answer_of h q texts since max ≡ answer_within max d
-answer_delta h q texts since max from d state is = ap (answer_since h q texts max) (sym state) ∙ ap (answer_within max) (sym is)
+count_same : (counted : Bool) (d e : Delta) → shown counted d ≡ shown counted e → change_count d ≡ change_count e
+count_same true d e same = ap change_count same
+count_same false d e same = ap change_count same
+
+module _ (counted : Bool) (max : Option ℕ) (d e : Delta) (same : shown counted d ≡ shown counted e) where
+  pub within_shown : (kept : Delta) → answer_within max d ≡ answered kept → IsShown counted kept (answer_within max e)
+  within_shown kept is =
+      by (is_within max (change_count e)) (change_count e) (ap (λ n. if is_within max n then answered d else too_many n) (sym (count_same counted d e same)) ∙ is)
+    where
+      by : (b : Bool) (n : ℕ) → (if b then answered d else too_many n) ≡ answered kept → IsShown counted kept (if b then answered e else too_many n)
+      by true n is = let one : d ≡ kept = cc is in subst (λ x. shown counted x ≡ shown counted e) one same
+      by false n is = absurd (cc is)
+
+  pub within_fails : (fault : DeltaFault) → DeltaFails fault (answer_within max d) → DeltaFails fault (answer_within max e)
+  within_fails fault is =
+      by (is_within max (change_count e)) (change_count e) fault (subst (λ n. DeltaFails fault (if is_within max n then answered d else too_many n)) (count_same counted d e same) is)
+    where
+      by : (b : Bool) (n : ℕ) (fault : DeltaFault) → DeltaFails fault (if b then answered d else too_many n) → DeltaFails fault (if b then answered e else too_many n)
+      by true n CannotCalculate is = absurd (cc is)
+      by true n (TooMany k) is = absurd (cc is)
+      by true n NoMemory is = tt
+      by false n fault is = is
+
+pub shown_whole : (d : Delta) (a : Answer) → IsShown true d a → a ≡ answered d
+shown_whole d (answered e) is = ap answered (sym is)
+shown_whole d cannot_calculate is = absurd is
+shown_whole d (too_many count) is = absurd is
+
+pub answer_delta : (h : History) (q : QueryTree) (texts : ℕ → MessageTexts) (since : List ℕ) (max : Option ℕ) (from : ℕ) → Some from ≡ reached_state h q.kind since
+    → answer_of h q texts since max ≡ answer_within max (delta_of h q texts from)
+answer_delta h q texts since max from state = ap (answer_since h q texts max) (sym state)
 
 pub answer_untold : (h : History) (q : QueryTree) (texts : ℕ → MessageTexts) (since : List ℕ) (max : Option ℕ) → None ≡ reached_state h q.kind since → answer_of h q texts since max ≡ cannot_calculate
 answer_untold h q texts since max state = ap (answer_since h q texts max) (sym state)

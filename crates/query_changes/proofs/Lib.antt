@@ -5,3 +5,5 @@ pub mod UpToDate
 pub mod ThreadMembers
 pub mod Finding
 pub mod States
+mod ListTexts
+mod OwnTexts

@@ -19,14 +19,14 @@ use Rattle.mail_records.specs.declared.edits.Edit.{Edit}
 use Rattle.mail_records.specs.declared.records.Email.{Email}
 use Rattle.mail_records.proofs.KeyTables.{nat_equal}
 use Rattle.method_args.specs.Arguments.{passes}
-use Rattle.state_log.specs.Logs.{note_of, numbers_named}
+use Rattle.state_log.specs.Logs.{note_of, numbers_named, threads_named, with_thread}
 use Rattle.state_log.proofs.Agreement.{ids_in-notes}
 use Rattle.state_log.proofs.Named.{any-numbers_named}
 use Rattle.query_engine.specs.Queries.{is_wide, numbers_of}
 use Rattle.query_engine.specs.Views.{QueryTree}
 use Rattle.query_engine.proofs.Results.{has_numbers, has_sorted, one_list, sorted_rises}
 use Rattle.query_changes.specs.Laws.{AreTheTouched}
-use Rattle.query_changes.specs.Notes.{notes_touch, threads_named, with_thread}
+use Rattle.query_changes.specs.Notes.{notes_touch}
 use Rattle.query_changes.specs.Touched.{looks_at_threads, names_thread, shares_thread, touched_by, touches}
 
 -- equal by the order of numbers are a number and itself alone

@@ -1,5 +1,5 @@
 -- How the result list of a query changed since a state (RFC 8620, 5.6).
-use Rattle.std.specs.Prelude.{◌≡◌, ℕ, ◌+◌, List, length, Option, Some, None, if◌then◌else◌, ⊤}
+use Rattle.std.specs.Prelude.{◌≡◌, ℕ, ◌+◌, Bool, true, false, List, length, Option, Some, None, if◌then◌else◌, ⊤}
 use Rattle.jm_base.specs.Splices.{with_index}
 use Rattle.mail_records.specs.Contents.{Content}
 use Rattle.mail_records.specs.Histories.{History, content_of}
@@ -56,6 +56,17 @@ abbrev pub DeltaFails : DeltaFault → Answer → Type 0
 DeltaFails CannotCalculate a = a ≡ cannot_calculate
 DeltaFails (TooMany count) a = a ≡ too_many count
 DeltaFails NoMemory a = ⊤
+
+-- the changes as a response shows them, with the total or without it
+abbrev pub shown : Bool → Delta → Delta
+shown true d = d
+shown false d = record d { total = 0 }
+
+-- these changes are the answer, as a response with the total or without it shows them
+abbrev pub IsShown : Bool → Delta → Answer → Type 0
+IsShown counted d (answered e) = shown counted d ≡ shown counted e
+IsShown counted d cannot_calculate = ⊥
+IsShown counted d (too_many count) = ⊥
 
 -- the log and the content are those of the history
 pub record AreOf (h : History) (l : Notes) (c : Content) : Type 0 where

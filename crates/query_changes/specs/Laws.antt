@@ -1,13 +1,19 @@
 -- Laws of changes of result lists.
-use Rattle.std.specs.Prelude.{◌≡◌, ℕ, ◌≤◌, false, List, Ok}
+use Rattle.std.specs.Prelude.{◌≡◌, ℕ, ◌≤◌, false, List, Option, Ok}
 use Rattle.std.specs.List.Sorted.{IsStrictlyIncreasing}
 use Rattle.jm_base.specs.Splices.{has, splice}
+use Rattle.mail_records.specs.Contents.{Content}
 use Rattle.mail_records.specs.Histories.{FloorsAtMost, History, IsSound, content_at, content_of}
 use Rattle.mail_records.specs.States.{Reaches, state_at}
+use Rattle.jm_base.specs.declared.identifiers.Kind.{Kind}
+use Rattle.jm_json.specs.Tree.{Tree}
+use Rattle.filter_terms.specs.Laws.{HaveSameTexts}
 use Rattle.filter_terms.specs.Texts.{MessageTexts}
 use Rattle.query_engine.specs.Queries.{IsResult, order_of, result_list, shows}
+use Rattle.query_engine.specs.Responses.{query_outcome}
 use Rattle.query_engine.specs.Views.{QueryTree}
-use Rattle.query_changes.specs.Deltas.{delta_of}
+use Rattle.query_changes.specs.Deltas.{answer_of, delta_of}
+use Rattle.query_changes.specs.Responses.{query_changes_outcome}
 use Rattle.query_changes.specs.Touched.{is_touched, touched}
 
 -- The touched numbers are in number order, each once, and are exactly those that edits touch.
@@ -45,3 +51,36 @@ StatesDecide =
     → FloorsAtMost h.floors h.floor → h.floor ≤ k
     → result_list q (content_at h k) texts
     ≡ result_list q (content_at h (state_at h q.kind k)) texts
+
+-- Of all texts, those of the messages of a content's emails decide a result list, and the outcome
+-- of a call of /query.
+abbrev pub TextsDecideLists : Type 0
+TextsDecideLists =
+    (q : QueryTree) (c : Content) (texts others : ℕ → MessageTexts)
+    → HaveSameTexts texts others c.emails → result_list q c texts ≡ result_list q c others
+
+abbrev pub TextsDecideQueries : Type 0
+TextsDecideQueries =
+    (kind : Kind) (state : ℕ) (c : Content) (texts others : ℕ → MessageTexts) (args : Tree)
+    → HaveSameTexts texts others c.emails
+    → query_outcome kind state c texts args ≡ query_outcome kind state c others args
+
+-- So do those of the present emails the changes of a list, and the answer and the outcome of a call
+-- of /queryChanges.
+abbrev pub TextsDecide : Type 0
+TextsDecide =
+    (h : History) (q : QueryTree) (texts others : ℕ → MessageTexts) (s : ℕ)
+    → HaveSameTexts texts others (content_of h).emails
+    → delta_of h q texts s ≡ delta_of h q others s
+
+abbrev pub TextsDecideAnswers : Type 0
+TextsDecideAnswers =
+    (h : History) (q : QueryTree) (texts others : ℕ → MessageTexts) (since : List ℕ)
+    (max : Option ℕ) → HaveSameTexts texts others (content_of h).emails
+    → answer_of h q texts since max ≡ answer_of h q others since max
+
+abbrev pub TextsDecideOutcomes : Type 0
+TextsDecideOutcomes =
+    (h : History) (texts others : ℕ → MessageTexts) (kind : Kind) (args : Tree)
+    → HaveSameTexts texts others (content_of h).emails
+    → query_changes_outcome h texts kind args ≡ query_changes_outcome h others kind args

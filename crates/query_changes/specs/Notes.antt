@@ -1,24 +1,14 @@
 -- For private clauses: what the notes of edits touch.
-use Rattle.std.specs.Prelude.{ℕ, Bool, ◌&&◌, ◌||◌, List, [], ◌∷◌, Option, Some, None}
+use Rattle.std.specs.Prelude.{ℕ, Bool, ◌&&◌, ◌||◌, List}
 use Rattle.std.specs.List.{list_any}
 use Rattle.jm_base.specs.Splices.{has}
 use Rattle.mail_records.specs.Contents.{Content, email_at}
 use Rattle.mail_records.specs.States.{is_id}
 use Rattle.method_args.specs.Arguments.{passes}
-use Rattle.state_log.specs.Logs.{ids_in}
+use Rattle.state_log.specs.Logs.{ids_in, threads_named}
 use Rattle.state_log.specs.declared.notes.Note.{Note}
 use Rattle.query_engine.specs.Views.{QueryTree}
 use Rattle.query_changes.specs.Touched.{looks_at_threads}
-
--- a thread, if there is one, and these
-abbrev pub with_thread : Option ℕ → List ℕ → List ℕ
-with_thread None threads = threads
-with_thread (Some thread) threads = thread ∷ threads
-
--- the threads that notes name, each time that they do
-abbrev pub threads_named : List Note → List ℕ
-threads_named [] = []
-threads_named (n ∷ ns) = with_thread n.thread (threads_named ns)
 
 -- there is an email of this number, in one of these threads
 abbrev pub is_in_threads : List ℕ → Content → ℕ → Bool

@@ -3,9 +3,9 @@ ghost use Rattle.std.specs.Prelude.{◌≡◌, ◌≤◌, IfErr, IfOk};
 ghost use Rattle.mail_records.specs.Histories.{History};
 ghost use Rattle.state_log.specs.Logs.{log_end};
 ghost use Rattle.change_calls.specs.Changes.{is_within};
-ghost use Rattle.query_changes.specs.Deltas.{AreOf, DeltaFails, answer_of, answer_within, answered, delta_of};
+ghost use Rattle.query_changes.specs.Deltas.{AreOf, DeltaFails, IsShown, answer_of, answer_within, answered, delta_of, shown};
 
-use crate::delta::{Delta, DeltaFault};
+use crate::delta::{Added, Delta, DeltaFault};
 use crate::touched::{find_touched, place_touched};
 use change_calls::find_state;
 use filter_terms::Texts2;
@@ -15,7 +15,8 @@ use query_engine::{Query, run_query};
 use state_log::Log;
 use std::alloc::Global;
 
-// Returns the changes since a position that the log reaches.
+// Returns the changes since a position that the log reaches. The total may be any number, unless it
+// is counted: then no query is run if nothing is touched.
 fn make_delta<T: Texts2>(
     alloc: Global,
     log: &Log,
@@ -23,18 +24,28 @@ fn make_delta<T: Texts2>(
     texts: &T,
     query: &Query,
     from: u64,
+    counted: bool,
 ) -> Result<Delta, NoMemory>
     requires { from ≤ log_end log.now }
     ensures { IfOk result (λ delta. (h : History) → AreOf h log.now content.now.content
-        → delta ≡ delta_of h query.now (T.texts texts.now) from) }
+        → shown counted delta ≡ shown counted (delta_of h query.now (T.texts texts.now) from)) }
 {
-    let touched = find_touched(alloc, log, content, query, from)?;
+    let touched = Numbers::from_vec(find_touched(alloc, log, content, query, from)?);
+    let new_state = log.state_of(query.kind());
+    if !counted && touched.is_empty() {
+        return Ok(Delta {
+            removed: touched,
+            added: Added::from_vec(Vec::new(alloc)),
+            new_state,
+            total: 0,
+        });
+    }
     let list = run_query(alloc, content, texts, query)?;
-    let added = place_touched(alloc, &touched, list.as_slice())?;
+    let added = place_touched(alloc, touched.as_slice(), list.as_slice())?;
     Ok(Delta {
-        removed: Numbers::from_vec(touched),
+        removed: touched,
         added,
-        new_state: log.state_of(query.kind()),
+        new_state,
         total: list.len() as u64,
     })
 }
@@ -58,6 +69,33 @@ fn keep_within(delta: Delta, max: Option<u64>) -> Result<Delta, DeltaFault>
         return Ok(delta);
     }
     Err(DeltaFault::TooMany(count))
+}
+
+/// Returns the changes of a query's result list since a state, as a response with the total or
+/// without it shows them. Without it their total may be any number, and no query is run if nothing
+/// is touched.
+pub(crate) fn find_changes<T: Texts2>(
+    alloc: Global,
+    log: &Log,
+    content: &Content,
+    texts: &T,
+    query: &Query,
+    since: &[u8],
+    max: Option<u64>,
+    counted: bool,
+) -> Result<Delta, DeltaFault>
+    ensures delta { IfOk result (λ delta. (h : History) → AreOf h log.now content.now.content
+        → IsShown counted delta (answer_of h query.now (T.texts texts.now) since.now max)) }
+    ensures fault { IfErr result (λ fault. (h : History) → AreOf h log.now content.now.content
+        → DeltaFails fault (answer_of h query.now (T.texts texts.now) since.now max)) }
+{
+    match find_state(log, query.kind(), since) {
+        Some(from) => keep_within(
+            make_delta(alloc, log, content, texts, query, from, counted)?,
+            max,
+        ),
+        None => Err(DeltaFault::CannotCalculate),
+    }
 }
 
 /// Returns how the result list of a query changed since a state, over an account with this log and
@@ -84,8 +122,5 @@ pub fn query_changes<T: Texts2>(
     ensures fault { IfErr result (λ fault. (h : History) → AreOf h log.now content.now.content
         → DeltaFails fault (answer_of h query.now (T.texts texts.now) since.now max)) }
 {
-    match find_state(log, query.kind(), since) {
-        Some(from) => keep_within(make_delta(alloc, log, content, texts, query, from)?, max),
-        None => Err(DeltaFault::CannotCalculate),
-    }
+    find_changes(alloc, log, content, texts, query, since, max, true)
 }

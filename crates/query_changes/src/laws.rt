@@ -3,7 +3,20 @@
 ghost use Rattle.std.specs.Prelude.{ℕ};
 ghost use Rattle.mail_records.specs.Histories.{History};
 ghost use Rattle.query_engine.specs.Views.{QueryTree};
-ghost use Rattle.query_changes.specs.Laws.{AreTheTouched, BringsUpToDate, OrderedAlike, ShownAlike, StatesDecide};
+ghost use Rattle.query_changes.specs.Laws.{
+  AreTheTouched,
+  BringsUpToDate,
+  OrderedAlike,
+  ShownAlike,
+  StatesDecide,
+  TextsDecide,
+  TextsDecideAnswers,
+  TextsDecideLists,
+  TextsDecideOutcomes,
+  TextsDecideQueries,
+};
+
+use filter_terms::filters_see_only_their_texts;
 
 /// The list of a query at a state, spliced by the changes since then, is the list of the query now:
 /// over every history whose edits fit and keep each email in its thread, from every state that the
@@ -27,3 +40,22 @@ pub fn untouched_records_stay()
 pub fn lists_are_those_of_states()
     ensures { StatesDecide }
 {}
+
+/// A result list and the response to a query depend, of all texts, on those of the messages of the
+/// emails that are there. So they stay the same as blobs are added (RFC 8620, section 5.5).
+pub fn lists_see_only_their_texts()
+    ensures lists { TextsDecideLists }
+    ensures outcomes { TextsDecideQueries }
+{
+    filters_see_only_their_texts();
+}
+
+/// The changes of a list, and the response that has them, depend of all texts on those of the
+/// messages of the present emails. So they stay the same as blobs are added.
+pub fn changes_see_only_their_texts()
+    ensures deltas { TextsDecide }
+    ensures answers { TextsDecideAnswers }
+    ensures outcomes { TextsDecideOutcomes }
+{
+    lists_see_only_their_texts();
+}

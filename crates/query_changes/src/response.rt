@@ -8,7 +8,7 @@ ghost use Rattle.query_changes.specs.Responses.{ExplainsCall, added_tree, added_
 ghost use Rattle.query_engine.specs.Responses.{query as the_query};
 
 use crate::arguments::{find_invalid_argument, is_set, read_max_changes, read_string};
-use crate::changes::query_changes;
+use crate::changes::find_changes;
 use crate::delta::{Delta, DeltaFault};
 use crate::faults::QueryChangesFault;
 use filter_terms::Texts2;
@@ -107,10 +107,19 @@ fn answer_query<T: Texts2>(
 {
     let since = read_string(members, "sinceQueryState");
     let max = read_max_changes(members);
-    match query_changes(alloc, log, content, texts, query, since.as_bytes(), max) {
+    let counted = is_set(members, "calculateTotal");
+    match find_changes(
+        alloc,
+        log,
+        content,
+        texts,
+        query,
+        since.as_bytes(),
+        max,
+        counted,
+    ) {
         Ok(delta) => {
             let account = read_string(members, "accountId");
-            let counted = is_set(members, "calculateTotal");
             Ok(make_reply(alloc, kind, account, since, counted, &delta)?)
         }
         Err(DeltaFault::CannotCalculate) => Err(QueryChangesFault::CannotCalculate),
@@ -153,7 +162,8 @@ fn answer_members<T: Texts2>(
 /// kind are known; then with `TooMany` if there are more changes than `maxChanges`. Fails with
 /// `NoMemory` if an allocation fails.
 ///
-/// It costs what the query costs, and what the edits since the state cost.
+/// It costs what the query costs, and what the edits since the state cost. If nothing is touched
+/// and `calculateTotal` is not set, no query is run.
 pub fn answer_query_changes<T: Texts2>(
     alloc: Global,
     log: &Log,

@@ -7,28 +7,15 @@ ghost use Rattle.mail_records.specs.Histories.{History};
 ghost use Rattle.method_args.specs.Arguments.{passes};
 ghost use Rattle.state_log.specs.Logs.{log_end};
 ghost use Rattle.query_changes.specs.Deltas.{AreOf};
-ghost use Rattle.query_changes.specs.Notes.{is_in_threads, threads_named};
+ghost use Rattle.query_changes.specs.Notes.{is_in_threads};
 ghost use Rattle.query_changes.specs.Touched.{looks_at_threads, touched};
 
 use crate::delta::Added;
 use jm_base::{AddedItem, Kind, NoMemory, put_in_order};
 use mail_records::Content;
 use query_engine::Query;
-use state_log::{Log, Note};
+use state_log::Log;
 use std::alloc::Global;
-
-// Returns the threads that notes name, each time that they do.
-fn list_threads(alloc: Global, notes: &[Note]) -> Result<Vec<u64>, NoMemory>
-    ensures { IfOk result (λ v. v.items ≡ threads_named notes.now) }
-{
-    let mut threads = Vec::new(alloc);
-    for note in notes {
-        if let Some(thread) = note.thread {
-            threads.push(thread)?;
-        }
-    }
-    Ok(threads)
-}
 
 // Adds the numbers of the emails of a thread.
 fn push_thread(numbers: &mut Vec<u64>, content: &Content, thread: u64) -> Result<(), NoMemory>
@@ -54,18 +41,19 @@ fn push_threads(numbers: &mut Vec<u64>, content: &Content, threads: &[u64]) -> R
     Ok(())
 }
 
-// Adds the numbers of the emails of the threads that notes name, and puts all in order.
+// Adds the numbers of the emails of these threads, of which some may be named more than once, and
+// puts all in order.
 fn add_threads(
     alloc: Global,
     numbers: &mut Vec<u64>,
     content: &Content,
-    notes: &[Note],
+    named: &[u64],
 ) -> Result<(), NoMemory>
     ensures rise { OnOk result (IsStrictlyIncreasing numbers.new.items) }
     ensures same { OnOk result ((n : ℕ) → has numbers.new.items n ≡ (has numbers.old.items n
-        || is_in_threads (threads_named notes.now) content.now.content n)) }
+        || is_in_threads named.now content.now.content n)) }
 {
-    let mut threads = list_threads(alloc, notes)?;
+    let mut threads = Vec::from_slice(alloc, named)?;
     put_in_order(&mut threads);
     push_threads(numbers, content, &threads)?;
     put_in_order(numbers);
@@ -98,12 +86,7 @@ pub(crate) fn find_touched(
     let named = log.touched(alloc, query.kind(), from, end)?;
     let mut numbers = named.into_vec();
     if looks_at_threads(query) {
-        add_threads(
-            alloc,
-            &mut numbers,
-            content,
-            log.find_notes_between(from, end),
-        )?;
+        add_threads(alloc, &mut numbers, content, log.threads_between(from, end))?;
         return Ok(numbers);
     }
     Ok(numbers)

@@ -11,3 +11,5 @@ pub mod Sorting
 pub mod Ran
 pub mod Walking
 pub mod ByTime
+pub mod MailboxSorted
+pub mod ByNumber

@@ -37,7 +37,7 @@ or_false true = refl
 or_false false = refl
 
 module _ {R : ℕ → ℕ → Ordering} (o : IsTotalOrder R) (apart : (a b : ℕ) → R a b ≡ Equal → a ≡ b) where
-  is_one : (n x : ℕ) → is_eq (R x n) ≡ eqb x n
+  pub is_one : (n x : ℕ) → is_eq (R x n) ≡ eqb x n
   is_one n x =
       same_tests (is_eq (R x n)) (eqb x n) (λ e. eq-eqb x n (apart x n (eq_Equal (R x n) e)))
       (λ e. subst (λ y. is_eq (R x y) ≡ true) (eqb-true x n e) (ap is_eq (tied_itself o x)))

@@ -38,7 +38,7 @@ less_from Less p e f n = refl
 less_from Equal p e f n = absurd (n refl)
 less_from Greater p e f n = absurd (false≢true (sym f ∙ ap is_lt e))
 
-strictly : {R : ℕ → ℕ → Ordering} → IsTotalOrder R → ((a b : ℕ) → R a b ≡ Equal → a ≡ b) → (ks : List ℕ) → IsSortedBy (λ a b. is_lt (R a b)) ks → IsDistinct eqb ks → IsStrictlySortedBy R ks
+pub strictly : {R : ℕ → ℕ → Ordering} → IsTotalOrder R → ((a b : ℕ) → R a b ≡ Equal → a ≡ b) → (ks : List ℕ) → IsSortedBy (λ a b. is_lt (R a b)) ks → IsDistinct eqb ks → IsStrictlySortedBy R ks
 strictly {R} total apart ks up distinct =
     sorted_from_all_adjacent total ks 0 (λ k lt.
     let a = get_or ks k 0 in
@@ -51,7 +51,7 @@ distinct_increasing ks up =
     IsDistinct-from_apart eqb ks (λ i j d lt in'.
     let less = AllPairs-from_increasing ks up i j d lt in' in ne_eqb (get_or ks i d) (get_or ks j d) (λ e. omega arith))
 
-eqb_turns : (x y : ℕ) → eqb x y ≡ eqb y x
+pub eqb_turns : (x y : ℕ) → eqb x y ≡ eqb y x
 eqb_turns x y = grind arith
 
 less_all : {X : Type 0} (number : X → ℕ) (n : ℕ) (xs : List X) → AllByRecursion (λ x. n < number x) xs → AllByRecursion (λ m. nat_cmp n m ≡ Less) (map number xs)

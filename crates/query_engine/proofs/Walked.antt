@@ -32,7 +32,7 @@ use Rattle.sort_terms.specs.declared.comparators.Comparator.{Comparator}
 use Rattle.sort_terms.specs.declared.properties.Property.TheVariants.{ReceivedAt}
 use Rattle.query_engine.specs.Queries.{order_of}
 use Rattle.query_engine.specs.Views.{QueryTree}
-use Rattle.query_engine.specs.Walks.{IsInMailbox, IsSortedByReceived, Row, RowsAscend, directed_rows, dated_row, descending, descending_cmp, directed_cmp, is_match, matches_list, matching, numbers_in, ascending_cmp, row_number}
+use Rattle.query_engine.specs.Walks.{IsInMailbox, IsSortedByReceived, Row, RowsAscend, directed_rows, dated_row, descending, descending_cmp, directed_cmp, is_match, matches_list, matching, numbers_in, ascending_cmp, placed_row, row_number}
 use Rattle.query_engine.proofs.Results.{is_matches_list}
 use Rattle.query_engine.proofs.RowLists.{all_sorted, any_sorted, falling_one, falling_total}
 use Rattle.mail_records.proofs.Rising.{rise-put_all}
@@ -217,9 +217,6 @@ module _ (q : QueryTree) (c : Content) (k : q.kind ≡ OfEmails) (ascending : Bo
       (lookup_number email_number n c.emails w.0 w.1))
 
 -- ---- the emails in a mailbox by the time received
-
-abbrev pub placed_row : Placed → Row
-placed_row p = record { received = p.received; number = p.email }
 
 module _ (q : QueryTree) (c : Content) (k : q.kind ≡ OfEmails) (ascending : Bool) (by : IsSortedByReceived q.order ascending) (mailbox : ℕ) (within : IsInMailbox q.filter mailbox) (ps : List Placed) (are : AreInMailbox c mailbox ps) where
   abbrev kp : Placed → Key

@@ -12,6 +12,7 @@ use Rattle.mail_records.specs.Contents.{Content, email_number, mailbox_number}
 use Rattle.mail_records.specs.declared.records.Email.{Email}
 use Rattle.mail_records.specs.declared.records.Mailbox.{Mailbox}
 use Rattle.mail_records.specs.declared.entries.Dated.{Dated}
+use Rattle.mail_records.specs.declared.entries.Placed.{Placed}
 use Rattle.mail_records.specs.OrderSteps.{put_all_in}
 use Rattle.mail_records.specs.States.{is_kind}
 use Rattle.method_args.specs.Arguments.{passes, text_in}
@@ -26,7 +27,7 @@ use Rattle.query_engine.specs.Views.{QueryTree}
 use Rattle.query_engine.specs.Windows.{is_id_of}
 use Rattle.query_engine.specs.declared.page.Page.{Page}
 use Rattle.query_engine.specs.declared.walks.Walk.{Walk}
-use Rattle.query_engine.specs.declared.walks.Walk.TheVariants.{Sorted, ByReceived, InMailbox}
+use Rattle.query_engine.specs.declared.walks.Walk.TheVariants.{Sorted, SortedInMailbox, ByReceived, InMailbox}
 
 -- ---- pages
 
@@ -108,6 +109,9 @@ directed_cmp false = descending_cmp
 abbrev pub dated_row : Dated → Row
 dated_row d = record { received = d.received; number = d.email }
 
+abbrev pub placed_row : Placed → Row
+placed_row p = record { received = p.received; number = p.email }
+
 abbrev pub dated_cmp : Bool → Dated → Dated → Ordering
 dated_cmp ascending a b = directed_cmp ascending (dated_row a) (dated_row b)
 
@@ -185,6 +189,7 @@ is_conjunction ms = passes (λ name. bytes_eq name (codes "AND")) (text_in (code
 
 abbrev pub Serves : Walk → QueryTree → Type 0
 Serves Sorted q = ⊤
+Serves (SortedInMailbox mailbox) q = (q.kind ≡ OfEmails) × IsInMailbox q.filter mailbox
 Serves (ByReceived ascending) q = (q.kind ≡ OfEmails) × IsSortedByReceived q.order ascending
 Serves (InMailbox mailbox ascending) q =
     (q.kind ≡ OfEmails) × (IsSortedByReceived q.order ascending × IsInMailbox q.filter mailbox)

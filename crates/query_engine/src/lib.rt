@@ -7,6 +7,7 @@
 #![tactic(auto)]
 
 mod arguments;
+mod by_number;
 mod by_time;
 mod faults;
 mod frame;
@@ -18,6 +19,7 @@ mod query;
 mod response;
 mod rows;
 mod run;
+mod sorted_in_mailbox;
 mod walks;
 mod windows;
 

@@ -52,9 +52,9 @@ impl Candidate for Placed {
     }
 }
 
-// Puts an email on the page if the filter matches it, and if no email of its thread is there where
-// threads are collapsed.
-fn visit_email<T: Texts2>(
+/// Puts an email on the page if the filter matches it, and if no email of its thread is there where
+/// threads are collapsed.
+pub(crate) fn visit_email<T: Texts2>(
     page: &mut Page,
     query: &Query,
     content: &Content,

@@ -4,16 +4,18 @@ ghost use Rattle.mail_records.specs.Contents.{email_number, mailbox_number};
 ghost use Rattle.mail_records.specs.Tables.{IsTable};
 ghost use Rattle.std.specs.List.Sorted.{IsPermutation, IsSorted};
 ghost use Rattle.jm_base.specs.declared.identifiers.Kind.TheVariants.{Email as OfEmails, Mailbox as OfMailboxes};
-ghost use Rattle.sort_terms.specs.Orders.{is_by_number, numbers_cmp};
+ghost use Rattle.sort_terms.specs.Orders.{numbers_cmp};
 ghost use Rattle.query_engine.specs.Queries.{numbers_of, result_list};
 ghost use Rattle.query_engine.specs.Walks.{Follows, at_most, collapses, is_match, kept_emails, kept_mailboxes, matches_list, IsSortedByReceived};
 ghost use Rattle.query_engine.specs.Threads.{thread_of};
 
+use crate::by_number::put_by_number;
 use crate::by_time::put_emails_by_time;
 use crate::narrowed::{collect_narrowed_numbers, narrow};
 use crate::page::{Page, finish, is_full, new_page, put_number};
 use crate::query::Query;
 use crate::rows::walk;
+use crate::sorted_in_mailbox::put_sorted_in_mailbox;
 use crate::walks::Walk;
 use filter_terms::{Texts2, matches_email, matches_mailbox};
 use jm_base::{Kind, NoMemory, Numbers};
@@ -101,27 +103,13 @@ fn collect_matching_numbers<T: Texts2>(
     }
 }
 
-fn sort_by_comparators(order: &Order, content: &Content, numbers: &mut Vec<u64>)
+/// Sorts numbers of records by an order.
+pub(crate) fn sort_by_comparators(order: &Order, content: &Content, numbers: &mut Vec<u64>)
     ensures same { IsPermutation numbers.old.items numbers.new.items }
     ensures sorted { IsSorted (numbers_cmp order.now.kind order.now.tree content.now.content)
         numbers.new.items }
 {
     numbers.sort_unstable_by(|a, b| compare_numbers(order, content, *a, *b));
-}
-
-// Sorts numbers of records by an order. Without a comparator they are in the order already.
-fn sort_numbers(order: &Order, content: &Content, numbers: &mut Vec<u64>)
-    requires { is_by_number order.now.kind order.now.tree ≡ true
-        → IsSorted (numbers_cmp order.now.kind order.now.tree content.now.content)
-        numbers.old.items }
-    ensures same { IsPermutation numbers.old.items numbers.new.items }
-    ensures sorted { IsSorted (numbers_cmp order.now.kind order.now.tree content.now.content)
-        numbers.new.items }
-{
-    if is_by_number(order) {
-        return;
-    }
-    sort_by_comparators(order, content, numbers);
 }
 
 pub(crate) fn find_thread_number(content: &Content, number: u64) -> u64
@@ -134,7 +122,7 @@ pub(crate) fn find_thread_number(content: &Content, number: u64) -> u64
 }
 
 // Returns the thread of an email, if a page collapses threads.
-fn find_thread_for(page: &Page, content: &Content, number: u64) -> u64
+pub(crate) fn find_thread_for(page: &Page, content: &Content, number: u64) -> u64
     ensures { page.now.collapse ≡ true → thread_of content.now.content number ≡ result }
 {
     if !page.collapse {
@@ -159,7 +147,8 @@ pub(crate) fn put_numbers(
     Ok(())
 }
 
-// Puts what the filter matches on the page, sorted.
+// Puts what the filter matches on the page, sorted. Without a comparator the records are looked at
+// in number order, until the page is full.
 fn walk_sorted<T: Texts2>(
     alloc: Global,
     page: &mut Page,
@@ -172,8 +161,11 @@ fn walk_sorted<T: Texts2>(
 {
     let _mailboxes = content.mailboxes();
     let _emails = content.emails();
+    if is_by_number(query.order()) {
+        return put_by_number(alloc, page, query, content, texts);
+    }
     let mut numbers = collect_matching_numbers(alloc, query, content, texts)?;
-    sort_numbers(query.order(), content, &mut numbers);
+    sort_by_comparators(query.order(), content, &mut numbers);
     put_numbers(page, content, &numbers)
 }
 
@@ -219,6 +211,9 @@ fn walk_query<T: Texts2>(
 {
     match query.walk() {
         Walk::Sorted => walk_sorted(alloc, page, query, content, texts),
+        Walk::SortedInMailbox(mailbox) => {
+            put_sorted_in_mailbox(alloc, page, query, content, texts, mailbox)
+        }
         Walk::ByReceived(ascending) => {
             walk_emails(alloc, page, query, content, texts, ascending)
         }
@@ -227,7 +222,7 @@ fn walk_query<T: Texts2>(
             query,
             content,
             texts,
-            content.find_in_mailbox(mailbox),
+            content.in_mailbox(mailbox),
             ascending,
         ),
     }

@@ -15,6 +15,8 @@ use sort_terms::is_ascending;
 pub(crate) enum Walk {
     /// All records, which are sorted.
     Sorted,
+    /// The emails in a mailbox, which are sorted.
+    SortedInMailbox(u64),
     /// All emails by the time received, ascending or descending.
     ByReceived(bool),
     /// The emails in a mailbox by the time received, ascending or descending.
@@ -145,11 +147,15 @@ pub(crate) fn find_walk(kind: Kind, filter: &Json, sort: &Json) -> Walk
     if kind != Kind::Email {
         return Walk::Sorted;
     }
-    let Some(ascending) = read_received_order(sort) else {
-        return Walk::Sorted;
-    };
-    match find_mailbox_in_filter(filter) {
-        Some(mailbox) => Walk::InMailbox(mailbox, ascending),
-        None => Walk::ByReceived(ascending),
+    let mailbox = find_mailbox_in_filter(filter);
+    match read_received_order(sort) {
+        Some(ascending) => match mailbox {
+            Some(mailbox) => Walk::InMailbox(mailbox, ascending),
+            None => Walk::ByReceived(ascending),
+        },
+        None => match mailbox {
+            Some(mailbox) => Walk::SortedInMailbox(mailbox),
+            None => Walk::Sorted,
+        },
     }
 }
