@@ -1,6 +1,6 @@
-pub mod Escapes
 pub mod Entering
 pub mod Refiling
+pub mod WrittenFilings
 pub mod Found
 pub mod Lasting
 pub mod Naming
@@ -9,4 +9,5 @@ pub mod Stepping
 pub mod Planning
 pub mod Promising
 pub mod Results
+pub mod Answering
 pub mod EmailSteps

@@ -10,25 +10,12 @@ use Rattle.mail_records.specs.Edits.{after_edits}
 use Rattle.mail_records.specs.Tables.{IsTable}
 use Rattle.mail_records.specs.declared.edits.Edit.{Edit}
 use Rattle.mail_records.specs.declared.edits.Edit.TheVariants.{PutEmail, DropEmail}
-use Rattle.jm_json.specs.Pointer.{unescaped}
 use Rattle.set_parts.specs.Steps.{Progress}
 use Rattle.set_parts.specs.CreationIds.{is_id}
 use Rattle.set_parts.specs.declared.steps.Step.{Step}
 use Rattle.set_parts.specs.declared.steps.Step.TheVariants as step
-use Rattle.email_set.specs.declared.parts.EscapeStep.{EscapeStep}
-use Rattle.email_set.specs.declared.parts.EscapeStep.TheVariants.{Begins, Gives, Fails}
 use Rattle.email_set.specs.declared.planner.Planner.{Planner}
 use Rattle.email_set.specs.declared.steps.Steps.{Steps}
-
--- ---- parts of paths
-
--- what comes of a byte of a part, after a `~` or not, whatever follows it
-abbrev pub IsEscapeStep : Bool → ℕ → EscapeStep → Type 0
-IsEscapeStep escaped b Begins = (more : List ℕ) → unescaped escaped (b ∷ more) ≡ unescaped true more
-IsEscapeStep escaped b (Gives x) =
-    (more : List ℕ)
-    → unescaped escaped (b ∷ more) ≡ option_map (λ k. x ∷ k) (unescaped false more)
-IsEscapeStep escaped b Fails = (more : List ℕ) → unescaped escaped (b ∷ more) ≡ None
 
 -- ---- emails by their ids
 

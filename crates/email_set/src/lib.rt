@@ -8,7 +8,8 @@
 #![tactic(auto)]
 
 mod filing;
-mod parts;
+mod filings;
+mod laws;
 mod patches;
 mod paths;
 mod plan;
@@ -16,7 +17,9 @@ mod planner;
 mod steps;
 
 pub use filing::{Filing, Refiled};
-pub use patches::refile;
+pub use filings::read_filing;
+pub use laws::{show_that_written_filings_are_read, show_what_is_said_of_one_update};
+pub use patches::{build_filing_tree, refile};
 pub use plan::{plan_email_set, plan_steps};
 pub use planner::{Planner, enter_edits, start_planner};
 pub use steps::{Setting, Steps, perform_steps};

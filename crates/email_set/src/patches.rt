@@ -5,10 +5,8 @@ ghost use Rattle.jm_json.specs.Find.{find};
 ghost use Rattle.jm_json.specs.Json.{member_of, tree_of};
 ghost use Rattle.jm_json.specs.Patch.{bad_patch, patched, patching_by};
 ghost use Rattle.jm_json.specs.declared.invocation.Created.{Created as TheCreated};
-ghost use Rattle.mail_records.specs.Contents.{mailbox_number};
 ghost use Rattle.set_parts.specs.Names.{keywords_in, mailboxes_in};
 ghost use Rattle.set_parts.specs.Views.{AreMade, HoldTexts};
-ghost use Rattle.email_set.specs.Emails.{filing_of};
 ghost use Rattle.email_set.specs.Patches.{bad_names, filing_tree, fixed_names, meant_changes, refiled, refiled_by, refiled_to, value_of, within_limits};
 
 use crate::filing::{Filing, Refiled};
@@ -16,23 +14,35 @@ use crate::paths::{build_meant_path, is_fixed, read_property};
 use jm_base::{MAX_MAILBOXES_PER_EMAIL, NoMemory, Numbers, Text, Texts};
 use jm_json::{Json, Member, Members, PatchFault, copy, patch};
 use mail_counts::MAX_KEYWORDS_PER_EMAIL;
-use mail_records::{Content, Email};
 use set_parts::{
-    CreatedRecords, CreatedTexts, SetError, build_keyword_set, build_mailbox_set, read_keywords,
-    read_mailboxes, sort_names,
+    CreatedRecords, CreatedTexts, MailboxNumbers, SetError, build_keyword_set, build_mailbox_set,
+    read_keywords, read_mailboxes, sort_names,
 };
 use std::alloc::Global;
 
 // Builds the object that a patch changes.
-fn build_filing_tree(alloc: Global, email: &Email) -> Result<Json, NoMemory>
-    ensures { IfOk result (λ t. tree_of t ≡ filing_tree (filing_of email.now)) }
+fn build_tree(alloc: Global, mailboxes: &[u64], keywords: &[Text]) -> Result<Json, NoMemory>
+    ensures { IfOk result (λ t. tree_of t
+        ≡ filing_tree (record { mailboxes = mailboxes.now; keywords = keywords.now })) }
 {
-    let keywords = build_keyword_set(alloc, email.keywords.as_slice())?;
-    let mailboxes = build_mailbox_set(alloc, email.mailboxes.as_slice())?;
+    let keywords = build_keyword_set(alloc, keywords)?;
+    let mailboxes = build_mailbox_set(alloc, mailboxes)?;
     let mut members = Members::with_room(alloc, 2)?;
     members.set(alloc, "keywords", keywords)?;
     members.set(alloc, "mailboxIds", mailboxes)?;
     Ok(Json::Object(members))
+}
+
+/// Builds the object of the mailboxes and keywords of an email, in its properties `keywords` and
+/// `mailboxIds` (RFC 8621, section 4.1.1).
+pub fn build_filing_tree(alloc: Global, filing: &Filing) -> Result<Json, NoMemory>
+    ensures { IfOk result (λ t. tree_of t ≡ filing_tree filing.now) }
+{
+    build_tree(
+        alloc,
+        filing.mailboxes.as_slice(),
+        filing.keywords.as_slice(),
+    )
 }
 
 // Collects the changes of a patch with their paths as they are applied, if no two paths are the
@@ -77,20 +87,20 @@ struct Values {
     mailboxes: Option<Numbers>,
 }
 
-fn read_members<'a>(
+fn read_members<'a, N: MailboxNumbers>(
     alloc: Global,
-    content: &Content,
+    mailboxes: &N,
     created: &CreatedRecords<'a>,
     members: &Members,
 ) -> Result<Values, NoMemory>
     ensures keywords { IfOk result
         (λ v. v.keywords ≡ keywords_in (find (codes "keywords") members.now)) }
     ensures mailboxes { IfOk result (λ v. (made : List TheCreated) → AreMade created.now made
-        → v.mailboxes ≡ mailboxes_in (map mailbox_number content.now.content.mailboxes) made
+        → v.mailboxes ≡ mailboxes_in (N.numbers mailboxes.now) made
         (find (codes "mailboxIds") members.now)) }
 {
     let keywords = read_keywords(alloc, members)?;
-    let mailboxes = read_mailboxes(alloc, content, &created.ids, members)?;
+    let mailboxes = read_mailboxes(alloc, mailboxes, &created.ids, members)?;
     Ok(Values {
         keywords,
         mailboxes,
@@ -98,20 +108,20 @@ fn read_members<'a>(
 }
 
 // Reads the values of the object that a patch makes.
-fn read_values<'a>(
+fn read_values<'a, N: MailboxNumbers>(
     alloc: Global,
-    content: &Content,
+    mailboxes: &N,
     created: &CreatedRecords<'a>,
     tree: &Json,
 ) -> Result<Values, NoMemory>
     ensures keywords { IfOk result (λ v. v.keywords
         ≡ keywords_in (value_of (codes "keywords") (tree_of tree.now))) }
     ensures mailboxes { IfOk result (λ v. (made : List TheCreated) → AreMade created.now made
-        → v.mailboxes ≡ mailboxes_in (map mailbox_number content.now.content.mailboxes) made
+        → v.mailboxes ≡ mailboxes_in (N.numbers mailboxes.now) made
         (value_of (codes "mailboxIds") (tree_of tree.now))) }
 {
     match tree.as_object() {
-        Some(members) => read_members(alloc, content, created, members),
+        Some(members) => read_members(alloc, mailboxes, created, members),
         None => Ok(Values {
             keywords: Some(Texts::new(alloc)),
             mailboxes: None,
@@ -192,48 +202,78 @@ fn decide(alloc: Global, changes: &[Member], values: Values) -> Result<Refiled, 
     }))
 }
 
-fn refile_by<'a>(
+fn refile_by<'a, N: MailboxNumbers>(
     alloc: Global,
-    content: &Content,
+    numbers: &N,
     created: &CreatedRecords<'a>,
-    email: &Email,
+    mailboxes: &[u64],
+    keywords: &[Text],
     changes: &[Member],
 ) -> Result<Refiled, NoMemory>
     ensures { IfOk result (λ r. (made : List TheCreated) → AreMade created.now made
-        → r ≡ refiled_by (map mailbox_number content.now.content.mailboxes) made
-        (filing_of email.now) (map member_of changes.now)
-        (meant_changes made (map member_of changes.now))) }
+        → r ≡ refiled_by (N.numbers numbers.now) made
+        (record { mailboxes = mailboxes.now; keywords = keywords.now })
+        (map member_of changes.now) (meant_changes made (map member_of changes.now))) }
 {
     let Some(meant) = collect_changes(alloc, &created.texts, changes)? else {
         return Ok(Refiled::Rejected(SetError::InvalidPatch));
     };
-    let tree = build_filing_tree(alloc, email)?;
+    let tree = build_tree(alloc, mailboxes, keywords)?;
     let Some(changed) = apply_changes(alloc, tree, meant)? else {
         return Ok(Refiled::Rejected(SetError::InvalidPatch));
     };
-    let values = read_values(alloc, content, created, &changed)?;
+    let values = read_values(alloc, numbers, created, &changed)?;
     decide(alloc, changes, values)
 }
 
-/// Returns what a patch makes of the mailboxes and keywords of an email, in an account with the
-/// mailboxes of this content. The patch is rejected for the first of these reasons: `InvalidPatch`
-/// if it is no object, or one of its paths is invalid, or two are the same once keywords are in
-/// lower case and references are resolved; `InvalidProperties` with the names, in byte order, of
-/// the properties that may not be sent or whose new value is invalid; `TooManyKeywords`;
-/// `TooManyMailboxes`.
-pub fn refile<'a>(
+// Returns what a patch makes of an email in these mailboxes and with these keywords, as `refile`
+// does. They are lent apart, so that the email of an account needs no copy of them.
+pub(crate) fn refile_lent<'a, N: MailboxNumbers>(
     alloc: Global,
-    content: &Content,
+    numbers: &N,
     created: &CreatedRecords<'a>,
-    email: &Email,
+    mailboxes: &[u64],
+    keywords: &[Text],
     patch: &Json,
 ) -> Result<Refiled, NoMemory>
     ensures { IfOk result (λ r. (made : List TheCreated) → AreMade created.now made
-        → r ≡ refiled (map mailbox_number content.now.content.mailboxes) made
-        (filing_of email.now) (tree_of patch.now)) }
+        → r ≡ refiled (N.numbers numbers.now) made
+        (record { mailboxes = mailboxes.now; keywords = keywords.now }) (tree_of patch.now)) }
 {
     match patch.as_object() {
-        Some(changes) => refile_by(alloc, content, created, email, changes.as_slice()),
+        Some(changes) => refile_by(
+            alloc,
+            numbers,
+            created,
+            mailboxes,
+            keywords,
+            changes.as_slice(),
+        ),
         None => Ok(Refiled::Rejected(SetError::InvalidPatch)),
     }
+}
+
+/// Returns what a patch makes of the mailboxes and keywords of an email, where these mailboxes are
+/// there. The patch is rejected for the first of these reasons: `InvalidPatch` if it is no object,
+/// or one of its paths is invalid, or two are the same once keywords are in lower case and
+/// references are resolved; `InvalidProperties` with the names, in byte order, of the properties
+/// that may not be sent or whose new value is invalid; `TooManyKeywords`; `TooManyMailboxes`.
+pub fn refile<'a, N: MailboxNumbers>(
+    alloc: Global,
+    mailboxes: &N,
+    created: &CreatedRecords<'a>,
+    filing: &Filing,
+    patch: &Json,
+) -> Result<Refiled, NoMemory>
+    ensures { IfOk result (λ r. (made : List TheCreated) → AreMade created.now made
+        → r ≡ refiled (N.numbers mailboxes.now) made filing.now (tree_of patch.now)) }
+{
+    refile_lent(
+        alloc,
+        mailboxes,
+        created,
+        filing.mailboxes.as_slice(),
+        filing.keywords.as_slice(),
+        patch,
+    )
 }

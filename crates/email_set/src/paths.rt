@@ -5,9 +5,8 @@ ghost use Rattle.jm_json.specs.declared.invocation.Created.{Created as TheCreate
 ghost use Rattle.email_set.specs.Patches.{is_fixed, meant_in_mailboxes, meant_part, meant_path, property_of};
 ghost use Rattle.set_parts.specs.Views.{HoldTexts};
 
-use crate::parts::{push_name, read_name, strip_prefix};
 use jm_base::{NoMemory, Text};
-use jm_json::part_end;
+use jm_json::{part_end, push_escaped, strip_prefix, unescape_part};
 use set_parts::{CreatedTexts, find_text, read_reference};
 use std::alloc::Global;
 
@@ -25,12 +24,12 @@ fn push_meant_part<'a>(
         path.extend_from_slice(part)?;
         return Ok(());
     };
-    let Some(creation) = read_name(alloc, escaped)? else {
+    let Some(creation) = unescape_part(alloc, escaped)? else {
         path.extend_from_slice(part)?;
         return Ok(());
     };
-    match find_text(texts, creation.as_slice()) {
-        Some(id) => push_name(path, id.as_bytes()),
+    match find_text(texts, creation.as_bytes()) {
+        Some(id) => push_escaped(path, id.as_bytes()),
         None => {
             path.extend_from_slice(part)?;
             Ok(())
@@ -93,13 +92,7 @@ pub fn read_property(alloc: Global, path: &Text) -> Result<Option<Text>, NoMemor
     if part_end(bytes) < bytes.len() {
         return Ok(None);
     }
-    match read_name(alloc, bytes)? {
-        Some(name) => match Text::from_utf8(name) {
-            Some(name) => Ok(Some(name)),
-            None => Err(NoMemory),
-        },
-        None => Ok(None),
-    }
+    unescape_part(alloc, bytes)
 }
 
 /// Returns whether a property of an email is none of the two that may change.

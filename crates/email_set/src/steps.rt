@@ -12,7 +12,7 @@ ghost use Rattle.email_set.specs.Emails.{after_steps, destroy_email, destroy_of,
 ghost use Rattle.email_set.specs.Views.{Follows, IsEmailStep, IsStepsOf, MeansEmail};
 
 use crate::filing::{Filing, Refiled};
-use crate::patches::refile;
+use crate::patches::refile_lent;
 use crate::planner::{Planner, enter_edits, find_email};
 use jm_base::{Kind, NoMemory, Text, read_id};
 use jm_json::Member;
@@ -162,11 +162,12 @@ fn update_found<'a>(
     if is_destroyed(setting, member.name.as_str()) {
         return Ok(Step::Rejected(SetError::WillDestroy));
     }
-    match refile(
+    match refile_lent(
         alloc,
         setting.content,
         &setting.created,
-        email,
+        email.mailboxes.as_slice(),
+        email.keywords.as_slice(),
         &member.value,
     )? {
         Refiled::Rejected(error) => Ok(Step::Rejected(error)),

@@ -18,7 +18,7 @@ use mail_records::{Content, Edit, Email, Summary};
 use mail_summary::read_summary_and_receipt;
 use set_parts::{CreateStep, SentCreate, SetError, enter_create};
 use std::alloc::Global;
-use thread_assign::find_joined_thread;
+use thread_assign::thread_in;
 
 // Returns when an email was received: the date that is sent, else that of the newest Received
 // field, else the timestamp of the call.
@@ -41,9 +41,9 @@ fn find_thread(content: &Content, new_emails: &Content, summary: &Summary) -> Op
     ensures { result ≡ option_or (joined_thread content.now.content.emails summary.now)
         (joined_thread new_emails.now.content.emails summary.now) }
 {
-    match find_joined_thread(content, summary) {
+    match thread_in(content, summary) {
         Some(thread) => Some(thread),
-        None => find_joined_thread(new_emails, summary),
+        None => thread_in(new_emails, summary),
     }
 }
 

@@ -79,7 +79,7 @@ fn has_email(current: &Current, number: u64) -> bool
     ensures { (c : TheContent) → Shows current.now c
         → is_one_of current.now.destroyed.items number ≡ false → result ≡ has_email c number }
 {
-    !current.content.find_in_mailbox(number).is_empty()
+    !current.content.in_mailbox(number).is_empty()
 }
 
 // ---- the emails of a mailbox lose it
@@ -100,7 +100,7 @@ fn find_emails(alloc: Global, content: &Content, mailbox: u64) -> Result<Vec<u64
         ≡ map email_number (emails_in mailbox content.now.content.emails)) }
 {
     let _in_order = content.emails();
-    let mut numbers = collect_numbers(alloc, content.find_in_mailbox(mailbox))?;
+    let mut numbers = collect_numbers(alloc, content.in_mailbox(mailbox))?;
     put_in_order(&mut numbers);
     Ok(numbers)
 }

@@ -13,6 +13,7 @@ mod creates;
 mod creation_ids;
 mod destroyed_ids;
 mod keywords;
+mod mailbox_numbers;
 mod names;
 mod outcomes;
 mod plans;
@@ -36,8 +37,10 @@ pub use creation_ids::{
 };
 pub use destroyed_ids::collect_destroyed;
 pub use keywords::read_keyword;
+pub use mailbox_numbers::MailboxNumbers;
 pub use names::{
-    build_keyword_set, build_mailbox_set, find_mailbox, read_keywords, read_mailboxes, sort_names,
+    build_keyword_set, build_mailbox_set, find_mailbox, is_true, read_keywords, read_mailboxes,
+    sort_names,
 };
 pub use outcomes::{check_call, check_set, check_state, is_other_state};
 pub use plans::finish_plan;

@@ -1,31 +1,30 @@
 // The mailboxes and keywords of an email: objects whose names are their items, and whose values are
 // true (RFC 8621, section 4.1.1).
-ghost use Rattle.std.specs.Prelude.{◌≡◌, [], IfOk, List, codes, is_some, map, option_and_then, option_map, true};
+ghost use Rattle.std.specs.Prelude.{◌≡◌, [], IfOk, List, codes, map, option_and_then, option_map, true};
 ghost use Rattle.std.specs.Cmp.Lexicographic.{slice_cmp};
 ghost use Rattle.std.specs.Ordering.{nat_cmp};
 ghost use Rattle.jm_json.specs.Find.{find};
 ghost use Rattle.jm_json.specs.Json.{member_of, tree_of};
 ghost use Rattle.jm_json.specs.declared.invocation.Created.{Created as TheCreated};
-ghost use Rattle.mail_records.specs.Contents.{mailbox_at};
 ghost use Rattle.mail_counts.specs.Touched.{rising, sorted_once};
 ghost use Rattle.jm_base.specs.declared.identifiers.Kind.TheVariants.{Mailbox as OfMailbox};
 ghost use Rattle.jm_json.specs.Order.{put_all};
 ghost use Rattle.jm_json.specs.Tree.{boolean};
 ghost use Rattle.mail_counts.specs.Views.{mailbox_id};
-ghost use Rattle.mail_records.specs.Contents.{mailbox_number};
 ghost use Rattle.set_parts.specs.CreationIds.{identifier, number_meant};
 ghost use Rattle.set_parts.specs.Names.{is_true, keyword_meant, keywords_in, mailboxes_in, meanings, set_in, set_tree, unless_empty};
 ghost use Rattle.set_parts.specs.Views.{HoldIds, MeansIfAny};
 
 use crate::creation_ids::{CreatedIds, find_id, read_mailbox_number, read_reference};
 use crate::keywords::read_keyword;
+use crate::mailbox_numbers::MailboxNumbers;
 use jm_base::{Id, Kind, NoMemory, Numbers, Text, Texts, id_text};
 use jm_json::{Json, Member, Members};
 use mail_counts::put_in_order;
-use mail_records::Content;
 use std::alloc::Global;
 
-fn is_true(value: &Json) -> bool
+/// Returns whether a value is true.
+pub fn is_true(value: &Json) -> bool
     ensures { result ≡ is_true (tree_of value.now) }
 {
     match value {
@@ -51,22 +50,18 @@ fn find_number<'a>(ids: &CreatedIds<'a>, id: &str) -> Option<u64>
     }
 }
 
-// Returns whether the content has a mailbox of this number.
-fn has_mailbox(content: &Content, number: u64) -> bool
-    ensures { result ≡ is_some (mailbox_at content.now.content number) }
-{
-    content.mailbox(number).is_some()
-}
-
-/// Returns the number of the mailbox of the content that a string names: by its id, or as `#k` by
-/// the id that was created last under k.
-pub fn find_mailbox<'a>(content: &Content, ids: &CreatedIds<'a>, id: &str) -> Option<u64>
+/// Returns the number of the mailbox, of those that are there, that a string names: by its id, or
+/// as `#k` by the id that was created last under k.
+pub fn find_mailbox<'a, N: MailboxNumbers>(
+    mailboxes: &N,
+    ids: &CreatedIds<'a>,
+    id: &str,
+) -> Option<u64>
     ensures { (made : List TheCreated) → HoldIds ids.now made
-        → result ≡ number_meant OfMailbox (map mailbox_number content.now.content.mailboxes) made
-        id.now }
+        → result ≡ number_meant OfMailbox (N.numbers mailboxes.now) made id.now }
 {
     match find_number(ids, id) {
-        Some(number) => if has_mailbox(content, number) {
+        Some(number) => if mailboxes.has(number) {
             Some(number)
         } else {
             None
@@ -75,15 +70,15 @@ pub fn find_mailbox<'a>(content: &Content, ids: &CreatedIds<'a>, id: &str) -> Op
     }
 }
 
-fn collect_mailboxes<'a>(
+fn collect_mailboxes<'a, N: MailboxNumbers>(
     alloc: Global,
-    content: &Content,
+    mailboxes: &N,
     ids: &CreatedIds<'a>,
     members: &[Member],
 ) -> Result<Option<Vec<u64>>, NoMemory>
     ensures { IfOk result (λ o. (made : List TheCreated) → HoldIds ids.now made
         → option_map (λ v. v.items) o
-        ≡ meanings (number_meant OfMailbox (map mailbox_number content.now.content.mailboxes) made)
+        ≡ meanings (number_meant OfMailbox (N.numbers mailboxes.now) made)
         (map member_of members.now)) }
 {
     let mut numbers = Vec::with_capacity(alloc, members.len())?;
@@ -91,7 +86,7 @@ fn collect_mailboxes<'a>(
         if !is_true(&member.value) {
             return Ok(None);
         }
-        match find_mailbox(content, ids, member.name.as_str()) {
+        match find_mailbox(mailboxes, ids, member.name.as_str()) {
             Some(number) => numbers.push(number)?,
             None => return Ok(None),
         }
@@ -125,14 +120,14 @@ fn order_mailboxes(numbers: Option<Vec<u64>>) -> Option<Numbers>
 
 /// Reads the mailboxes in `mailboxIds`, which must be at least one and be there. They are in number
 /// order, each once.
-pub fn read_mailboxes<'a>(
+pub fn read_mailboxes<'a, N: MailboxNumbers>(
     alloc: Global,
-    content: &Content,
+    mailboxes: &N,
     ids: &CreatedIds<'a>,
     members: &Members,
 ) -> Result<Option<Numbers>, NoMemory>
     ensures { IfOk result (λ o. (made : List TheCreated) → HoldIds ids.now made
-        → o ≡ mailboxes_in (map mailbox_number content.now.content.mailboxes) made
+        → o ≡ mailboxes_in (N.numbers mailboxes.now) made
         (find (codes "mailboxIds") members.now)) }
 {
     let Some(tree) = members.get("mailboxIds") else {
@@ -141,7 +136,7 @@ pub fn read_mailboxes<'a>(
     let Some(object) = tree.as_object() else {
         return Ok(None)
     };
-    let numbers = collect_mailboxes(alloc, content, ids, object.as_slice())?;
+    let numbers = collect_mailboxes(alloc, mailboxes, ids, object.as_slice())?;
     Ok(order_mailboxes(numbers))
 }
 

@@ -3,7 +3,7 @@
 ghost use Rattle.std.specs.Prelude.{◌≡◌, IfOk, map};
 ghost use Rattle.jm_json.specs.Json.{tree_of};
 ghost use Rattle.jm_json.specs.Tree.{text as text_tree};
-ghost use Rattle.set_parts.specs.SetErrors.{error_of_properties, error_of_type, error_tree};
+ghost use Rattle.set_parts.specs.SetErrors.{error_of_blobs, error_of_properties, error_of_type, error_tree};
 
 use jm_base::{NoMemory, Text, Texts};
 use jm_json::{Items, Json, Members};
@@ -27,6 +27,10 @@ pub enum SetError {
     TooManyKeywords,
     /// An email would be in more mailboxes than it may be in.
     TooManyMailboxes,
+    /// No blob has these ids, which are in byte order.
+    BlobNotFound(Texts),
+    /// The record would be larger than it may be.
+    TooLarge,
     /// The account has as many records as it may have.
     OverQuota,
     /// A mailbox that is to be destroyed has children.
@@ -64,6 +68,20 @@ fn build_properties(alloc: Global, name: &str, properties: Texts) -> Result<Json
     Ok(Json::Object(object))
 }
 
+fn build_not_found(alloc: Global, ids: Texts) -> Result<Json, NoMemory>
+    ensures { IfOk result (λ j. tree_of j ≡ error_of_blobs ids) }
+{
+    let ids = collect_texts(alloc, ids)?;
+    let mut object = Members::with_room(alloc, 2)?;
+    object.set(alloc, "notFound", Json::List(ids))?;
+    object.set(
+        alloc,
+        "type",
+        Json::Text(Text::from_str(alloc, "blobNotFound")?),
+    )?;
+    Ok(Json::Object(object))
+}
+
 /// Builds the SetError that reports an error.
 pub fn build_error(alloc: Global, error: SetError) -> Result<Json, NoMemory>
     ensures { IfOk result (λ j. tree_of j ≡ error_tree error) }
@@ -76,6 +94,8 @@ pub fn build_error(alloc: Global, error: SetError) -> Result<Json, NoMemory>
         SetError::InvalidProperties(names) => build_properties(alloc, "invalidProperties", names),
         SetError::TooManyKeywords => build_type(alloc, "tooManyKeywords"),
         SetError::TooManyMailboxes => build_type(alloc, "tooManyMailboxes"),
+        SetError::BlobNotFound(ids) => build_not_found(alloc, ids),
+        SetError::TooLarge => build_type(alloc, "tooLarge"),
         SetError::OverQuota => build_type(alloc, "overQuota"),
         SetError::MailboxHasChild => build_type(alloc, "mailboxHasChild"),
         SetError::MailboxHasEmail => build_type(alloc, "mailboxHasEmail"),

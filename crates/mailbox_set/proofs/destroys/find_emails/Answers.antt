@@ -10,4 +10,4 @@ returns c =
     let d = c.args.content.now.content in
     c.put_in_order.ensures.is
     ∙ (ap rising c.in_ok-numbers.ensures
-    ∙ placed_numbers d c.args.mailbox c.find_in_mailbox.result.now c.find_in_mailbox.ensures (subst (IsTable email_number) c.emails-in_order.ensures.items c.emails-in_order.ensures.table))
+    ∙ placed_numbers d c.args.mailbox c.in_mailbox.result.now c.in_mailbox.ensures (subst (IsTable email_number) c.emails-in_order.ensures.items c.emails-in_order.ensures.table))

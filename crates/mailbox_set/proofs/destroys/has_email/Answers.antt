@@ -11,5 +11,5 @@ returns c =
     let p = c.args.current.now in
     let base = p.content.now.content in
     ap not c.is_empty.ensures
-    ∙ (some_placed base c.args.number c.find_in_mailbox.result.now c.find_in_mailbox.ensures shows.base_emails
+    ∙ (some_placed base c.args.number c.in_mailbox.result.now c.in_mailbox.ensures shows.base_emails
     ∙ (sym (any_left p.destroyed.items c.args.number base.emails out) ∙ ap (list_any (is_in c.args.number)) (sym shows.emails)))

@@ -4,15 +4,17 @@ use Rattle.jm_json.specs.Json.{member_of, tree_of}
 use Rattle.jm_json.specs.Tree.{Tree}
 use Rattle.jm_json.specs.declared.invocation.Created.{Created}
 use Rattle.jm_json.specs.declared.tree.Member.{Member}
+use Rattle.jm_base.specs.declared.identifiers.Kind.TheVariants.{Mailbox as OfMailbox}
+use Rattle.set_parts.specs.CreationIds.{number_meant}
 use Rattle.set_parts.specs.Names.{meanings}
 use Rattle.set_parts.specs.Views.{HoldIds}
-use Rattle.set_parts.proofs.Sets.{meaning_step, meant}
+use Rattle.set_parts.proofs.Sets.{meaning_step}
 use Rattle.set_parts.proofs.names.collect_mailboxes.Goals as goal
 
 pub loop-member-preserved : goal.loop-member-preserved
-loop-member-preserved c =
+loop-member-preserved g c =
     λ (made : List Created) (h : HoldIds c.args.ids.now made).
-    let f = meant c.args.content.now.content made in
+    let f = number_meant OfMailbox (g.N.MailboxNumbers.numbers c.args.mailboxes.now) made in
     let ms = c.args.members.now in
     let i = c.loop-member.member-index in
     let item : Member = c.member-item.result in

@@ -1,6 +1,0 @@
-use Rattle.std.proofs.Common.{◌≡◌, ◌++◌, drop}
-use Rattle.jm_json.specs.Integers.{pointer_part}
-use Rattle.email_set.proofs.parts.push_name.Given as goal
-
-abbrev pub invariant-loop-byte : goal.invariant-loop-byte
-invariant-loop-byte l = l.path.items ++ pointer_part (drop l.byte-index l.name) ≡ l.initial.path.items ++ pointer_part l.name
