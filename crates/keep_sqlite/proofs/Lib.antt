@@ -1,4 +1,13 @@
+pub mod Answering
 pub mod Appending
+pub mod Forms
 pub mod Inserting
+pub mod Knowing
+pub mod Loading
+pub mod Making
 pub mod Places
+pub mod Querying
+pub mod Reading
+pub mod Removing
+pub mod Replacing
 pub mod Texts

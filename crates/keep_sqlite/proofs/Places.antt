@@ -1,5 +1,5 @@
 -- What the tables tell once a row was put after the others.
-use Rattle.std.proofs.Common.{◌≡◌, ◌≢◌, ℕ, zero, suc, ◌+◌, ◌≤◌, ◌<◌, ◌==◌, ℤ, pos, negsuc, Bool, true, false, cond, List, [], ◌∷◌, ◌++◌, length, find, Option, Some, None, option_map, option_and_then, Ordering, Less, Equal, Greater, refl, sym, ap, subst, ◌∙◌, arith, true≢false}
+use Rattle.std.proofs.Common.{◌≡◌, ℕ, zero, suc, ◌+◌, ◌<◌, pos, negsuc, Bool, true, false, cond, List, [], ◌∷◌, ◌++◌, length, find, Option, Some, None, option_map, option_and_then, Ordering, Less, Equal, Greater, refl, sym, ap, subst, ◌∙◌, arith, true≢false}
 use Rattle.std.specs.Ordering.{is_eq, match_ordering}
 use Rattle.std.proofs.lemmas.Bool.{or_parts, both_ways, false_from_ne_true, eqb-true, eq-eqb, ne_eqb}
 use Rattle.std.proofs.lemmas.Cmp.{tied_itself}
@@ -68,7 +68,7 @@ module _ (n : ℕ) (bytes : List ℕ) (rows : List Row) (free : is_taken rows (s
   new_place = ap (option_and_then (λ row. bytes_in (column row 2))) (find_put_new (λ row. is_number n (rowid row)) (stored n bytes) rows (eq-eqb n n refl)
       (λ r is. ap (λ v. is_eq (value_cmp v (Int (pos n)))) (number_is n (rowid r) is) ∙ ap is_eq (tied_itself value_cmp_total (Int (pos n)))) free)
 
-split : {X : Type 0} (first : Option X) (rest : Option (List X)) (all : List X) → option_and_then (λ x. option_map (λ more. x ∷ more) rest) first ≡ Some all
+pub split : {X : Type 0} (first : Option X) (rest : Option (List X)) (all : List X) → option_and_then (λ x. option_map (λ more. x ∷ more) rest) first ≡ Some all
     → (x : X) × (more : List X) × (first ≡ Some x) × (rest ≡ Some more) × (all ≡ x ∷ more)
 split None rest all h = absurd cc
 split (Some x) None all h = absurd cc

@@ -1,6 +1,5 @@
 -- What the texts of the keeper's statements are to the database, under the schema of the format.
-use Rattle.std.proofs.Common.{◌≡◌, ℕ, pos, negsuc, List, [], ◌∷◌, codes, Bool, false, None, Some, Ok, Err, refl}
-use Rattle.sqlite.specs.Order.{Row}
+use Rattle.std.proofs.Common.{◌≡◌, ℕ, pos, negsuc, List, [], ◌∷◌, codes, false, None, Ok, refl}
 use Rattle.sqlite.specs.Collation.TheVariants.{Binary}
 use Rattle.sqlite.specs.declared.types.Value.TheVariants.{Null, Int}
 use Rattle.sqlite.specs.Term.{Term, lit, col}
@@ -11,9 +10,8 @@ use Rattle.sqlite.specs.Compile.{table_defined_by}
 use Rattle.sqlite.specs.Listing.{understood, reads_listing}
 use Rattle.sqlite.proofs.Callers.{IsPlain, command_of, statement_of}
 use Rattle.sqlite_tied.specs.Compute.{everything}
-use Rattle.sqlite.specs.Schema.{Schema}
 use Rattle.sqlite_value.specs.declared.keys.Key.{Key}
-use Rattle.keep_sqlite.specs.Format.{our_schema, no_schema, about_table, commits_table}
+use Rattle.keep_sqlite.specs.Format.{our_schema, half_schema, no_schema, about_table, commits_table}
 
 abbrev pub insert_text : List ℕ
 insert_text = codes "INSERT INTO commits (place, bytes) VALUES (?1, ?2)"
@@ -67,10 +65,6 @@ pub commits_plain : IsPlain (understood our_schema commits_text)
 unfolding understood everything
 commits_plain = (refl, refl)
 
--- the schema after the first of the two tables was created
-abbrev pub half_schema : Schema
-half_schema = record { tables = about_table 0 ∷ []; indexes = []; views = [] }
-
 abbrev pub make_about_text : List ℕ
 make_about_text = codes "CREATE TABLE about (item INTEGER PRIMARY KEY, value INTEGER NOT NULL)"
 
@@ -106,3 +100,29 @@ name_is = refl
 pub name_plain : IsPlain (understood our_schema name_text)
 unfolding understood everything
 name_plain = (refl, refl)
+
+-- the query of the rows that a deletion of all rows of a table takes out
+abbrev pub rowids_of : ℕ → Query
+rowids_of tree =
+    record {
+      from = inner tree end;
+      filter = [];
+      group = None;
+      project = col 1 0 ∷ [];
+      distinct = false;
+      collations = [];
+      order = [];
+      limit = lit (Int (negsuc 0));
+      offset = lit (Int (pos 0));
+    }
+
+abbrev pub delete_text : List ℕ
+delete_text = codes "DELETE FROM commits"
+
+pub delete_is : command_of (understood our_schema delete_text) ≡ Delete 1 (record { lets = []; body = rowids_of 1 })
+unfolding understood everything
+delete_is = refl
+
+pub delete_plain : IsPlain (understood our_schema delete_text)
+unfolding understood everything
+delete_plain = (refl, refl)

@@ -2,7 +2,7 @@
 --
 -- The table `about` names the format by its one row. The table `commits` has the rows of the
 -- content, each at its place.
-use Rattle.std.specs.Prelude.{ℕ, zero, suc, ◌==◌, pos, Bool, true, false, ◌&&◌, if◌then◌else◌, List, [], ◌∷◌, length, find, codes, Option, Some, None, option_map, option_and_then}
+use Rattle.std.specs.Prelude.{◌≡◌, ⊤, ℕ, zero, suc, ◌==◌, pos, Bool, true, false, ◌&&◌, if◌then◌else◌, List, [], ◌∷◌, length, find, codes, Option, Some, None, option_map, option_and_then}
 use Rattle.sqlite_value.specs.declared.keys.Collation.TheVariants.{Binary}
 use Rattle.sqlite_value.specs.declared.value.Value.{Value}
 use Rattle.sqlite_value.specs.declared.value.Value.TheVariants.{Null, Int, Blob}
@@ -65,6 +65,10 @@ commits_table tree = plain_table (codes "commits") tree commits_columns
 abbrev pub our_schema : Schema
 our_schema = record { tables = about_table 0 ∷ commits_table 1 ∷ []; indexes = []; views = [] }
 
+-- the table `about` alone, in the first tree
+abbrev pub half_schema : Schema
+half_schema = record { tables = about_table 0 ∷ []; indexes = []; views = [] }
+
 -- no table, index or view
 abbrev pub no_schema : Schema
 no_schema = record { tables = []; indexes = []; views = [] }
@@ -107,3 +111,23 @@ told db =
     if names_format (db 0)
     then option_map kept_rows (bytes_from (db 1) (length (db 1)) 1)
     else None
+
+-- the two columns of a row, as a query shows them
+abbrev pub shown : Row → Row
+shown row = rowid row ∷ column row 2 ∷ []
+
+-- the rows that a query shows are numbered from this place on, and these are their bytes
+abbrev pub AreNumbered : ℕ → List Row → List (List ℕ) → Type 0
+AreNumbered place [] [] = ⊤
+AreNumbered place [] (bytes ∷ more) = ⊥
+AreNumbered place (row ∷ rows) [] = ⊥
+AreNumbered place (row ∷ rows) (bytes ∷ more) =
+    (column row 0 ≡ Int (pos place)) × (column row 1 ≡ Blob bytes)
+    × AreNumbered (suc place) rows more
+
+-- the one row (1, 1), as a query shows it
+pub record ShowsFormat (rows : List Row) : Type 0 where
+  pub row : Row
+  pub is : rows ≡ row ∷ []
+  pub item : column row 0 ≡ Int (pos 1)
+  pub value : column row 1 ≡ Int (pos 1)

@@ -1,3 +1,4 @@
 pub mod Answers
 pub mod Format
+pub mod Knowing
 pub mod Telling

@@ -2,8 +2,9 @@
 //!
 //! The database has two tables. The table `about` has columns `item` and `value`, and its one row
 //! (1, 1) names the format. The table `commits` has columns `place` and `bytes`; `place` numbers
-//! the rows from 1 on. Other tables are left alone. Contracts know what an append makes of the two
-//! tables, where the database has no others, and not yet what the other calls make of them.
+//! the rows from 1 on. Other tables are left alone. Contracts know the content of a keeper, and
+//! what a crash may leave of it, once it was loaded or replaced, if the database has the two tables
+//! alone and while the disk has no fault.
 #![tactic(auto)]
 
 mod creation;

@@ -1,7 +1,8 @@
 // Whether the tables of a database are those of this format. What is compared is what the database
 // understands of them, and not their texts.
-ghost use Rattle.std.specs.Prelude.{◌≡◌, ◌↔◌, [], ◌∷◌, IsTrue};
-ghost use Rattle.keep_sqlite.specs.Format.{plain_column, plain_table, about_columns, commits_columns, about_table, commits_table, our_schema};
+ghost use Rattle.std.specs.Prelude.{◌≡◌, ◌↔◌, ◌||◌, [], ◌∷◌, IsTrue, is_some, option_map, option_and_then, slice_get};
+ghost use Rattle.sqlite_schema.specs.Names.{table_named, index_named, view_named};
+ghost use Rattle.keep_sqlite.specs.Format.{plain_column, plain_table, about_columns, commits_columns, about_table, commits_table, our_schema, no_schema};
 
 use sqlite_schema::schema::{Column, Kind, Schema, Table};
 use sqlite_value::keys::Collation;
@@ -119,7 +120,10 @@ fn has_no_default(table: &Table) -> bool
 }
 
 /// Returns what the database has of the two tables.
-pub fn find_form(schema: &Schema) -> Form {
+pub fn find_form(schema: &Schema) -> Form
+    ensures made { schema.now ≡ our_schema → result ≡ Form.Made }
+    ensures missing { schema.now ≡ no_schema → result ≡ Form.Missing }
+{
     match (find_table(schema, ABOUT), find_table(schema, COMMITS)) {
         (Some(about), Some(commits)) if is_about(about) && is_commits(commits) => Form::Made,
         (None, None) if !is_named(schema, ABOUT) && !is_named(schema, COMMITS) => Form::Missing,
@@ -127,7 +131,10 @@ pub fn find_form(schema: &Schema) -> Form {
     }
 }
 
-fn find_table<'a>(schema: &'a Schema, name: &[u8]) -> Option<&'a Table> {
+fn find_table<'a>(schema: &'a Schema, name: &[u8]) -> Option<&'a Table>
+    ensures { option_map (λ t. t.now) result
+        ≡ option_and_then (slice_get schema.now.tables) (table_named schema.now name.now) }
+{
     match schema.table_named(name) {
         Some(at) => schema.tables.get(at),
         None => None,
@@ -135,6 +142,9 @@ fn find_table<'a>(schema: &'a Schema, name: &[u8]) -> Option<&'a Table> {
 }
 
 // Returns whether an index or a view has this name, or anything else but a table.
-fn is_named(schema: &Schema, name: &[u8]) -> bool {
+fn is_named(schema: &Schema, name: &[u8]) -> bool
+    ensures { result
+        ≡ (is_some (index_named schema.now name.now) || is_some (view_named schema.now name.now)) }
+{
     schema.index_named(name).is_some() || schema.view_named(name).is_some()
 }

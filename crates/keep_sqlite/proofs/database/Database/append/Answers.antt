@@ -1,7 +1,9 @@
-use Rattle.std.proofs.Common.{length}
-use Rattle.keep_sqlite.proofs.Appending.{same_held}
+use Rattle.std.proofs.Common.{None}
+use Rattle.keep_port.specs.Keeping.{with_row}
+use Rattle.keep_sqlite.specs.Knowing.{IsLastOf}
+use Rattle.keep_sqlite.proofs.Knowing.{writes_of_fewer}
 use Rattle.keep_sqlite.proofs.database.Database.append.Goals as goal
 
-pub returns-in-Some-clause-told : goal.returns-in-Some-clause-told
-returns-in-Some-clause-told g c k old is keeps known =
-    c.append_after.ensures.told k old is keeps (same_held c.args.self.now.last c.in-Some.last (length k.rows) c.in-Some.is known)
+pub returns-then-is_none-clause-writes : goal.returns-then-is_none-clause-writes
+returns-then-is_none-clause-writes g c old is =
+    writes_of_fewer g.S.Store (IsLastOf None) (IsLastOf c.args.self.now.last) (with_row c.args.row.now) old c.fetch_and_append.new.self.connection c.fetch_and_append.result (λ k fits. tt) (c.fetch_and_append.ensures.writes old is)
