@@ -1,4 +1,5 @@
 pub mod Sizes
+pub mod GoneOn
 pub mod Stopped
 pub mod Filled
 pub mod ChunkLines

@@ -2,11 +2,8 @@
 use Rattle.std.proofs.Common.{◌≡◌, ◌+◌, ℕ, true, false, List, ◌∷◌, length, Option, None, Some, option_map, refl, ap, ap₂, arith}
 use Rattle.mime_lines.specs.Lines.{is_line_end}
 use Rattle.http_parts.specs.Heads.{head_size, one_line_more}
+use Rattle.http_parts.specs.Searches.{after}
 use Rattle.http_parts.specs.declared.heads.HeadSize.{HeadSize}
-
--- a head after so many bytes and lines
-abbrev pub after : ℕ → ℕ → HeadSize → HeadSize
-after bytes lines size = record { bytes = bytes + size.bytes; lines = lines + size.lines }
 
 -- one line that is not empty is passed
 pub after_line : (b n k : ℕ) (o : Option HeadSize) → option_map (after b n) (option_map (one_line_more k) o) ≡ option_map (after (b + k) (n + 1)) o

@@ -6,3 +6,4 @@ pub mod Views
 pub mod Parts
 pub mod ChunkParts
 pub mod Plans
+pub mod Searches

@@ -7,7 +7,7 @@ ghost use Rattle.http_parts.specs.Pieces.{Receives, Gained, Stops};
 ghost use Rattle.http_parts.specs.Heads.{begun_bytes};
 
 use crate::WireFault;
-use crate::heads::{HeadSpan, Start, count_empty, find_head};
+use crate::heads::{HeadSearch, HeadSpan, Start, count_empty, find_head};
 use crate::unread::Unread;
 use jm_edge::Link;
 
@@ -51,7 +51,8 @@ fn find_cut(bytes: &[u8]) -> WireFault
 
 /// Reads from the link until the bytes hold the whole head of a message, and returns where the head
 /// is. `bytes` has the bytes of the link that were read before and not yet used; what is read is
-/// appended to them. `room` is where one read of the link puts its bytes.
+/// appended to them. `room` is where one read of the link puts its bytes. Each byte is looked at
+/// once, however they come in pieces.
 ///
 /// Fails with `HeadTooLong` if the head is too long (RFC 9112, 2), with `End` or `CutOff` if the
 /// link ends before the head does, with `ReadFault` only if the link fails, and with `NoMemory` if
@@ -72,8 +73,9 @@ pub fn read_head<L: Link>(
     ensures held { L.held link.new ≡ L.held link.old }
     ensures put_faults { L.put_faults link.new ≡ L.put_faults link.old }
 {
+    let mut search = HeadSearch::new();
     'turn: loop {
-        match find_head(bytes.as_slice()) {
+        match find_head(bytes.as_slice(), &mut search) {
             Start::TooLong => return Err(WireFault::HeadTooLong),
             Start::Ended(at) => return Ok(at),
             Start::Unfinished => {}

@@ -21,4 +21,4 @@ pub use laws::keep_messages;
 pub use lengths::{BodyLength, find_length, plan_body};
 pub use request::{HttpField, HttpFields, HttpRequest};
 pub use requests::read_request;
-pub use responses::write_response;
+pub use responses::{write_response, write_response_head};

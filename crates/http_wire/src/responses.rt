@@ -183,3 +183,31 @@ pub fn write_response<L: Link>(
     push_bytes(&mut bytes, body)?;
     put_bytes(link, &bytes)
 }
+
+/// Writes the head of a response with this status, media type and length of the body to the link,
+/// and no body, as the answer to a request by HEAD is (RFC 9110, section 9.3.2). `last` says that
+/// the connection ends with it.
+///
+/// Fails with `WriteFault` if the link fails; then a prefix of the head was written. Fails with
+/// `NoMemory` if an allocation fails; then nothing was written.
+pub fn write_response_head<L: Link>(
+    alloc: Global,
+    link: &mut L,
+    status: u16,
+    media: &[u8],
+    size: usize,
+    last: bool,
+) -> Result<(), WireFault>
+    ensures ok { OnOk result (Appends (L.held link.old) (L.held link.new) (response_head status
+        media.now size last)) }
+    ensures err { IfErr result (λ e. IsCutShort e (L.held link.old) (L.held link.new)
+        (response_head status media.now size last)) }
+    ensures cause { IfErr result (λ e. e ≡ WireFault.WriteFault → Rose (L.put_faults link.old)
+        (L.put_faults link.new)) }
+    ensures left { L.left link.new ≡ L.left link.old }
+    ensures read_faults { L.read_faults link.new ≡ L.read_faults link.old }
+    ensures later { L.put_faults link.old ≤ L.put_faults link.new }
+{
+    let bytes = write_head(alloc, status, media, size, last)?;
+    put_bytes(link, &bytes)
+}

@@ -17,7 +17,7 @@ use Rattle.http_wire.specs.Responses.{continue_bytes}
 use Rattle.server_users.specs.declared.users.User.{User}
 use Rattle.jmap_http.specs.Steps.{UserSteps}
 use Rattle.jmap_http.specs.Responses.{AskedRequest, IsResponse, HasBegunRequest, blank_response}
-use Rattle.jmap_http.specs.Connections.{IsExchange, IsInterim, IsRefusedBy, asked_of, asks_to_end, sent_bytes, is_at_limit, refusal_of}
+use Rattle.jmap_http.specs.Connections.{IsExchange, IsInterim, IsRefusedBy, asked_of, answer_bytes, asks_to_end, is_bodiless, sent_bytes, is_at_limit, refusal_of}
 use Rattle.jmap_http.specs.Endings.{ServesNext, IsSent, IsAnswered, IsUnavailablePut, IsRefusalSent, IsRefusedAs}
 use Rattle.jmap_http.specs.Views.{asked}
 use Rattle.jmap_http.proofs.Exchanges.{unavailable_since}
@@ -29,7 +29,7 @@ use Rattle.jmap_http.specs.declared.served.Served.TheVariants.{End, CutOff, Read
 -- the complete request was answered by this response, and this was sent
 exchange_of : {S : Type 0} (steps : UserSteps S) (users : List User) (number : ℕ) (s s' : S) (times times' : Option (List ℕ)) (early taken early' : List ℕ) (h : RequestHead) (body interim : List ℕ) (time : ℕ) (r : Response) (asks : Bool)
     → IsMessage requests (early ++ taken) (Complete h body early') → IsInterim (early ++ taken) interim → Shows times times' time → IsResponse steps users s s' time (asked_of h body) r → asks_to_end h ≡ asks
-    → IsExchange steps users asks_to_end number (record { state = s; times = times; bytes = early ++ taken }) (record { state = s'; times = times'; bytes = early' }) asks (interim ++ sent_bytes r (asks || is_at_limit number))
+    → IsExchange steps users asks_to_end number (record { state = s; times = times; bytes = early ++ taken }) (record { state = s'; times = times'; bytes = early' }) asks (interim ++ answer_bytes (is_bodiless h.method) r (asks || is_at_limit number))
 exchange_of steps users number s s' times times' early taken early' h body interim time r asks m i t a e = record {
   head = h;
   body = body;
@@ -49,9 +49,9 @@ exchange_of steps users number s s' times times' early taken early' h body inter
 exchange_as : {S : Type 0} (steps : UserSteps S) (users : List User) (number : ℕ) (s s' : S) (times times' : Option (List ℕ)) (early taken early' : List ℕ) (h : RequestHead) (body interim : List ℕ) (time : ℕ) (r : Response) (asks last : Bool)
     → IsMessage requests (early ++ taken) (Complete h body early') → IsInterim (early ++ taken) interim → Shows times times' time → IsResponse steps users s s' time (asked_of h body) r → asks_to_end h ≡ asks
     → (asks || is_at_limit number) ≡ last
-    → IsExchange steps users asks_to_end number (record { state = s; times = times; bytes = early ++ taken }) (record { state = s'; times = times'; bytes = early' }) asks (interim ++ sent_bytes r last)
+    → IsExchange steps users asks_to_end number (record { state = s; times = times; bytes = early ++ taken }) (record { state = s'; times = times'; bytes = early' }) asks (interim ++ answer_bytes (is_bodiless h.method) r last)
 exchange_as steps users number s s' times times' early taken early' h body interim time r asks last m i t a e l =
-    subst (λ b. IsExchange steps users asks_to_end number (record { state = s; times = times; bytes = early ++ taken }) (record { state = s'; times = times'; bytes = early' }) asks (interim ++ sent_bytes r b)) l
+    subst (λ b. IsExchange steps users asks_to_end number (record { state = s; times = times; bytes = early ++ taken }) (record { state = s'; times = times'; bytes = early' }) asks (interim ++ answer_bytes (is_bodiless h.method) r b)) l
     (exchange_of steps users number s s' times times' early taken early' h body interim time r asks m i t a e)
 
 or_true : (a b : Bool) → a ≡ true → (a || b) ≡ true
@@ -68,41 +68,41 @@ record Call {S : Type 0} (steps : UserSteps S) (users : List User) (number : ℕ
 
 sent_next : {S : Type 0} (steps : UserSteps S) (users : List User) (number : ℕ) (s s' : S) (times times' : Option (List ℕ)) (early taken early' : List ℕ) (left left' held hm held' : Option (List ℕ)) (reads reads' puts pm puts' : ℕ)
     (h : RequestHead) (body interim : List ℕ) (time : ℕ) (r : Response) (served : Option Served) → Consumes left left' taken → Call steps users number s s' times times' early taken early' h body interim time
-    → Appends held hm interim → IsResponse steps users s s' time (asked_of h body) r → puts ≤ pm → IsSent (asks_to_end h) (is_at_limit number) r hm held' pm puts' served
+    → Appends held hm interim → IsResponse steps users s s' time (asked_of h body) r → puts ≤ pm → IsSent (is_bodiless h.method) (asks_to_end h) (is_at_limit number) r hm held' pm puts' served
     → ServesNext steps users asks_to_end number s s' times times' early early' left left' held held' reads reads' puts puts' served
 sent_next steps users number s s' times times' early taken early' left left' held hm held' reads reads' puts pm puts' h body interim time r None c k i a p sent =
     let x = exchange_as steps users number s s' times times' early taken early' h body interim time r false false k.message k.continued k.shown a sent.0 sent.1 in
     record {
       taken = taken;
       rest = early';
-      written = interim ++ sent_bytes r false;
+      written = interim ++ answer_bytes (is_bodiless h.method) r false;
       consumed = c;
       outcome = (x, sent.1);
-      put = appends_on held hm held' interim (sent_bytes r false) i sent.2;
+      put = appends_on held hm held' interim (answer_bytes (is_bodiless h.method) r false) i sent.2;
     }
 sent_next steps users number s s' times times' early taken early' left left' held hm held' reads reads' puts pm puts' h body interim time r (Some End) c k i a p sent =
     let x = exchange_as steps users number s s' times times' early taken early' h body interim time r true true k.message k.continued k.shown a sent.0 refl in
     record {
       taken = taken;
       rest = early';
-      written = interim ++ sent_bytes r true;
+      written = interim ++ answer_bytes (is_bodiless h.method) r true;
       consumed = c;
       outcome = inr x;
-      put = appends_on held hm held' interim (sent_bytes r true) i sent.1;
+      put = appends_on held hm held' interim (answer_bytes (is_bodiless h.method) r true) i sent.1;
     }
 sent_next steps users number s s' times times' early taken early' left left' held hm held' reads reads' puts pm puts' h body interim time r (Some Limit) c k i a p sent =
     let x = exchange_as steps users number s s' times times' early taken early' h body interim time r false true k.message k.continued k.shown a sent.0 sent.1 in
     record {
       taken = taken;
       rest = early';
-      written = interim ++ sent_bytes r true;
+      written = interim ++ answer_bytes (is_bodiless h.method) r true;
       consumed = c;
       outcome = (x, eqb-true number MAX_REQUESTS_PER_CONNECTION sent.1);
-      put = appends_on held hm held' interim (sent_bytes r true) i sent.2;
+      put = appends_on held hm held' interim (answer_bytes (is_bodiless h.method) r true) i sent.2;
     }
 sent_next steps users number s s' times times' early taken early' left left' held hm held' reads reads' puts pm puts' h body interim time r (Some WriteFault) c k i a p sent =
     let asks : Bool = asks_to_end h in
-    let whole : List ℕ = sent_bytes r (asks || is_at_limit number) in
+    let whole : List ℕ = answer_bytes (is_bodiless h.method) r (asks || is_at_limit number) in
     let x = exchange_of steps users number s s' times times' early taken early' h body interim time r asks k.message k.continued k.shown a refl in
     record {
       taken = taken;
@@ -196,13 +196,14 @@ answered_next steps users number s s' times times' early early' left left' held 
     k : Call steps users number s s' times times' early r.taken early' h body i.0 a.0
     k = record { message = r.outcome.3; continued = i.1; shown = a.1 }
 
-    by : ((response : Response) × IsResponse steps users s s' a.0 (asked x) response × IsSent x.last (is_at_limit number) response hm held' pm puts' served)
+    by : ((response : Response) × IsResponse steps users s s' a.0 (asked x) response × IsSent (is_bodiless (asked x).method) x.last (is_at_limit number) response hm held' pm puts' served)
         ⊎ (HasBegunRequest steps users s s' a.0 (asked x) × (served ≡ Some NoMemory) × IsUnavailablePut hm held' pm puts')
         → ServesNext steps users asks_to_end number s s' times times' early early' left left' held held' reads reads' puts puts' served
     by (inl done) =
         sent_next steps users number s s' times times' early r.taken early' left left' held hm held' reads reads' puts pm puts' h body i.0 a.0 done.0 served r.consumed k i.2
         (subst (λ q. IsResponse steps users s s' a.0 q done.0) same done.1) p
-        (subst (λ b. IsSent b (is_at_limit number) done.0 hm held' pm puts' served) r.outcome.2.last done.2)
+        (subst (λ b. IsSent (is_bodiless h.method) b (is_at_limit number) done.0 hm held' pm puts' served) r.outcome.2.last
+        (subst (λ q. IsSent (is_bodiless q.method) x.last (is_at_limit number) done.0 hm held' pm puts' served) same done.2))
     by (inr lost) =
         subst (λ o. ServesNext steps users asks_to_end number s s' times times' early early' left left' held held' reads reads' puts puts' o) (sym lost.1)
         (lost_next steps users number s s' times times' early r.taken early' left left' held hm held' reads reads' puts pm puts' h body i.0 a.0 r.consumed k i.2

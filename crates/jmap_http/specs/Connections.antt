@@ -1,5 +1,5 @@
 -- The requests of a connection in order, and what is written for them (RFC 9112, 9.3 and 9.6).
-use Rattle.std.specs.Prelude.{◌≡◌, ◌⊎◌, ℕ, zero, suc, ◌+◌, ◌<◌, ◌==◌, ◌||◌, Bool, true, false, List, [], ◌++◌, take, codes, Option, if◌then◌else◌}
+use Rattle.std.specs.Prelude.{◌≡◌, ◌⊎◌, ℕ, zero, suc, ◌+◌, ◌<◌, ◌==◌, ◌||◌, Bool, true, false, List, [], ◌++◌, take, length, bytes_eq, codes, Option, if◌then◌else◌}
 use Rattle.std.specs.Io.KnownBytes.{Appends, Consumes, IsAtEnd}
 use Rattle.httparse.specs.Grammar.{RequestHead}
 use Rattle.jm_edge.specs.Causes.{Rose}
@@ -8,7 +8,7 @@ use Rattle.jm_base.specs.declared.limits.TheConstants.{MAX_UPLOAD_BYTES}
 use Rattle.http_wire.specs.Fields.{is_last}
 use Rattle.http_wire.specs.Requests.{TooLong, Invalid, Begun, OverLimit, Complete, IsMessage, requests, names_and_values, IsDue}
 use Rattle.http_parts.specs.Heads.{begun_bytes}
-use Rattle.http_wire.specs.Responses.{response_bytes, continue_bytes}
+use Rattle.http_wire.specs.Responses.{response_bytes, response_head, continue_bytes}
 use Rattle.server_users.specs.declared.users.User.{User}
 use Rattle.jmap_http.specs.Steps.{UserSteps}
 use Rattle.jmap_http.specs.Responses.{AskedRequest, IsResponse, HasBegunRequest, blank_response, limit_response}
@@ -31,6 +31,15 @@ asked_of h body = record {
 -- the bytes of a response, with which the connection ends or not
 abbrev pub sent_bytes : Response → Bool → List ℕ
 sent_bytes r last = response_bytes r.status r.media r.body last
+
+-- the answer to a request with this method is sent without its body (RFC 9110, 9.3.2)
+abbrev pub is_bodiless : List ℕ → Bool
+is_bodiless method = bytes_eq method (codes "HEAD")
+
+-- the bytes of an answer: the response, or its head alone, which says how long its body would be
+abbrev pub answer_bytes : Bool → Response → Bool → List ℕ
+answer_bytes bodiless r last =
+    if bodiless then response_head r.status r.media (length r.body) last else sent_bytes r last
 
 -- the interim response to the first request of the bytes, if it is due
 abbrev pub IsInterim : List ℕ → List ℕ → Type 0
@@ -71,7 +80,8 @@ pub record IsExchange {S : Type 0} (steps : UserSteps S) (users : List User)
         response
     pub continued : IsInterim before.bytes interim
     pub asks_is : ends head ≡ asks
-    pub written_is : written ≡ interim ++ sent_bytes response (asks || is_at_limit number)
+    pub written_is : written
+        ≡ interim ++ answer_bytes (is_bodiless head.method) response (asks || is_at_limit number)
 
 -- so many requests that do not end the connection, after so many others
 abbrev pub AreExchanges : {S : Type 0} → UserSteps S → List User → (RequestHead → Bool)

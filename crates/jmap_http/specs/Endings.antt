@@ -9,7 +9,7 @@ use Rattle.jmap_http.specs.Steps.{UserSteps}
 use Rattle.http_parts.specs.declared.fault.WireFault.{WireFault}
 use Rattle.http_parts.specs.declared.fault.WireFault.TheVariants.{End as NoRequest, ReadFault as NotRead, WriteFault as NotWritten, BadHead, HeadTooLong, BodyTooLong, CutOff as IsCutOff, NoMemory as OutOfMemory}
 use Rattle.jmap_http.specs.Responses.{AskedRequest, IsResponse, HasBegunRequest, blank_response}
-use Rattle.jmap_http.specs.Connections.{sent_bytes, SaysUnavailable, refusal_of, is_at_limit, IsExchange, IsEnding, seen_of}
+use Rattle.jmap_http.specs.Connections.{answer_bytes, is_bodiless, sent_bytes, SaysUnavailable, refusal_of, is_at_limit, IsExchange, IsEnding, seen_of}
 use Rattle.jmap_http.specs.declared.response.Response.{Response}
 use Rattle.jmap_http.specs.declared.served.Served.{Served}
 use Rattle.jmap_http.specs.declared.served.Served.TheVariants.{End, CutOff, ReadFault, WriteFault, Limit, NoMemory, Refused}
@@ -39,22 +39,23 @@ IsUnsent bytes old new puts puts' (Refused status) = ⊥
 abbrev pub end_of : (asks at_limit : Bool) → Option Served
 end_of asks at_limit = if asks then Some End else if at_limit then Some Limit else None
 
--- A response was sent, after which the connection ends in this way, if it does: because the request
--- asks for that, or because it is the last one.
-abbrev pub IsSent : (asks at_limit : Bool) → Response → (old new : Option (List ℕ))
+-- A response was sent, with its body or not, after which the connection ends in this way, if it
+-- does: because the request asks for that, or because it is the last one.
+abbrev pub IsSent : (bodiless asks at_limit : Bool) → Response → (old new : Option (List ℕ))
     → (puts puts' : ℕ) → Option Served → Type 0
-IsSent asks at_limit r old new puts puts' None =
-    (asks ≡ false) × (at_limit ≡ false) × Appends old new (sent_bytes r false)
-IsSent asks at_limit r old new puts puts' (Some End) =
-    (asks ≡ true) × Appends old new (sent_bytes r true)
-IsSent asks at_limit r old new puts puts' (Some Limit) =
-    (asks ≡ false) × (at_limit ≡ true) × Appends old new (sent_bytes r true)
-IsSent asks at_limit r old new puts puts' (Some WriteFault) =
-    IsPrefixPut old new (sent_bytes r (asks || at_limit)) × Rose puts puts'
-IsSent asks at_limit r old new puts puts' (Some NoMemory) = IsUnavailablePut old new puts puts'
-IsSent asks at_limit r old new puts puts' (Some (CutOff count)) = ⊥
-IsSent asks at_limit r old new puts puts' (Some ReadFault) = ⊥
-IsSent asks at_limit r old new puts puts' (Some (Refused status)) = ⊥
+IsSent bodiless asks at_limit r old new puts puts' None =
+    (asks ≡ false) × (at_limit ≡ false) × Appends old new (answer_bytes bodiless r false)
+IsSent bodiless asks at_limit r old new puts puts' (Some End) =
+    (asks ≡ true) × Appends old new (answer_bytes bodiless r true)
+IsSent bodiless asks at_limit r old new puts puts' (Some Limit) =
+    (asks ≡ false) × (at_limit ≡ true) × Appends old new (answer_bytes bodiless r true)
+IsSent bodiless asks at_limit r old new puts puts' (Some WriteFault) =
+    IsPrefixPut old new (answer_bytes bodiless r (asks || at_limit)) × Rose puts puts'
+IsSent bodiless asks at_limit r old new puts puts' (Some NoMemory) =
+    IsUnavailablePut old new puts puts'
+IsSent bodiless asks at_limit r old new puts puts' (Some (CutOff count)) = ⊥
+IsSent bodiless asks at_limit r old new puts puts' (Some ReadFault) = ⊥
+IsSent bodiless asks at_limit r old new puts puts' (Some (Refused status)) = ⊥
 
 -- the response that refuses a message was sent
 abbrev pub IsRefusalSent : Response → ℕ → (old new : Option (List ℕ)) → (puts puts' : ℕ) → Served
@@ -94,7 +95,7 @@ abbrev pub IsAnswered : {S : Type 0} → UserSteps S → List User → (s s' : S
 IsAnswered steps users s s' times times' q asks at_limit old new puts puts' served =
     (time : ℕ) × Shows times times' time
     × (((response : Response) × IsResponse steps users s s' time q response
-    × IsSent asks at_limit response old new puts puts' served)
+    × IsSent (is_bodiless q.method) asks at_limit response old new puts puts' served)
     ⊎ (HasBegunRequest steps users s s' time q × (served ≡ Some NoMemory)
     × IsUnavailablePut old new puts puts'))
 

@@ -19,7 +19,7 @@ use crate::targets::{Resource, find_resource, is_refused};
 use blob_ids::{BlobId, write_blob_id};
 use http_wire::{HttpField, HttpRequest};
 use jm_base::{Bytes, NoMemory, Text};
-use jm_json::{Json, Members, Scratch};
+use jm_json::{Json, Members};
 use method_batch::perform_request;
 use server_users::{User, UserAccount, Users};
 use std::alloc::Global;
@@ -116,7 +116,6 @@ fn write_blob(alloc: Global, accept: &[u8], blob: Option<Bytes>) -> Result<Respo
 // Answers a request to the API, which the port performs for a user.
 fn answer_api<P: UserPort>(
     alloc: Global,
-    scratch: &mut Scratch,
     port: &mut P,
     origin: Origin,
     body: &[u8],
@@ -132,8 +131,8 @@ fn answer_api<P: UserPort>(
         m port.new body.now)) }
 {
     port.begin(origin.index, origin.time);
-    match perform_request(alloc, scratch, port, body) {
-        Ok(answered) => write_api(alloc, scratch, answered),
+    match perform_request(alloc, port, body) {
+        Ok(answered) => write_api(alloc, answered),
         Err(refused) => Err(refused),
     }
 }
@@ -195,7 +194,6 @@ fn answer_download<P: UserPort>(
 // Answers a request for a resource.
 fn answer_resource<P: UserPort>(
     alloc: Global,
-    scratch: &mut Scratch,
     port: &mut P,
     user: &User,
     origin: Origin,
@@ -214,7 +212,7 @@ fn answer_resource<P: UserPort>(
     match resource {
         Resource::Missing => write_blank(alloc, 404),
         Resource::Session => answer_session(alloc, user, fields),
-        Resource::Api => answer_api(alloc, scratch, port, origin, body.as_slice()),
+        Resource::Api => answer_api(alloc, port, origin, body.as_slice()),
         Resource::Upload(account) => answer_upload(alloc, port, origin, account, fields, body),
         Resource::Blob {
             account,
@@ -227,7 +225,6 @@ fn answer_resource<P: UserPort>(
 // Answers a request of a user.
 fn answer_user<P: UserPort>(
     alloc: Global,
-    scratch: &mut Scratch,
     port: &mut P,
     user: &User,
     origin: Origin,
@@ -252,16 +249,7 @@ fn answer_user<P: UserPort>(
     if is_refused(resource, method.as_str()) {
         return write_blank(alloc, 405);
     }
-    match answer_resource(
-        alloc,
-        scratch,
-        port,
-        user,
-        origin,
-        resource,
-        fields.as_slice(),
-        body,
-    ) {
+    match answer_resource(alloc, port, user, origin, resource, fields.as_slice(), body) {
         Ok(response) => Ok(response),
         Err(refused) => Err(refused),
     }
@@ -274,7 +262,6 @@ fn answer_user<P: UserPort>(
 /// for was begun.
 pub fn respond<P: UserPort>(
     alloc: Global,
-    scratch: &mut Scratch,
     users: &Users,
     port: &mut P,
     request: HttpRequest,
@@ -296,5 +283,5 @@ pub fn respond<P: UserPort>(
         index: index as u64,
         time,
     };
-    answer_user(alloc, scratch, port, user, origin, request)
+    answer_user(alloc, port, user, origin, request)
 }

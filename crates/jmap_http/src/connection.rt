@@ -1,6 +1,6 @@
 // The requests of a connection, one after the other.
 ghost use Rattle.std.specs.Prelude.{◌≡◌, ◌≤◌, ◌<◌, length};
-ghost use Rattle.jmap_http.specs.Connections.{asks_to_end, Serves};
+ghost use Rattle.jmap_http.specs.Connections.{asks_to_end, is_bodiless, Serves};
 ghost use Rattle.jmap_http.specs.Endings.{IsAnswered, ServesNext};
 ghost use Rattle.jmap_http.specs.Steps.{steps_of};
 ghost use Rattle.jmap_http.specs.Views.{asked};
@@ -14,14 +14,19 @@ use http_parts::Unread;
 use http_wire::{HttpRequest, read_request};
 use jm_base::READ_BUFFER_BYTES;
 use jm_edge::{Clock, Gate, Link};
-use jm_json::Scratch;
 use server_users::Users;
 use std::alloc::Global;
+
+// Returns whether the answer to a request has no body (RFC 9110, section 9.3.2).
+fn is_bodiless(request: &HttpRequest) -> bool
+    ensures { result ≡ is_bodiless request.now.method }
+{
+    request.method.as_str() == "HEAD"
+}
 
 // Answers a complete request. Returns how the connection ends after it, if it does.
 fn answer_whole<L: Link, P: UserPort, C: Clock>(
     alloc: Global,
-    scratch: &mut Scratch,
     users: &Users,
     port: &mut P,
     link: &mut L,
@@ -38,9 +43,10 @@ fn answer_whole<L: Link, P: UserPort, C: Clock>(
     ensures later { L.put_faults link.old ≤ L.put_faults link.new }
 {
     let asks = request.last;
+    let bodiless = is_bodiless(&request);
     let time = clock.now();
-    match respond(alloc, scratch, users, port, request, time) {
-        Ok(response) => send(alloc, link, &response, asks, at_limit),
+    match respond(alloc, users, port, request, time) {
+        Ok(response) => send(alloc, link, &response, bodiless, asks, at_limit),
         Err(_) => Some(end_without_memory(link)),
     }
 }
@@ -48,7 +54,6 @@ fn answer_whole<L: Link, P: UserPort, C: Clock>(
 // Serves the next request of a connection. Returns how the connection ends, if it does.
 fn serve_next<L: Link, P: UserPort, C: Clock>(
     alloc: Global,
-    scratch: &mut Scratch,
     users: &Users,
     port: &mut P,
     link: &mut L,
@@ -69,7 +74,7 @@ fn serve_next<L: Link, P: UserPort, C: Clock>(
 {
     let at_limit = number == MAX_REQUESTS_PER_CONNECTION;
     match read_request(alloc, link, room, early) {
-        Ok(request) => { answer_whole(alloc, scratch, users, port, link, clock, request, at_limit) }
+        Ok(request) => { answer_whole(alloc, users, port, link, clock, request, at_limit) }
         Err(fault) => Some(refuse(alloc, link, fault)),
     }
 }
@@ -91,23 +96,12 @@ fn serve_all<L: Link, P: UserPort, C: Clock, G: Gate>(
         (L.held link.new) (L.read_faults link.old) (L.read_faults link.new)
         (L.put_faults link.old) (L.put_faults link.new) result }
 {
-    let mut scratch = Scratch::new(alloc);
     let mut early = Unread::new(alloc);
     let mut number = 0u64;
     'request: loop {
         number += 1;
         gate.pass(number);
-        match serve_next(
-            alloc,
-            &mut scratch,
-            users,
-            port,
-            link,
-            room,
-            &mut early,
-            clock,
-            number,
-        ) {
+        match serve_next(alloc, users, port, link, room, &mut early, clock, number) {
             Some(served) => return served,
             None => {}
         }

@@ -1,14 +1,15 @@
 // What is written where no request can be read, or memory runs out.
-ghost use Rattle.std.specs.Prelude.{◌≡◌, ◌≤◌, ◌||◌, IfErr, IfOk, OnOk};
+ghost use Rattle.std.specs.Prelude.{◌≡◌, ◌≤◌, ◌||◌, length, IfErr, IfOk, OnOk};
 ghost use Rattle.std.specs.Io.KnownBytes.{Appends};
-ghost use Rattle.jmap_http.specs.Connections.{refusal_of, sent_bytes};
+ghost use Rattle.http_wire.specs.Responses.{response_head};
+ghost use Rattle.jmap_http.specs.Connections.{answer_bytes, refusal_of, sent_bytes};
 ghost use Rattle.jmap_http.specs.Endings.{end_of, IsRefusalSent, IsRefusedAs, IsSent, IsUnavailablePut, IsUnsent};
 ghost use Rattle.jmap_http.specs.Responses.{blank_response};
 
 use crate::response::{Response, write_blank, write_limit};
 use crate::served::Served;
 use http_parts::WireFault;
-use http_wire::write_response;
+use http_wire::{write_response, write_response_head};
 use jm_base::{MAX_UPLOAD_BYTES, NoMemory};
 use jm_edge::{Link, put_to_link};
 use std::alloc::Global;
@@ -96,22 +97,72 @@ fn put_response<L: Link>(
     }
 }
 
-/// Writes a response. Returns how the connection ends after it: with `End` if the request asks for
-/// that, else with `Limit` if it is the last one.
+// Writes the head of a response, which says how long its body would be. Fails with how the
+// connection ends if not all of it was written.
+fn put_response_head<L: Link>(
+    alloc: Global,
+    link: &mut L,
+    response: &Response,
+    last: bool,
+) -> Result<(), Served>
+    ensures ok { OnOk result (Appends (L.held link.old) (L.held link.new)
+        (response_head response.now.status response.now.media (length response.now.body) last)) }
+    ensures err { IfErr result (IsUnsent
+        (response_head response.now.status response.now.media (length response.now.body) last)
+        (L.held link.old) (L.held link.new) (L.put_faults link.old) (L.put_faults link.new)) }
+    ensures left { L.left link.new ≡ L.left link.old }
+    ensures read_faults { L.read_faults link.new ≡ L.read_faults link.old }
+    ensures later { L.put_faults link.old ≤ L.put_faults link.new }
+{
+    let media = response.media.as_slice();
+    let size = response.body.len();
+    match write_response_head(alloc, link, response.status, media, size, last) {
+        Ok(()) => Ok(()),
+        Err(fault) => Err(end_unsent(link, fault)),
+    }
+}
+
+// Writes the answer to a request, with its body or not. Fails with how the connection ends if not
+// all of it was written.
+fn put_answer<L: Link>(
+    alloc: Global,
+    link: &mut L,
+    response: &Response,
+    bodiless: bool,
+    last: bool,
+) -> Result<(), Served>
+    ensures ok { OnOk result
+        (Appends (L.held link.old) (L.held link.new) (answer_bytes bodiless response.now last)) }
+    ensures err { IfErr result (IsUnsent (answer_bytes bodiless response.now last)
+        (L.held link.old) (L.held link.new) (L.put_faults link.old) (L.put_faults link.new)) }
+    ensures left { L.left link.new ≡ L.left link.old }
+    ensures read_faults { L.read_faults link.new ≡ L.read_faults link.old }
+    ensures later { L.put_faults link.old ≤ L.put_faults link.new }
+{
+    if bodiless {
+        return put_response_head(alloc, link, response, last);
+    }
+    put_response(alloc, link, response, last)
+}
+
+/// Writes the answer to a request, without the body of the response if it is to have none. Returns
+/// how the connection ends after it: with `End` if the request asks for that, else with `Limit` if
+/// it is the last one.
 pub(crate) fn send<L: Link>(
     alloc: Global,
     link: &mut L,
     response: &Response,
+    bodiless: bool,
     asks: bool,
     at_limit: bool,
 ) -> Option<Served>
-    ensures sent { IsSent asks at_limit response.now (L.held link.old) (L.held link.new)
+    ensures sent { IsSent bodiless asks at_limit response.now (L.held link.old) (L.held link.new)
         (L.put_faults link.old) (L.put_faults link.new) result }
     ensures left { L.left link.new ≡ L.left link.old }
     ensures read_faults { L.read_faults link.new ≡ L.read_faults link.old }
     ensures later { L.put_faults link.old ≤ L.put_faults link.new }
 {
-    match put_response(alloc, link, response, is_last(asks, at_limit)) {
+    match put_answer(alloc, link, response, bodiless, is_last(asks, at_limit)) {
         Ok(()) => find_end(asks, at_limit),
         Err(served) => Some(served),
     }

@@ -5,7 +5,7 @@ ghost use Rattle.method_batch.specs.Answered.{outcome_of};
 ghost use Rattle.jmap_http.specs.Responses.{api_media, api_response, blank_response, blank_tree, json_response, limit_response, problem_response};
 
 use jm_base::{Bytes, NoMemory, Text};
-use jm_json::{Json, Members, Scratch, write};
+use jm_json::{Json, Members, write};
 use method_batch::{Answered, show_limit};
 use std::alloc::Global;
 
@@ -81,17 +81,13 @@ fn write_api_media(alloc: Global, status: u16) -> Result<Bytes, NoMemory>
 }
 
 /// Returns the response of a request to the API that was answered.
-pub(crate) fn write_api(
-    alloc: Global,
-    scratch: &mut Scratch,
-    answered: Answered,
-) -> Result<Response, NoMemory>
+pub(crate) fn write_api(alloc: Global, answered: Answered) -> Result<Response, NoMemory>
     ensures { IfOk result (λ r. r ≡ api_response (outcome_of answered)) }
 {
     let status = answered.status();
     let media = write_api_media(alloc, status)?;
     let mut body = Bytes::new(alloc);
-    answered.write(alloc, scratch, &mut body)?;
+    answered.write(alloc, &mut body)?;
     Ok(Response {
         status,
         media,

@@ -1,7 +1,7 @@
 use Rattle.std.proofs.Common.{◌≡◌, ◌≤◌, ◌+◌, length, option_map}
 use Rattle.mime_lines.specs.Lines.{lines}
 use Rattle.http_parts.specs.Heads.{head_size}
-use Rattle.http_parts.proofs.Sizes.{after}
+use Rattle.http_parts.specs.Searches.{after}
 use Rattle.http_parts.proofs.heads.find_end.Given as goal
 
 abbrev pub invariant-line : goal.invariant-line
