@@ -2,7 +2,7 @@
 ghost use Rattle.std.specs.Prelude.{◌≡◌, ◌↔◌, ◌+◌, ◌-◌, ◌^◌, ◌≤◌, ◌++◌, IfOk, IsTrue, OnOk, MatchOption, length, map, ⊤};
 ghost use Rattle.std.specs.List.{AllByRecursion};
 ghost use Rattle.mail_records.specs.Contents.{AreNumbered, AreTables, NextAtMost};
-ghost use Rattle.mail_records.specs.Edits.{AllFit, IsSmall};
+ghost use Rattle.mail_records.specs.Edits.{AllFit, IsSmall, email_puts};
 ghost use Rattle.mail_records.specs.Histories.{Committed, IsFounded, IsSound, Refused, blobs_of, content_of, edits_of, empty_history, end_of, grown};
 ghost use Rattle.blob_store.specs.Blobs.{AreBlobsFew};
 ghost use Rattle.state_log.specs.Logs.{IsLogOf};
@@ -51,6 +51,7 @@ impl Model for Account {
     ghost view = { λ a. record {
       history = history_of a.log a.base.content a.base_blobs a.entries.items a.blobs.blobs;
       spare = min a.content.spare a.log.spare;
+      email_spare = a.content.email_spare;
       entry_spare = vec_capacity a.entries - vec_len a.entries;
       blob_spare = a.blobs.spare;
     } };
@@ -184,6 +185,7 @@ impl Account {
     pub(crate) fn reserve(&mut self, edits: &[Edit], blobs: &[Bytes]) -> Result<(), NoMemory>
         ensures same { self.new.history ≡ self.old.history }
         ensures spare { OnOk result (length edits.now ≤ self.new.spare) }
+        ensures email_spare { OnOk result (email_puts edits.now ≤ self.new.email_spare) }
         ensures entry_spare { OnOk result (1 ≤ self.new.entry_spare) }
         ensures blob_spare { OnOk result (length blobs.now ≤ self.new.blob_spare) }
     {
@@ -198,6 +200,7 @@ impl Account {
     // applied. With it the edits take so many bytes. It takes no memory.
     pub(crate) fn commit_ready(&mut self, commit: Commit, copy: Edits, bytes: u64)
         requires spare { length commit.edits ≤ self.old.spare }
+        requires email_spare { email_puts commit.edits ≤ self.old.email_spare }
         requires entry_spare { 1 ≤ self.old.entry_spare }
         requires blob_spare { length commit.blobs ≤ self.old.blob_spare }
         requires few { AreBlobsFew (blobs_of self.old.history ++ commit.blobs) }

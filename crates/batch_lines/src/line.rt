@@ -8,7 +8,7 @@ ghost use Rattle.batch_lines.specs.Pieces.{HasAnsweredLine, HasStopped, most_hel
 use crate::limits::{MAX_HELD_REQUEST_BYTES, MAX_HELD_UPLOAD_BYTES};
 use crate::upload::{UploadPort, answer_upload};
 use jm_base::{Bytes, NoMemory};
-use jm_json::{Json, Scratch, write_after};
+use jm_json::{Json, write_after};
 use memchr::memchr;
 use method_batch::{write_answer, write_answer_over};
 use std::alloc::Global;
@@ -73,7 +73,6 @@ fn choose_held_limit_of_both(line: &[u8], more: &[u8]) -> usize
 /// appended.
 pub(crate) fn end_line<P: UploadPort>(
     alloc: Global,
-    scratch: &mut Scratch,
     port: &mut P,
     line: &mut Bytes,
     last: &[u8],
@@ -86,17 +85,16 @@ pub(crate) fn end_line<P: UploadPort>(
         P.halts port.old port.new (line.old ++ last.now) replies.old replies.new) }
 {
     if line.is_empty() {
-        return answer_line(alloc, scratch, port, last, replies);
+        return answer_line(alloc, port, last, replies);
     }
     match hold(line, last) {
-        Ok(()) => answer_held(alloc, scratch, port, line, replies),
+        Ok(()) => answer_held(alloc, port, line, replies),
         Err(refused) => Err(refused),
     }
 }
 
 fn answer_held<P: UploadPort>(
     alloc: Global,
-    scratch: &mut Scratch,
     port: &mut P,
     line: &mut Bytes,
     replies: &mut Bytes,
@@ -113,7 +111,7 @@ fn answer_held<P: UploadPort>(
     if begins_with_plus(line.as_slice()) {
         return reply_to_held_upload(alloc, port, line, replies);
     }
-    reply_to_held_request(alloc, scratch, port, line, replies)
+    reply_to_held_request(alloc, port, line, replies)
 }
 
 fn reply_to_held_upload<P: UploadPort>(
@@ -143,7 +141,6 @@ fn reply_to_held_upload<P: UploadPort>(
 // memory of the line, so that a long one does not take as much again.
 fn reply_to_held_request<P: UploadPort>(
     alloc: Global,
-    scratch: &mut Scratch,
     port: &mut P,
     line: &mut Bytes,
     replies: &mut Bytes,
@@ -156,7 +153,7 @@ fn reply_to_held_request<P: UploadPort>(
     ensures err { OnErr result (HasStopped P.answers P.uploads P.stops
         P.halts port.old port.new line.old replies.old replies.new) }
 {
-    match write_answer_over(alloc, scratch, port, line, replies) {
+    match write_answer_over(alloc, port, line, replies) {
         Ok(()) => replies.append(b"\n"),
         Err(refused) => Err(refused),
     }
@@ -164,7 +161,6 @@ fn reply_to_held_request<P: UploadPort>(
 
 fn answer_line<P: UploadPort>(
     alloc: Global,
-    scratch: &mut Scratch,
     port: &mut P,
     line: &[u8],
     replies: &mut Bytes,
@@ -180,7 +176,7 @@ fn answer_line<P: UploadPort>(
     if begins_with_plus(line) {
         return reply_to_upload(alloc, port, line, replies);
     }
-    reply_to_request(alloc, scratch, port, line, replies)
+    reply_to_request(alloc, port, line, replies)
 }
 
 // Answers a line that begins with `+`, and appends the reply.
@@ -206,7 +202,6 @@ fn reply_to_upload<P: UploadPort>(
 // Answers a line that is the bytes of a request, and appends the reply.
 fn reply_to_request<P: UploadPort>(
     alloc: Global,
-    scratch: &mut Scratch,
     port: &mut P,
     line: &[u8],
     replies: &mut Bytes,
@@ -218,7 +213,7 @@ fn reply_to_request<P: UploadPort>(
     ensures err { OnErr result (HasStopped P.answers P.uploads P.stops
         P.halts port.old port.new line.now replies.old replies.new) }
 {
-    match write_answer(alloc, scratch, port, line, replies) {
+    match write_answer(alloc, port, line, replies) {
         Ok(()) => replies.append(b"\n"),
         Err(refused) => Err(refused),
     }

@@ -11,7 +11,6 @@ use crate::line::{cut_line, end_line, hold};
 use crate::upload::UploadPort;
 use jm_base::{Bytes, NoMemory, READ_BUFFER_BYTES};
 use jm_edge::{Sink, Source, put_all};
-use jm_json::Scratch;
 use std::alloc::Global;
 
 /// Answers the lines of an input until its end, over a port: each with a line, except empty ones,
@@ -55,7 +54,6 @@ fn answer_reads<P: UploadPort, S: Source, O: Sink>(
     ensures begun { HasBegunInput P.answers P.uploads P.stops P.halts port.old port.new
         (seen S.left S.faults source.old source.new O.held O.faults out.old out.new) }
 {
-    let mut scratch = Scratch::new(alloc);
     let mut line = Bytes::new(alloc);
     let mut replies = Bytes::new(alloc);
     let mut total = 0u64;
@@ -65,7 +63,7 @@ fn answer_reads<P: UploadPort, S: Source, O: Sink>(
             Err(_) => return Err(LinesFault::ReadFault),
         };
         if count == 0 {
-            match answer_last_line(alloc, &mut scratch, port, &mut line, &mut replies, out) {
+            match answer_last_line(alloc, port, &mut line, &mut replies, out) {
                 Ok(()) => return Ok(()),
                 Err(fault) => return Err(fault),
             }
@@ -74,7 +72,6 @@ fn answer_reads<P: UploadPort, S: Source, O: Sink>(
         if count as u64 > allowed {
             match answer_piece(
                 alloc,
-                &mut scratch,
                 port,
                 &mut line,
                 &room[..allowed as usize],
@@ -86,15 +83,7 @@ fn answer_reads<P: UploadPort, S: Source, O: Sink>(
             }
         }
         total += count as u64;
-        match answer_piece(
-            alloc,
-            &mut scratch,
-            port,
-            &mut line,
-            &room[..count],
-            &mut replies,
-            out,
-        ) {
+        match answer_piece(alloc, port, &mut line, &room[..count], &mut replies, out) {
             Ok(()) => {}
             Err(fault) => return Err(fault),
         }
@@ -105,7 +94,6 @@ fn answer_reads<P: UploadPort, S: Source, O: Sink>(
 // Answers the lines that end in a piece, and writes their replies.
 fn answer_piece<P: UploadPort, O: Sink>(
     alloc: Global,
-    scratch: &mut Scratch,
     port: &mut P,
     line: &mut Bytes,
     piece: &[u8],
@@ -122,7 +110,7 @@ fn answer_piece<P: UploadPort, O: Sink>(
     replies.clear();
     let mut rest = piece;
     'lines: while let Some(cut) = cut_line(rest) {
-        match answer_ended_line(alloc, scratch, port, line, cut.line, replies, out) {
+        match answer_ended_line(alloc, port, line, cut.line, replies, out) {
             Ok(()) => rest = cut.rest,
             Err(fault) => return Err(fault),
         }
@@ -135,7 +123,6 @@ fn answer_piece<P: UploadPort, O: Sink>(
 // do.
 fn answer_ended_line<P: UploadPort, O: Sink>(
     alloc: Global,
-    scratch: &mut Scratch,
     port: &mut P,
     line: &mut Bytes,
     last: &[u8],
@@ -152,7 +139,7 @@ fn answer_ended_line<P: UploadPort, O: Sink>(
     ensures later { O.faults out.old ≤ O.faults out.new }
     ensures reason { IfErr result (λ e. StopsFor e (O.faults out.old) (O.faults out.new)) }
 {
-    match end_line(alloc, scratch, port, line, last, replies) {
+    match end_line(alloc, port, line, last, replies) {
         Ok(()) => put_if_full(replies, out),
         Err(refused) => settle(Err(refused), replies, out),
     }
@@ -161,7 +148,6 @@ fn answer_ended_line<P: UploadPort, O: Sink>(
 // Answers the line that the input's end ends, and writes its reply.
 fn answer_last_line<P: UploadPort, O: Sink>(
     alloc: Global,
-    scratch: &mut Scratch,
     port: &mut P,
     line: &mut Bytes,
     replies: &mut Bytes,
@@ -175,7 +161,7 @@ fn answer_last_line<P: UploadPort, O: Sink>(
     ensures reason { IfErr result (λ e. StopsFor e (O.faults out.old) (O.faults out.new)) }
 {
     replies.clear();
-    let ended = end_line(alloc, scratch, port, line, &[], replies);
+    let ended = end_line(alloc, port, line, &[], replies);
     settle(ended, replies, out)
 }
 

@@ -5,7 +5,7 @@ use Rattle.jm_json.specs.Call.{Call}
 use Rattle.server_users.specs.declared.users.UserAccount.{UserAccount}
 use Rattle.jmap_http.specs.Targets.{account_with}
 use Rattle.hall_port.specs.Lines.{first_changeable}
-use Rattle.hall_port.specs.Targets.{argument_in, from_found, from_named, is_change, is_copy, source_of, target_of, to_found, to_named}
+use Rattle.read_replies.specs.Targets.{argument_in, from_found, from_named, is_change, is_copy, source_of, target_of, to_found, to_named}
 
 module _ (P : UserAccount → Type 0) (a : UserAccount) where
   found : (id : List ℕ) (accounts : List UserAccount) → AllByRecursion P accounts → account_with id accounts ≡ Some a → P a

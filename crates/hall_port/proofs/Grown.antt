@@ -29,7 +29,7 @@ use Rattle.hall_port.specs.Growing.{HasGrown}
 use Rattle.hall_port.specs.Lines.{AnswersLines, HaltsAt, UploadsTo, first_changeable, line_halts, line_uploads}
 use Rattle.hall_port.specs.Serving.{ServesHall, hall_steps, port_over}
 use Rattle.hall_port.specs.Steps.{AnswersBy, AnswersFrom, HasBegunTo, HasStopped, IsAsked, IsRead, IsUploaded, StopsBy, StopsFrom, begins, calls_by, has_account, hall_answers, hall_halts, hall_reads, hall_stops, hall_uploads}
-use Rattle.hall_port.specs.Targets.{accounts_of, source_of, target_of}
+use Rattle.read_replies.specs.Targets.{accounts_of, source_of, target_of}
 use Rattle.hall_port.specs.Views.{PortView}
 use Rattle.hall_port.proofs.ThroughLines.{IsKeptByLines, through_lines}
 use Rattle.hall_port.proofs.Through.{IsKeptBySteps, by_cond, through}

@@ -10,7 +10,7 @@ use Rattle.server_users.specs.declared.users.UserAccount.{UserAccount}
 use Rattle.hall_port.specs.Lines.{HaltsAt, UploadsTo, first_changeable, line_halts, line_uploads}
 use Rattle.hall_port.specs.Serving.{hall_steps}
 use Rattle.hall_port.specs.Steps.{AnswersBy, AnswersFrom, Calls, HasBegunTo, HasStopped, IsAsked, IsRead, IsUploaded, StopsBy, StopsFrom, has_account}
-use Rattle.hall_port.specs.Targets.{accounts_of, source_of, target_of}
+use Rattle.read_replies.specs.Targets.{accounts_of, source_of, target_of}
 use Rattle.hall_port.specs.Views.{PortView}
 use Rattle.hall_port.proofs.Through.{IsKeptBySteps, by_cond}
 use Rattle.hall_port.proofs.ThroughLines.{IsKeptByLines}

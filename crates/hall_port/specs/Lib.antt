@@ -1,5 +1,4 @@
 pub mod Views
-pub mod Targets
 pub mod Steps
 pub mod Asking
 pub mod Growing

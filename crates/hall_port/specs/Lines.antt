@@ -15,7 +15,7 @@ use Rattle.server_users.specs.Configuration.{Configuration}
 use Rattle.server_users.specs.declared.users.UserAccount.{UserAccount}
 use Rattle.hall_port.specs.Serving.{port_over}
 use Rattle.hall_port.specs.Steps.{Calls, HasStopped, IsUploaded, hall_answers, hall_stops}
-use Rattle.hall_port.specs.Targets.{accounts_of}
+use Rattle.read_replies.specs.Targets.{accounts_of}
 use Rattle.hall_port.specs.Views.{PortView}
 
 -- the first of these accounts that the user may change

@@ -1,13 +1,13 @@
 -- The steps of a port over a hall: how it goes from a state to another.
 use Rattle.std.specs.Prelude.{◌≡◌, ℕ, nat_lt, ◌⊎◌, refl, length, List, [], ◌∷◌, Bool, false, Option, None, Some, Result, Ok, Err, cond, IsUtf8}
 use Rattle.std.proofs.Common.{inl}
-use Rattle.jm_json.specs.Call.{Call as Invocation, error_of}
+use Rattle.jm_json.specs.Call.{Call as Invocation}
 use Rattle.jm_json.specs.Invocations.{call_of}
 use Rattle.jm_json.specs.declared.invocation.Invocation.{Invocation as TheInvocation}
 use Rattle.jm_json.specs.declared.invocation.Created.{Created}
 use Rattle.jm_json.specs.declared.invocation.Replied.{Replied}
 use Rattle.mail_records.specs.Histories.{History}
-use Rattle.account_book.specs.declared.asks.Ask.TheVariants.{Method, Upload, Blob}
+use Rattle.account_book.specs.declared.asks.Ask.TheVariants.{Upload, Blob}
 use Rattle.account_book.specs.declared.asks.Call.{Call}
 use Rattle.account_book.specs.declared.plans.Out.{Out}
 use Rattle.account_book.specs.declared.plans.Out.TheVariants as out
@@ -19,7 +19,9 @@ use Rattle.copy_calls.specs.Originals.{originals_call}
 use Rattle.jmap_http.specs.declared.port.Stored.{Stored}
 use Rattle.jmap_http.specs.declared.port.Stored.TheVariants.{Kept, Full, Failed}
 use Rattle.server_users.specs.declared.users.UserAccount.{UserAccount}
-use Rattle.hall_port.specs.Targets.{accounts_of, source_of, target_of}
+use Rattle.read_replies.specs.Reads.{method_call}
+use Rattle.read_replies.specs.Replies.{error_alone, replied_of}
+use Rattle.read_replies.specs.Targets.{accounts_of, source_of, target_of}
 use Rattle.hall_port.specs.Views.{PortView}
 
 -- What a session's next call, or copy, may be: on the account with this number this call, at this
@@ -69,19 +71,6 @@ HasStopped account s s' =
     (s' ≡ s) ⊎ (IsLook account s.session s'.session × (s' ≡ with_session s s'.session))
 
 -- ---- methods
-
--- the reply that is one error
-abbrev pub error_alone : List ℕ → Invocation → Replied
-error_alone kind c = record { responses = error_of kind c.id ∷ []; made = [] }
-
--- the reply to a method that an account's answer is
-abbrev pub replied_of : Out → Replied
-replied_of (out.Replies r) = r
-replied_of _ = record { responses = []; made = [] }
-
--- the call on an account that a method call is, for a user to whom it is read-only or not
-abbrev pub method_call : TheInvocation → List Created → Bool → Call
-method_call c made read_only = record { ask = Method c; made = made; read_only = read_only }
 
 -- a method was performed on an account of the user, and is replied so
 pub record IsPerformed (calls : Calls) (s : PortView) (a : UserAccount)

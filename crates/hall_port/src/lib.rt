@@ -2,9 +2,10 @@
 //!
 //! [`serve_hall`] serves the requests of a connection (`specs/Serving.antt`) by a [`HallPort`],
 //! which is a `UserPort`. Which account a call names, or which error it is answered by the accounts
-//! that it names, is in `specs/Targets.antt`; what a call, an upload and a download do to the
-//! session, and how they are answered, is in `specs/Steps.antt`. [`answer_hall_lines`] answers
-//! lines of requests and uploads by the same port (`specs/Lines.antt`).
+//! that it names, is in `specs/Targets.antt` of `read_replies`; what a call, an upload and a
+//! download do to the session, and how they are answered, is in `specs/Steps.antt`.
+//! [`answer_hall_lines`] answers lines of requests and uploads by the same port
+//! (`specs/Lines.antt`).
 #![tactic(auto)]
 
 mod answering;

@@ -1,7 +1,8 @@
 // What accounts' answers are as replies, and what calls are as asks.
 ghost use Rattle.std.specs.Prelude.{◌≡◌, ◌∷◌, [], IfOk, MatchOption, IsUtf8};
 ghost use Rattle.jm_json.specs.Call.{error_of};
-ghost use Rattle.hall_port.specs.Steps.{bytes_of, replied_of, stored_of};
+ghost use Rattle.read_replies.specs.Replies.{replied_of};
+ghost use Rattle.hall_port.specs.Steps.{bytes_of, stored_of};
 
 use account_book::Out;
 use jm_base::{Bytes, NoMemory, Sequence, Text};

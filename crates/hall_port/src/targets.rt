@@ -5,7 +5,7 @@ ghost use Rattle.jm_json.specs.Json.{tree_of};
 ghost use Rattle.jm_json.specs.Invocations.{call_of};
 ghost use Rattle.jmap_http.specs.Targets.{account_with};
 ghost use Rattle.server_users.specs.Configuration.{IsNumbered};
-ghost use Rattle.hall_port.specs.Targets.{accounts_of, argument_in, from_named, is_change, is_copy, source_of, target_of, to_found, to_named};
+ghost use Rattle.read_replies.specs.Targets.{accounts_of, argument_in, from_named, is_change, is_copy, source_of, target_of, to_found, to_named};
 
 use jm_json::{Invocation, Json};
 use method_args::read_text;

@@ -56,4 +56,15 @@ pub trait MessageLink: Drop + Send {
         ensures coming { coming self.new ≡ coming self.old }
         ensures read_faults { read_faults self.new ≡ read_faults self.old }
         ensures origin { origin self.new ≡ origin self.old };
+
+    /// Tells the other side that nothing more will be sent, so that what was sent arrives before
+    /// the connection is dropped. What contracts see of the socket stays as it is, and a fault is
+    /// not counted.
+    fn finish(&mut self)
+        ensures coming { coming self.new ≡ coming self.old }
+        ensures sent { sent self.new ≡ sent self.old }
+        ensures origin { origin self.new ≡ origin self.old }
+        ensures read_faults { read_faults self.new ≡ read_faults self.old }
+        ensures send_faults { send_faults self.new ≡ send_faults self.old }
+    {}
 }

@@ -31,8 +31,9 @@ use Rattle.server_users.specs.Configuration.{Configuration}
 use Rattle.server_users.specs.declared.users.UserAccount.{UserAccount}
 use Rattle.hall_port.specs.Lines.{HaltsAt, UploadsTo, first_changeable, line_halts, line_uploads, uploaded_as}
 use Rattle.hall_port.specs.Serving.{port_over}
-use Rattle.hall_port.specs.Steps.{AnswersBy as HallAnswersBy, Calls, HasStopped, IsAsked, IsPerformed as IsHallPerformed, StopsBy, calls_by, hall_answers, hall_stops, method_call, upload_call}
-use Rattle.hall_port.specs.Targets.{accounts_of, source_of, target_of}
+use Rattle.read_replies.specs.Reads.{method_call}
+use Rattle.hall_port.specs.Steps.{AnswersBy as HallAnswersBy, Calls, HasStopped, IsAsked, IsPerformed as IsHallPerformed, StopsBy, calls_by, hall_answers, hall_stops, upload_call}
+use Rattle.read_replies.specs.Targets.{accounts_of, source_of, target_of}
 use Rattle.hall_port.specs.Views.{PortView}
 use Rattle.hall_port.proofs.Found.{source_among, source_apart, target_among}
 use Rattle.jmap_commands.specs.AccountAnswers.{AnswersBy, IsAccountAnswer, IsMailReply, account_answers, account_halts, account_stops, account_uploads, asked}

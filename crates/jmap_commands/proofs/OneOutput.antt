@@ -33,7 +33,8 @@ use Rattle.account_book.specs.declared.plans.Plan.{Plan}
 use Rattle.account_book.specs.declared.plans.Point.{Point}
 use Rattle.blob_store.specs.Blobs.{has_room}
 use Rattle.mail_calls.specs.BlobPlans.{upload_if, upload_plan}
-use Rattle.mail_calls.specs.Plans.{call_plan, changes_plan, email_set_plan, get_plan, ground_in, mailbox_set_plan, method_plan, plan_by, set_plan, query_plan, query_changes_plan}
+use Rattle.read_replies.specs.Plans.{changes_plan, get_plan, query_plan, query_changes_plan}
+use Rattle.mail_calls.specs.Plans.{call_plan, email_set_plan, ground_in, mailbox_set_plan, method_plan, plan_by, set_plan}
 use Rattle.mail_calls.specs.Methods.{method_named}
 use Rattle.mail_calls.specs.declared.methods.Method.{Method as MailMethod}
 use Rattle.mail_calls.specs.declared.methods.Method.TheVariants.{Get, Changes, MailboxSet, EmailSet, EmailImport, EmailParse, Query, QueryChanges}
@@ -43,8 +44,9 @@ use Rattle.batch_lines.specs.Uploads.{IsAnswerToBytes, IsRejected, IsUploaded, b
 use Rattle.batch_lines.specs.declared.limits.TheConstants.{MAX_UPLOAD_CHARACTERS}
 use Rattle.batch_lines.specs.declared.upload.Uploaded.{Uploaded}
 use Rattle.server_users.specs.declared.users.UserAccount.{UserAccount}
-use Rattle.hall_port.specs.Steps.{error_alone, replied_of, upload_call}
-use Rattle.hall_port.specs.Targets.{target_of}
+use Rattle.read_replies.specs.Replies.{error_alone, replied_of}
+use Rattle.hall_port.specs.Steps.{upload_call}
+use Rattle.read_replies.specs.Targets.{target_of}
 use Rattle.jmap_commands.specs.OneUser.{the_accounts}
 use Rattle.jmap_commands.specs.AccountAnswers.{AnswersBy, IsAccountAnswer, account_answers, account_uploads, asked, point_between, uploaded_of}
 use Rattle.jmap_commands.specs.Stamps.{AreAlike, unstamped, unstamped_entry}

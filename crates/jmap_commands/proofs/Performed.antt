@@ -16,7 +16,7 @@ use Rattle.mail_calls.specs.ValidAfterCommits.{IsWholeMail}
 use Rattle.mail_calls.specs.RuleLaws.{plan_keeps}
 use Rattle.server_users.specs.declared.users.UserAccount.{UserAccount}
 use Rattle.hall_port.specs.Steps.{upload_call}
-use Rattle.hall_port.specs.Targets.{target_of}
+use Rattle.read_replies.specs.Targets.{target_of}
 use Rattle.jmap_commands.specs.OneUser.{the_accounts}
 use Rattle.jmap_commands.specs.AccountAnswers.{AnswersBy, IsAccountAnswer, IsMailReply, account_answers, account_uploads, asked, point_between}
 use Rattle.batch_lines.specs.declared.upload.Uploaded.{Uploaded}

@@ -26,7 +26,7 @@ use Rattle.query_changes.specs.Touched.{touched_by, touches}
 use Rattle.query_changes.specs.declared.delta.Delta.{Delta}
 use Rattle.query_changes.specs.Deltas as delta
 use Rattle.query_changes.specs.Responses as query_change
-use Rattle.mail_calls.specs.Plans.{queried, query_changed}
+use Rattle.read_replies.specs.Plans.{queried, query_changed}
 use Rattle.jmap_commands.specs.Stamps.{unstamped, unstamped_entry}
 
 edits_of_entry : (e : Entry) → entry_edits (unstamped_entry e) ≡ entry_edits e

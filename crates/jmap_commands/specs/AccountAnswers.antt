@@ -18,8 +18,10 @@ use Rattle.batch_lines.specs.declared.upload.Uploaded.{Uploaded as TheUploaded}
 use Rattle.mail_calls.specs.Plans.{call_plan}
 use Rattle.server_users.specs.declared.users.UserAccount.{UserAccount}
 use Rattle.hall_port.specs.Lines.{uploaded_as}
-use Rattle.hall_port.specs.Steps.{error_alone, method_call, replied_of, stored_of, upload_call}
-use Rattle.hall_port.specs.Targets.{target_of}
+use Rattle.read_replies.specs.Reads.{method_call}
+use Rattle.read_replies.specs.Replies.{error_alone, replied_of}
+use Rattle.hall_port.specs.Steps.{stored_of, upload_call}
+use Rattle.read_replies.specs.Targets.{target_of}
 use Rattle.jmap_commands.specs.OneUser.{account_id, the_accounts}
 
 -- The point of a call that takes the history from h to h': of the one account, numbered 0, at the

@@ -20,7 +20,7 @@ use Rattle.server_users.specs.Configuration.{Configuration}
 use Rattle.server_users.specs.declared.users.UserAccount.{UserAccount}
 use Rattle.hall_port.specs.Serving.{ServesHall, hall_steps, port_over}
 use Rattle.hall_port.specs.Steps.{AnswersBy, AnswersFrom, HasBegunTo, HasStopped, IsAsked, IsRead, IsUploaded, StopsBy, StopsFrom, calls_by, has_account, hall_halts}
-use Rattle.hall_port.specs.Targets.{accounts_of, source_of, target_of}
+use Rattle.read_replies.specs.Targets.{accounts_of, source_of, target_of}
 use Rattle.hall_port.specs.Views.{PortView}
 use Rattle.hall_port.proofs.Through.{IsKeptBySteps, by_cond, through}
 use Rattle.hall_port.proofs.ThroughCopies.{through_begun, through_copy}

@@ -15,7 +15,8 @@ use Rattle.account_hall.specs.declared.named_account.Named.{Named}
 use Rattle.server_users.specs.Configuration.{Configuration}
 use Rattle.server_users.specs.declared.fault.ConfigFault.{ConfigFault}
 use Rattle.server_users.specs.declared.fault.ConfigFault.TheVariants as config
-use Rattle.server_users.specs.Lookups.{IsConfigurationOf, IsLeast, places_of}
+use Rattle.jm_json.specs.LeastPlaces.{IsLeast}
+use Rattle.server_users.specs.Lookups.{IsConfigurationOf, places_of}
 use Rattle.jmap_server.specs.declared.fault.ServeFault.{ServeFault}
 use Rattle.jmap_server.specs.declared.fault.ServeFault.TheVariants.{BadConfig, KeeperFault, Damaged, DeskFault, NoMemory}
 use Rattle.jmap_server.specs.Deeds.{Deed, GaveKeeper, GotKeeper, IsTold, Lent, Listened, ReadText, account_of, gave, lent_for}

@@ -6,3 +6,4 @@ pub mod Queries
 pub mod ValidityTested
 pub mod SharedMessages
 pub mod RightFlags
+pub mod ReadPlans

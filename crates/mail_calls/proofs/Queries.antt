@@ -11,7 +11,7 @@ use Rattle.state_log.specs.Logs.{IsLogOf, Notes}
 use Rattle.query_changes.specs.Deltas.{AreOf}
 use Rattle.query_changes.specs.Responses as query_change
 use Rattle.query_changes.specs.Responses.{query_changes_outcome}
-use Rattle.mail_calls.specs.Plans.{queried, query_changed}
+use Rattle.read_replies.specs.Plans.{queried, query_changed}
 
 same_query : (h : History) (kind : Kind) (state : ℕ) (c : Content) (blobs : List (List ℕ)) (args : Tree) → state ≡ state_of h kind → c ≡ content_of h → blobs ≡ blobs_of h → query_outcome kind state c (texts_of_blobs blobs) args ≡ queried h kind args
 same_query h kind state c blobs args states contents bytes =

@@ -15,7 +15,8 @@ use Rattle.set_parts.specs.Outcomes.{ExplainsSet, Outcome, ground_of, plan_of}
 use Rattle.set_parts.specs.Outcomes as sets
 use Rattle.account_book.specs.declared.plans.Out.TheVariants.{Replies}
 use Rattle.account_book.specs.declared.plans.Plan.{Plan}
-use Rattle.mail_calls.specs.Plans.{IsOutcomeOf, planned_with, refused, response_to, set_plan, ground_in, unless_rejected}
+use Rattle.read_replies.specs.Plans.{refused, response_to}
+use Rattle.mail_calls.specs.Plans.{IsOutcomeOf, planned_with, set_plan, ground_in, unless_rejected}
 
 same_ground : (c d : Content) (m n : ℕ) (e f : Floors) (x y : List Id) → c ≡ d → m ≡ n → e ≡ f → x ≡ y
     → (let g : Ground = record { content = c; floor = m; floors = e; ids = x } in g) ≡ record { content = d; floor = n; floors = f; ids = y }

@@ -2,7 +2,7 @@
 -- /changes of each kind, the /query and /queryChanges of mailboxes and emails, Mailbox/set,
 -- Email/set without creates, Email/import, Email/parse, Email/copy and Blob/copy are built.
 use Rattle.std.specs.Prelude.{◌≡◌, ℕ, List, [], ◌∷◌, Bool, codes, Option, Some, None, Result, MatchResult}
-use Rattle.jm_json.specs.Call.{Call as Invocation, error_of}
+use Rattle.jm_json.specs.Call.{Call as Invocation}
 use Rattle.jm_json.specs.Invocations.{call_of}
 use Rattle.jm_json.specs.Tree.{Tree}
 use Rattle.jm_json.specs.declared.invocation.Created.{Created}
@@ -10,7 +10,7 @@ use Rattle.jm_base.specs.declared.identifiers.Kind.{Kind}
 use Rattle.jm_base.specs.declared.identifiers.Kind.TheVariants.{Mailbox as OfMailbox, Email as OfEmail, Thread as OfThread}
 use Rattle.mail_records.specs.Histories.{History, blobs_of, content_of}
 use Rattle.mail_records.specs.States.{state_of}
-use Rattle.mail_view.specs.Gets.{Got, invalid, too_large, got, get_of_kind}
+use Rattle.mail_view.specs.Gets.{get_of_kind}
 use Rattle.mail_view.specs.Parses.{parse_in}
 use Rattle.mail_counts.specs.Plans.{Ground, ground_of_history}
 use Rattle.mail_counts.specs.declared.plan.SetPlan.{SetPlan}
@@ -20,13 +20,7 @@ use Rattle.set_parts.specs.Outcomes.{ExplainsSet, Outcome, plan_of}
 use Rattle.set_parts.specs.Outcomes as sets
 use Rattle.email_set.specs.Plans.{email_set_outcome}
 use Rattle.mail_import.specs.Plans.{import_in}
-use Rattle.change_calls.specs.Responses as change
 use Rattle.change_calls.specs.Responses.{changes_outcome}
-use Rattle.message_texts.specs.Texts.{texts_of_blobs}
-use Rattle.query_engine.specs.Responses as queries
-use Rattle.query_engine.specs.Responses.{query_outcome}
-use Rattle.query_changes.specs.Responses as query_change
-use Rattle.query_changes.specs.Responses.{query_changes_outcome}
 use Rattle.account_book.specs.declared.asks.Ask.{Ask}
 use Rattle.account_book.specs.declared.asks.Ask.TheVariants.{Method, Upload, Blob, Fetch, Place, States}
 use Rattle.account_book.specs.declared.asks.Call.{Call}
@@ -35,6 +29,7 @@ use Rattle.account_book.specs.declared.plans.Out.{Out}
 use Rattle.account_book.specs.declared.plans.Out.TheVariants.{Replies}
 use Rattle.account_book.specs.declared.plans.Out.TheVariants as out
 use Rattle.account_book.specs.declared.plans.Plan.{Plan}
+use Rattle.read_replies.specs.Plans.{changes_plan, get_plan, queried, query_changed, query_changes_plan, query_plan, refused, response_to}
 use Rattle.mail_calls.specs.BlobPlans.{upload_plan}
 use Rattle.mail_copies.specs.Plans.{place_in}
 use Rattle.copy_calls.specs.BlobCopies.{BlobPlan, blob_plan_in, blob_rejection, blobs_fetched_in, bytes_named}
@@ -48,63 +43,6 @@ use Rattle.mail_calls.specs.declared.methods.Method.TheVariants.{Get, Changes, M
 -- this is answered, and nothing changed
 abbrev pub reading : Out → Plan
 reading answer = record { out = answer; blobs = []; edits = [] }
-
--- one response, and nothing made or changed
-abbrev pub answered : Invocation → Plan
-answered response = record {
-  out = Replies (record { responses = response ∷ []; made = [] });
-  blobs = [];
-  edits = [];
-}
-
--- an error of this type
-abbrev pub refused : Invocation → List ℕ → Plan
-refused c kind = answered (error_of kind c.id)
-
--- the response to a call: its name and id, with these arguments
-abbrev pub response_to : Invocation → Tree → Invocation
-response_to c args = record { name = c.name; args = args; id = c.id }
-
--- the plan of a get, or of a parse
-abbrev pub get_plan : Invocation → Got → Plan
-get_plan c (invalid name) = refused c (codes "invalidArguments")
-get_plan c too_large = refused c (codes "requestTooLarge")
-get_plan c (got t) = answered (response_to c t)
-
--- the plan of a call for changes
-abbrev pub changes_plan : Invocation → change.Outcome → Plan
-changes_plan c (change.invalid name) = refused c (codes "invalidArguments")
-changes_plan c change.cannot_tell = refused c (codes "cannotCalculateChanges")
-changes_plan c (change.replied reply) = answered (response_to c reply)
-
--- the outcome of a query of a kind over the account's content, where texts are those of its blobs
-abbrev pub queried : History → Kind → Tree → queries.Outcome
-queried h kind args =
-    query_outcome kind (state_of h kind) (content_of h) (texts_of_blobs (blobs_of h)) args
-
--- the plan of a query
-abbrev pub query_plan : Invocation → queries.Outcome → Plan
-query_plan c (queries.invalid_call name) = refused c (codes "invalidArguments")
-query_plan c (queries.unsupported_filter_call name) = refused c (codes "unsupportedFilter")
-query_plan c (queries.unsupported_sort_call name) = refused c (codes "unsupportedSort")
-query_plan c queries.no_anchor = refused c (codes "anchorNotFound")
-query_plan c (queries.replied reply) = answered (response_to c reply)
-
--- the outcome of a call for the changes of a query of a kind over an account with this history,
--- where texts are those of its blobs
-abbrev pub query_changed : History → Kind → Tree → query_change.Outcome
-query_changed h kind args = query_changes_outcome h (texts_of_blobs (blobs_of h)) kind args
-
--- the plan of a call for the changes of a query
-abbrev pub query_changes_plan : Invocation → query_change.Outcome → Plan
-query_changes_plan c (query_change.invalid_call name) = refused c (codes "invalidArguments")
-query_changes_plan c (query_change.unsupported_filter_call name) =
-    refused c (codes "unsupportedFilter")
-query_changes_plan c (query_change.unsupported_sort_call name) =
-    refused c (codes "unsupportedSort")
-query_changes_plan c query_change.cannot_tell = refused c (codes "cannotCalculateChanges")
-query_changes_plan c query_change.too_many_changes = refused c (codes "tooManyChanges")
-query_changes_plan c (query_change.replied reply) = answered (response_to c reply)
 
 -- the plan of a call that may be rejected as a whole: the error, else what is made of its plan
 abbrev pub unless_rejected : Invocation → (sets.Plan → Plan) → Outcome → Plan

@@ -41,7 +41,8 @@ use Rattle.blob_store.specs.Blobs.{AreBlobsFew, byte_count, has_room}
 use Rattle.blob_store.specs.declared.limits.TheConstants.{MAX_BLOB_BYTES_PER_ACCOUNT, MAX_BLOBS_PER_ACCOUNT}
 use Rattle.std.proofs.lemmas.List.Sums.{sum-map, sum_by-append}
 use Rattle.mail_calls.specs.Methods.{copy_method_named, method_named}
-use Rattle.mail_calls.specs.Plans.{reading, refused, get_plan, changes_plan, set_plan, ground_in, plan_by, ask_plan, call_plan, queried, query_plan, query_changed, query_changes_plan, unless_for, copies_plan, blobs_planned, fetch_by, placement_by}
+use Rattle.read_replies.specs.Plans.{refused, get_plan, changes_plan, queried, query_plan, query_changed, query_changes_plan}
+use Rattle.mail_calls.specs.Plans.{reading, set_plan, ground_in, plan_by, ask_plan, call_plan, unless_for, copies_plan, blobs_planned, fetch_by, placement_by}
 use Rattle.mail_calls.specs.declared.methods.CopyMethod.{CopyMethod}
 use Rattle.mail_calls.specs.declared.methods.CopyMethod.TheVariants.{Emails, Blobs}
 use Rattle.mail_calls.specs.declared.methods.Method.{Method as MailMethod}

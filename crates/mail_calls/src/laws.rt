@@ -1,5 +1,5 @@
 // What the rules of mail rest on, as laws: messages have summaries that can be kept, and what a
-// planner promises keeps an account valid.
+// planner promises keeps an account valid. Calls that read are answered as clients are told.
 ghost use Rattle.std.specs.Prelude.{ℕ, List, ◌++◌};
 ghost use Rattle.mail_records.specs.Histories.{History, Committed, blobs_of, content_of, grown};
 ghost use Rattle.mail_records.specs.declared.edits.Stamp.{Stamp};
@@ -12,6 +12,7 @@ ghost use Rattle.account_book.specs.declared.asks.Call.{Call};
 ghost use Rattle.account_book.specs.declared.plans.Plan.{Plan};
 ghost use Rattle.plan_promises.specs.Messages.{IsFormedSummary};
 ghost use Rattle.plan_promises.specs.Planned.{IsPlanned};
+ghost use Rattle.read_replies.specs.Reads.{PlansReads};
 ghost use Rattle.mail_calls.specs.ValidAfterCommits.{IsWholeMail};
 ghost use Rattle.mail_calls.specs.Plans.{call_plan};
 
@@ -36,4 +37,10 @@ pub fn planned_edits_keep_accounts_valid()
 pub fn plans_say_which_puts_change_only_counts()
     ensures { (h : History) (call : Call) (moment : ℕ) → IsWholeMail h
         → AreCountsFlagsRight (content_of h) (call_plan h call moment).edits }
+{}
+
+/// A call of /get, /changes, /query or /queryChanges is planned by the definitions that a client
+/// knows of its reply (RFC 8620, sections 5.1, 5.2, 5.5 and 5.6).
+pub fn calls_that_read_are_answered_by_their_definitions()
+    ensures { PlansReads call_plan }
 {}

@@ -11,8 +11,8 @@ mod rules;
 mod validity;
 
 pub use laws::{
-    planned_edits_keep_accounts_valid, plans_say_which_puts_change_only_counts,
-    summaries_can_be_kept,
+    calls_that_read_are_answered_by_their_definitions, planned_edits_keep_accounts_valid,
+    plans_say_which_puts_change_only_counts, summaries_can_be_kept,
 };
 pub use methods::{CopyMethod, Method};
 pub use rules::MailRules;

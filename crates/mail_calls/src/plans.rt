@@ -9,7 +9,8 @@ ghost use Rattle.set_parts.specs.Outcomes.{ExplainsSet, Outcome, Plan as SetPlan
 ghost use Rattle.email_set.specs.Plans.{email_set_outcome};
 ghost use Rattle.mail_import.specs.Plans.{import_in};
 ghost use Rattle.change_calls.specs.Responses.{ExplainsCall, changes_outcome, replied};
-ghost use Rattle.mail_calls.specs.Plans.{IsOutcomeOf, answered, changes_plan, get_plan, ground_in, method_plan, refused, response_to, set_plan, queried, query_plan, query_changed, query_changes_plan, unless_rejected};
+ghost use Rattle.read_replies.specs.Plans.{answered, changes_plan, get_plan, refused, response_to, queried, query_plan, query_changed, query_changes_plan};
+ghost use Rattle.mail_calls.specs.Plans.{IsOutcomeOf, ground_in, method_plan, set_plan, unless_rejected};
 ghost use Rattle.query_engine.specs.Responses as queries;
 ghost use Rattle.query_changes.specs.Responses as query_change;
 ghost use Rattle.account_book.specs.Accounts.{IsBounded};

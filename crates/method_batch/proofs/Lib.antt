@@ -2,4 +2,4 @@ pub mod Together
 pub mod Plain
 pub mod Ids
 pub mod Outcomes
-pub mod Members
+pub mod Singles

@@ -1,8 +1,9 @@
 -- The outcome of a request that was answered so.
 use Rattle.std.specs.Prelude.{[], ◌∷◌, ◌++◌, map, codes, pos}
 use Rattle.jm_json.specs.Tree.{number, text, list, trees_of}
+use Rattle.jm_json.specs.Responses.{call_tree}
 use Rattle.jm_json.specs.declared.tree.Json.TheVariants.{Object}
-use Rattle.method_batch.specs.Outcome.{call_tree, created_member, limit_member, problem_limit, problem_status, problem_type}
+use Rattle.method_batch.specs.Outcome.{created_member, limit_member, problem_limit, problem_status, problem_type}
 use Rattle.method_batch.specs.declared.answered.Answered.{Answered}
 use Rattle.method_batch.specs.declared.answered.Answered.TheVariants.{Rejected, Performed}
 use Rattle.method_batch.specs.declared.outcome.Outcome.{Outcome}

@@ -4,3 +4,4 @@ pub mod Prepared
 pub mod Answer
 pub mod Outcome
 pub mod Answered
+pub mod OneCall

@@ -4,6 +4,7 @@ use Rattle.jm_json.specs.Reading.{Reading, not_json, not_whole, whole, reading_o
 use Rattle.jm_json.specs.Tree.{Tree, number, text, list, object, trees_of, fields_of}
 use Rattle.jm_json.specs.Order.{put}
 use Rattle.jm_json.specs.Call.{Call}
+use Rattle.jm_json.specs.Responses.{call_tree}
 use Rattle.jm_json.specs.Json.{tree_of}
 use Rattle.jm_json.specs.declared.invocation.Created.{Created}
 use Rattle.jm_json.specs.declared.invocation.Replied.{Replied}
@@ -19,10 +20,6 @@ use Rattle.method_batch.specs.declared.outcome.Problem.{Problem}
 use Rattle.method_batch.specs.declared.outcome.Problem.TheVariants.{NotJson, NotRequest, UnknownCapability, TooManyCalls, TooLarge}
 
 -- ---- the Response
-
--- a call or a response as it is in a text
-abbrev pub call_tree : Call → Tree
-call_tree c = list (trees_of (text c.name ∷ c.args ∷ text c.id ∷ []))
 
 -- the members for what was made, one after another put to those before: of a creation id that was
 -- made twice the last counts

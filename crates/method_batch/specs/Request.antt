@@ -5,36 +5,13 @@ use Rattle.std.specs.List.{list_any, list_all}
 use Rattle.jm_json.specs.Tree.{Tree}
 use Rattle.jm_json.specs.Find.{find, as_text, as_list, as_object, texts_from}
 use Rattle.jm_json.specs.Call.{Call}
+use Rattle.jm_json.specs.Calls.{calls_from}
 use Rattle.jm_json.specs.declared.invocation.Created.{Created}
 use Rattle.method_batch.specs.Method.{is_capability}
 use Rattle.method_batch.specs.declared.limits.TheConstants.{MAX_CALLS_PER_REQUEST}
 use Rattle.method_batch.specs.declared.request.Request.{Request}
 use Rattle.method_batch.specs.declared.outcome.Problem.{Problem}
 use Rattle.method_batch.specs.declared.outcome.Problem.TheVariants.{UnknownCapability, TooManyCalls}
-
-abbrev pub call_of_parts : Option (List ℕ) → Option (List (List ℕ × Tree)) → Tree → Option (List ℕ)
-    → Option Call
-call_of_parts None members args id = None
-call_of_parts (Some name) None args id = None
-call_of_parts (Some name) (Some members) args None = None
-call_of_parts (Some name) (Some members) args (Some id) =
-    Some (record { name = name; args = args; id = id })
-
--- a call is a list of a text, an object and a text
-abbrev pub call_of_items : List Tree → Option Call
-call_of_items [] = None
-call_of_items (a ∷ []) = None
-call_of_items (a ∷ b ∷ []) = None
-call_of_items (a ∷ b ∷ c ∷ []) = call_of_parts (as_text a) (as_object b) b (as_text c)
-call_of_items (a ∷ b ∷ c ∷ d ∷ ts) = None
-
-abbrev pub call_from : Tree → Option Call
-call_from t = option_and_then call_of_items (as_list t)
-
--- the calls of a list all of whose items are calls
-abbrev pub calls_from : List Tree → Option (List Call)
-calls_from [] = Some []
-calls_from (t ∷ ts) = option_and_then (λ c. option_map (λ cs. c ∷ cs) (calls_from ts)) (call_from t)
 
 -- what members say was created, each name being a creation id: where all values are texts
 abbrev pub created_from : List (List ℕ × Tree) → Option (List Created)

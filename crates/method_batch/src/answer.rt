@@ -1,11 +1,9 @@
 // The answer to a request: its calls in order, each by the text and the responses up to here, or by
 // the port (RFC 8620, section 3.4).
-ghost use Rattle.std.specs.Prelude.{◌≡◌, ℕ, List, [], ◌++◌, Some, IfOk, IfSome, OnOk, OnErr};
+ghost use Rattle.std.specs.Prelude.{◌≡◌, [], ◌++◌, Some, IfOk, OnOk, OnErr};
 ghost use Rattle.serde_json.specs.Written.{compact_text};
-ghost use Rattle.jm_json.specs.Tree.{Tree, object, fields_of};
 ghost use Rattle.jm_json.specs.Json.{tree_of};
 ghost use Rattle.jm_json.specs.Reading.{reading_of};
-ghost use Rattle.jm_json.specs.Requests.{AreMembersOf, HasMembers};
 ghost use Rattle.jm_json.specs.JsonValues.{data_of};
 ghost use Rattle.method_batch.specs.Outcome.{IsOutcome, IsOutcomeBy, IsResponse, IsAnswer, IsAnswerBy, HasBegun, HasBegunBy, HasBegunRequest, HasBegunReading, HasBegunAnswer};
 ghost use Rattle.method_batch.specs.Answered.{outcome_of};
@@ -19,7 +17,7 @@ use crate::progress::Progress;
 use crate::request::Request;
 use crate::using::has_capability;
 use jm_base::{Bytes, MAX_REQUEST_BYTES, NoMemory};
-use jm_json::{Json, ReadFault, RequestMembers, Scratch, copy, read_request, read_with};
+use jm_json::{Json, ReadFault, copy, read};
 use std::alloc::Global;
 use std::mem;
 
@@ -52,32 +50,17 @@ pub fn answer_request<P: Port>(
     ensures outcome { IfOk result (λ o. IsAnswer P.answers port.old port.new request.now o) }
     ensures begun { OnErr result (HasBegunAnswer P.answers P.stops port.old port.new request.now) }
 {
-    let mut scratch = Scratch::new(alloc);
-    answer_request_with(alloc, &mut scratch, port, request)
-}
-
-/// Answers the bytes of a request like `answer_request`, but reuses the reader's buffers.
-pub fn answer_request_with<P: Port>(
-    alloc: Global,
-    scratch: &mut Scratch,
-    port: &mut P,
-    request: &[u8],
-) -> Result<Outcome, NoMemory>
-    ensures outcome { IfOk result (λ o. IsAnswer P.answers port.old port.new request.now o) }
-    ensures begun { OnErr result (HasBegunAnswer P.answers P.stops port.old port.new request.now) }
-{
-    match perform_request(alloc, scratch, port, request) {
+    match perform_request(alloc, port, request) {
         Ok(answered) => answered.into_outcome(alloc),
         Err(refused) => Err(refused),
     }
 }
 
-/// Answers the bytes of a request like `answer_request_with`, and adds the compact text of the
+/// Answers the bytes of a request like `answer_request`, and adds the compact text of the
 /// outcome's tree after what is there. If memory runs out, the bytes are unchanged; the first calls
 /// were performed, the port stopped at the next one, and no other was performed.
 pub fn write_answer<P: Port>(
     alloc: Global,
-    scratch: &mut Scratch,
     port: &mut P,
     request: &[u8],
     out: &mut Bytes,
@@ -88,8 +71,8 @@ pub fn write_answer<P: Port>(
     ensures begun { OnErr result (HasBegunAnswer P.answers P.stops port.old port.new request.now) }
     ensures err { OnErr result (out.new ≡ out.old) }
 {
-    match perform_request(alloc, scratch, port, request) {
-        Ok(answered) => answered.write(alloc, scratch, out),
+    match perform_request(alloc, port, request) {
+        Ok(answered) => answered.write(alloc, out),
         Err(refused) => Err(refused),
     }
 }
@@ -99,7 +82,6 @@ pub fn write_answer<P: Port>(
 /// away or not.
 pub fn write_answer_over<P: Port>(
     alloc: Global,
-    scratch: &mut Scratch,
     port: &mut P,
     request: &mut Bytes,
     out: &mut Bytes,
@@ -111,10 +93,10 @@ pub fn write_answer_over<P: Port>(
     ensures begun { OnErr result (HasBegunAnswer P.answers P.stops port.old port.new request.old) }
     ensures err { OnErr result (out.new ≡ out.old) }
 {
-    match perform_request(alloc, scratch, port, request.as_slice()) {
+    match perform_request(alloc, port, request.as_slice()) {
         Ok(answered) => {
             hand_over(request, out);
-            answered.write(alloc, scratch, out)
+            answered.write(alloc, out)
         }
         Err(refused) => Err(refused),
     }
@@ -132,11 +114,10 @@ fn hand_over(used: &mut Bytes, out: &mut Bytes)
     mem::swap(used, out);
 }
 
-/// Answers the bytes of a request like `answer_request_with`, and returns the answer before it is a
+/// Answers the bytes of a request like `answer_request`, and returns the answer before it is a
 /// tree or a text.
 pub fn perform_request<P: Port>(
     alloc: Global,
-    scratch: &mut Scratch,
     port: &mut P,
     request: &[u8],
 ) -> Result<Answered, NoMemory>
@@ -147,53 +128,13 @@ pub fn perform_request<P: Port>(
     if request.len() > MAX_REQUEST_BYTES {
         return Ok(Answered::Rejected(Problem::TooLarge));
     }
-    match read_request(alloc, scratch, request) {
-        Ok(found) => answer_found(alloc, scratch, port, request, found),
-        Err(refused) => Err(refused),
-    }
-}
-
-// Answers the bytes of a request, of which the members were read or are left to the tree.
-fn answer_found<P: Port>(
-    alloc: Global,
-    scratch: &mut Scratch,
-    port: &mut P,
-    request: &[u8],
-    found: Option<RequestMembers>,
-) -> Result<Answered, NoMemory>
-    requires { IfSome found (λ r. AreMembersOf request.now r) }
-    ensures outcome { IfOk result
-        (λ a. IsAnswerBy P.answers port.old port.new (reading_of request.now) (outcome_of a)) }
-    ensures begun { OnErr result
-        (HasBegunReading P.answers P.stops port.old port.new (reading_of request.now)) }
-{
-    match found {
-        Some(members) => answer_members(alloc, port, members),
-        None => answer_reading(alloc, scratch, port, request),
-    }
-}
-
-fn answer_members<P: Port>(
-    alloc: Global,
-    port: &mut P,
-    members: RequestMembers,
-) -> Result<Answered, NoMemory>
-    ensures outcome { IfOk result (λ a. (ms : List (List ℕ × Tree)) → HasMembers members ms
-        → IsOutcome P.answers port.old port.new (object (fields_of ms)) (outcome_of a)) }
-    ensures begun { OnErr result ((ms : List (List ℕ × Tree)) → HasMembers members ms
-        → HasBegun P.answers P.stops port.old port.new (object (fields_of ms))) }
-{
-    match Request::of_members_read(alloc, members) {
-        Ok(request) => answer_if_request(alloc, port, request),
-        Err(refused) => Err(refused),
-    }
+    answer_reading(alloc, port, request)
 }
 
 // Answers the bytes of a request by their tree.
 #[inline(never)]
 fn answer_reading<P: Port>(
     alloc: Global,
-    scratch: &mut Scratch,
     port: &mut P,
     request: &[u8],
 ) -> Result<Answered, NoMemory>
@@ -202,7 +143,7 @@ fn answer_reading<P: Port>(
     ensures begun { OnErr result
         (HasBegunReading P.answers P.stops port.old port.new (reading_of request.now)) }
 {
-    match read_with(alloc, scratch, request) {
+    match read(alloc, request) {
         Ok(tree) => perform_tree(alloc, port, tree),
         Err(ReadFault::NotJson) => Ok(Answered::Rejected(Problem::NotJson)),
         Err(ReadFault::NotWhole(_)) => Ok(Answered::Rejected(Problem::NotRequest)),

@@ -9,7 +9,7 @@ use crate::outcome::{Outcome, Problem};
 use crate::progress::Progress;
 use crate::response::{build_response, write_response};
 use jm_base::{Bytes, NoMemory};
-use jm_json::{Scratch, write_with};
+use jm_json::write_after;
 use std::alloc::Global;
 
 /// How a request was answered: it is rejected as a whole, or its calls were performed, and it has
@@ -51,33 +51,23 @@ impl Answered {
 
     /// Adds the compact text of the outcome's tree after what is there. If memory runs out, the
     /// bytes are unchanged.
-    pub fn write(
-        self,
-        alloc: Global,
-        scratch: &mut Scratch,
-        out: &mut Bytes,
-    ) -> Result<(), NoMemory>
+    pub fn write(self, alloc: Global, out: &mut Bytes) -> Result<(), NoMemory>
         ensures ok { OnOk result (out.new ≡ out.old
             ++ compact_text (data_of (tree_of (outcome_of self).tree))) }
         ensures err { OnErr result (out.new ≡ out.old) }
     {
         match self {
-            Answered::Rejected(problem) => write_refusal(alloc, scratch, problem, out),
-            Answered::Performed(shows, after) => write_response(alloc, scratch, shows, after, out),
+            Answered::Rejected(problem) => write_refusal(alloc, problem, out),
+            Answered::Performed(shows, after) => write_response(alloc, shows, after, out),
         }
     }
 }
 
-fn write_refusal(
-    alloc: Global,
-    scratch: &mut Scratch,
-    problem: Problem,
-    out: &mut Bytes,
-) -> Result<(), NoMemory>
+fn write_refusal(alloc: Global, problem: Problem, out: &mut Bytes) -> Result<(), NoMemory>
     ensures ok { OnOk result (out.new ≡ out.old
         ++ compact_text (data_of (problem_tree problem))) }
     ensures err { OnErr result (out.new ≡ out.old) }
 {
     let Outcome { tree, .. } = Outcome::reject(alloc, problem)?;
-    write_with(alloc, scratch, out, &tree)
+    write_after(alloc, out, &tree)
 }

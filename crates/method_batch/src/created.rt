@@ -6,7 +6,6 @@ ghost use Rattle.jm_json.specs.Find.{as_object};
 ghost use Rattle.method_batch.specs.Request.{created_from};
 ghost use Rattle.method_batch.specs.Outcome.{put_ids};
 
-use crate::parts::{into_members, into_text};
 use jm_base::NoMemory;
 use jm_json::{Created, Json, Made, Members};
 use std::alloc::Global;
@@ -17,7 +16,7 @@ use std::collections::VecDeque;
 pub(crate) fn read_created(alloc: Global, tree: Json) -> Result<Option<Made>, NoMemory>
     ensures { IfOk result (λ o. o ≡ option_and_then created_from (as_object (tree_of tree))) }
 {
-    match into_members(tree) {
+    match tree.into_members() {
         Some(members) => read_pairs(alloc, members),
         None => Ok(None),
     }
@@ -29,7 +28,7 @@ fn read_pairs(alloc: Global, members: Members) -> Result<Option<Made>, NoMemory>
     let mut made = Made::new(alloc);
     let mut rest = VecDeque::from_vec(members.into_vec());
     while let Some(member) = rest.pop_front() {
-        match into_text(member.value) {
+        match member.value.into_text() {
             Some(id) => made.push(Created {
                 creation: member.name,
                 id,

@@ -3,12 +3,11 @@
 
 mod answer;
 mod answered;
-mod calls;
 mod created;
+mod laws;
 mod limits;
 mod method;
 mod outcome;
-mod parts;
 mod port;
 mod prepare;
 mod progress;
@@ -18,10 +17,10 @@ mod response;
 mod using;
 
 pub use answer::{
-    answer_request, answer_request_with, answer_tree, perform_request, perform_tree, write_answer,
-    write_answer_over,
+    answer_request, answer_tree, perform_request, perform_tree, write_answer, write_answer_over,
 };
 pub use answered::Answered;
+pub use laws::show_that_a_single_call_is_answered_by_the_port;
 pub use limits::MAX_CALLS_PER_REQUEST;
 pub use outcome::{Outcome, Problem, show_limit};
 pub use port::Port;

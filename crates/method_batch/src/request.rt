@@ -1,18 +1,17 @@
 // The form of a request (RFC 8620, section 3.3). What is taken from its tree is moved and not
 // copied.
-ghost use Rattle.std.specs.Prelude.{◌≡◌, [], ◌∷◌, IfOk, option_map, codes};
+ghost use Rattle.std.specs.Prelude.{◌≡◌, [], ◌∷◌, IfOk, option_and_then, option_map, codes};
 ghost use Rattle.std.specs.Option.{option_or};
 ghost use Rattle.jm_json.specs.Json.{tree_of, member_of};
-ghost use Rattle.jm_json.specs.Find.{find};
+ghost use Rattle.jm_json.specs.Calls.{calls_from};
+ghost use Rattle.jm_json.specs.Find.{as_list, find};
 
-use crate::calls::read_calls;
 use crate::created::read_created;
 use crate::limits::MAX_CALLS_PER_REQUEST;
 use crate::outcome::Problem;
-use crate::parts::into_members;
 use crate::using::{are_known, read_texts};
 use jm_base::{NoMemory, Texts};
-use jm_json::{Invocations, Json, Made, Member, Members, RequestMembers};
+use jm_json::{Invocations, Json, Made, Member, Members, read_calls};
 use std::alloc::Global;
 use std::collections::VecDeque;
 
@@ -33,16 +32,13 @@ struct Parts {
 }
 
 impl Request {
-    ghost use Rattle.std.specs.Prelude.{ℕ, List};
-    ghost use Rattle.jm_json.specs.Tree.{Tree, object, fields_of};
-    ghost use Rattle.jm_json.specs.Requests.{HasMembers};
     ghost use Rattle.method_batch.specs.Request.{request_of, request_in, request_with, request_by, problem_in};
 
     /// Returns the request of a tree, or none if the tree does not have the form of a request.
     pub(crate) fn of_tree(alloc: Global, tree: Json) -> Result<Option<Request>, NoMemory>
         ensures { IfOk result (λ o. o ≡ request_of (tree_of tree)) }
     {
-        match into_members(tree) {
+        match tree.into_members() {
             Some(members) => Request::of_members(alloc, members),
             None => Ok(None),
         }
@@ -53,25 +49,8 @@ impl Request {
     {
         let parts = collect_parts(members);
         let capabilities = read_texts(alloc, parts.using)?;
-        let calls = read_calls(alloc, parts.calls)?;
+        let calls = read_calls_if(alloc, parts.calls)?;
         Request::with_created(alloc, parts.created, capabilities, calls)
-    }
-
-    /// Returns the request whose members were read, or none if they do not have the form of those
-    /// of a request.
-    pub(crate) fn of_members_read(
-        alloc: Global,
-        members: RequestMembers,
-    ) -> Result<Option<Request>, NoMemory>
-        ensures { IfOk result (λ o. (ms : List (List ℕ × Tree)) → HasMembers members ms
-            → o ≡ request_of (object (fields_of ms))) }
-    {
-        let RequestMembers {
-            using,
-            calls,
-            created,
-        } = members;
-        Request::with_created(alloc, created, using, calls)
     }
 
     fn with_created(
@@ -124,6 +103,16 @@ impl Request {
             return Some(Problem::TooManyCalls);
         }
         None
+    }
+}
+
+fn read_calls_if(alloc: Global, tree: Option<Json>) -> Result<Option<Invocations>, NoMemory>
+    ensures { IfOk result
+        (λ o. o ≡ option_and_then calls_from (option_and_then as_list (option_map tree_of tree))) }
+{
+    match tree {
+        Some(tree) => read_calls(alloc, tree),
+        None => Ok(None),
     }
 }
 

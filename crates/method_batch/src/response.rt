@@ -4,14 +4,13 @@ ghost use Rattle.serde_json.specs.Written.{compact_text};
 ghost use Rattle.jm_json.specs.Json.{tree_of};
 ghost use Rattle.jm_json.specs.JsonValues.{data_of};
 ghost use Rattle.jm_json.specs.Invocations.{call_of};
-ghost use Rattle.method_batch.specs.Outcome.{call_tree, created_member, response_tree};
+ghost use Rattle.jm_json.specs.Responses.{call_tree};
+ghost use Rattle.method_batch.specs.Outcome.{created_member, response_tree};
 
 use crate::created::build_id_members;
 use crate::progress::Progress;
 use jm_base::{Bytes, NoMemory, Text};
-use jm_json::{
-    Invocation, Invocations, Items, Json, Made, Members, Scratch, write_responses, write_with,
-};
+use jm_json::{Invocation, Invocations, Items, Json, Made, Members, write_after, write_responses};
 use std::alloc::Global;
 use std::collections::VecDeque;
 
@@ -36,7 +35,6 @@ pub(crate) fn build_response(alloc: Global, shows: bool, after: Progress) -> Res
 /// has `createdIds` if the request had them. If memory runs out, the bytes are unchanged.
 pub(crate) fn write_response(
     alloc: Global,
-    scratch: &mut Scratch,
     shows: bool,
     after: Progress,
     out: &mut Bytes,
@@ -47,15 +45,9 @@ pub(crate) fn write_response(
 {
     if shows {
         let tree = build_response(alloc, shows, after)?;
-        return write_with(alloc, scratch, out, &tree);
+        return write_after(alloc, out, &tree);
     }
-    write_responses(
-        alloc,
-        scratch,
-        out,
-        after.responses.as_slice(),
-        SESSION_STATE,
-    )
+    write_responses(alloc, out, after.responses.as_slice(), SESSION_STATE)
 }
 
 fn build_created_members(alloc: Global, shows: bool, made: Made) -> Result<Members, NoMemory>

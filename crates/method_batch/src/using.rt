@@ -7,7 +7,6 @@ ghost use Rattle.method_batch.specs.Method.{is_capability};
 ghost use Rattle.method_batch.specs.Request.{uses};
 
 use crate::method::is_capability;
-use crate::parts::{into_items, into_text};
 use jm_base::{NoMemory, Text, Texts};
 use jm_json::{Items, Json};
 use std::alloc::Global;
@@ -19,7 +18,7 @@ pub(crate) fn read_texts(alloc: Global, tree: Option<Json>) -> Result<Option<Tex
         (λ o. o ≡ option_and_then texts_from (option_and_then as_list (option_map tree_of tree))) }
 {
     match tree {
-        Some(tree) => match into_items(tree) {
+        Some(tree) => match tree.into_items() {
             Some(items) => read_items(alloc, items),
             None => Ok(None),
         },
@@ -33,7 +32,7 @@ fn read_items(alloc: Global, items: Items) -> Result<Option<Texts>, NoMemory>
     let mut texts = Texts::new(alloc);
     let mut rest = VecDeque::from_vec(items.into_vec());
     while let Some(item) = rest.pop_front() {
-        match into_text(item) {
+        match item.into_text() {
             Some(text) => texts.push(text)?,
             None => return Ok(None),
         }

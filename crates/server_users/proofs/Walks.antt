@@ -6,8 +6,8 @@ use Rattle.jm_json.specs.Tree.{Tree}
 use Rattle.server_users.specs.Values.{text_or_empty}
 use Rattle.server_users.specs.Configuration.{is_among, id_in}
 use Rattle.server_users.specs.BadPlaces.{account_places, accounts_places, user_places, users_places, names_in, tokens_in}
-use Rattle.server_users.specs.Lookups.{least_from}
-use Rattle.server_users.proofs.Least.{least_on}
+use Rattle.jm_json.specs.LeastPlaces.{least_from}
+use Rattle.jm_json.proofs.Least.{least_on}
 
 -- a set that has each of some texts, after one more
 or_false : (b : Bool) → (b || false) ≡ b

@@ -1,9 +1,8 @@
--- The least place, why a configuration is not read, and whose a token is.
-use Rattle.std.specs.Prelude.{◌≡◌, ⊤, ℕ, Bool, true, false, List, [], ◌∷◌, Option, Some, None, bytes_eq}
-use Rattle.std.specs.List.{fold, position, list_any, AllByRecursion}
-use Rattle.std.specs.Ordering.{nat_cmp, match_ordering, is_gt}
-use Rattle.std.specs.Cmp.Lexicographic.{slice_cmp}
+-- Why a configuration is not read, and whose a token is.
+use Rattle.std.specs.Prelude.{◌≡◌, ⊤, ℕ, Bool, List, [], ◌∷◌, Option, bytes_eq}
+use Rattle.std.specs.List.{position}
 use Rattle.jm_json.specs.Tree.{Tree}
+use Rattle.jm_json.specs.LeastPlaces.{IsLeast}
 use Rattle.jm_json.specs.Reading.{Reading, not_json, not_whole, whole, reading_of}
 use Rattle.server_users.specs.Configuration.{Configuration, configuration_in}
 use Rattle.server_users.specs.BadPlaces.{bad_places}
@@ -12,23 +11,6 @@ use Rattle.server_users.specs.declared.seen_texts.SeenTexts.{SeenTexts}
 use Rattle.server_users.specs.declared.users.User.{User}
 use Rattle.server_users.specs.declared.fault.ConfigFault.{ConfigFault}
 use Rattle.server_users.specs.declared.fault.ConfigFault.TheVariants.{BadConfig, NoMemory}
-
--- ---- the least place
-
--- the lesser in byte order of a place, if there is one, and another
-abbrev pub lesser : Option (List ℕ) → List ℕ → Option (List ℕ)
-lesser None place = Some place
-lesser (Some least) place =
-    match_ordering (slice_cmp nat_cmp place least) (Some place) (Some least) (Some least)
-
--- the least of a place, if there is one, and of these places
-abbrev pub least_from : Option (List ℕ) → List (List ℕ) → Option (List ℕ)
-least_from least places = fold lesser least places
-
--- the place is one of these, and none of them is less in byte order
-pub record IsLeast (places : List (List ℕ)) (place : List ℕ) : Type 0 where
-  pub among : list_any (bytes_eq place) places ≡ true
-  pub least : AllByRecursion (λ other. is_gt (slice_cmp nat_cmp place other) ≡ false) places
 
 -- ---- reading
 

@@ -3,7 +3,7 @@ ghost use Rattle.std.specs.Prelude.{◌≡◌, ◌++◌, not, is_none, IfOk, [],
 ghost use Rattle.server_users.specs.Values.{flag_at, items_at, text_at};
 ghost use Rattle.jm_json.specs.Json.{tree_of};
 ghost use Rattle.server_users.specs.BadPlaces.{account_members, account_places, account_pointer, accounts_places, bad_if, is_good_id, list_places};
-ghost use Rattle.server_users.specs.Lookups.{least_from};
+ghost use Rattle.jm_json.specs.LeastPlaces.{least_from};
 
 use crate::account_ids::{is_account_id, is_among};
 use crate::places::{AccountPlace, note_account_member, note_user_member};

@@ -1,38 +1,17 @@
 // The least of the places that are not of the form.
-ghost use Rattle.std.specs.Prelude.{◌≡◌, ◌++◌, Some, IfOk};
+ghost use Rattle.std.specs.Prelude.{◌≡◌, ◌++◌, IfOk};
 ghost use Rattle.server_users.specs.BadPlaces.{account_pointer, bad_if, user_pointer};
-ghost use Rattle.server_users.specs.Lookups.{least_from, lesser};
+ghost use Rattle.jm_json.specs.LeastPlaces.{least_from};
 
 use jm_base::{NoMemory, Text};
+use jm_json::choose_least;
 use std::alloc::Global;
-use std::cmp::Ordering;
 
 /// An account by the index of its user, and its index among those of the user.
 #[derive(Clone, Copy)]
 pub(crate) struct AccountPlace {
     pub user: usize,
     pub index: usize,
-}
-
-// Returns the lesser of two places in byte order.
-fn choose_lesser_place(least: Text, place: Text) -> Text
-    ensures { Some result ≡ lesser (Some least) place }
-{
-    match place.as_bytes().cmp(least.as_bytes()) {
-        Ordering::Less => place,
-        Ordering::Equal => least,
-        Ordering::Greater => least,
-    }
-}
-
-/// Returns the lesser of a place, if there is one, and another.
-pub(crate) fn choose_lesser(least: Option<Text>, place: Text) -> Option<Text>
-    ensures { result ≡ lesser least place }
-{
-    match least {
-        Some(least) => Some(choose_lesser_place(least, place)),
-        None => Some(place),
-    }
 }
 
 // Returns the JSON Pointer of a member of a user.
@@ -64,7 +43,7 @@ pub(crate) fn note_user_member(
     if !bad {
         return Ok(least);
     }
-    Ok(choose_lesser(least, write_user_place(alloc, user, member)?))
+    Ok(choose_least(least, write_user_place(alloc, user, member)?))
 }
 
 /// Takes a member of an account into account, if it is bad.
@@ -81,5 +60,5 @@ pub(crate) fn note_account_member(
     if !bad {
         return Ok(least);
     }
-    Ok(choose_lesser(least, write_account_place(alloc, at, member)?))
+    Ok(choose_least(least, write_account_place(alloc, at, member)?))
 }

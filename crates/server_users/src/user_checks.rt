@@ -4,7 +4,7 @@ ghost use Rattle.std.specs.List.{list_all};
 ghost use Rattle.jm_json.specs.Json.{tree_of};
 ghost use Rattle.server_users.specs.Configuration.{account_ids};
 ghost use Rattle.server_users.specs.BadPlaces.{bad_places, document_places, has_no_account, is_good_name, user_members, user_places, users_places};
-ghost use Rattle.server_users.specs.Lookups.{least_from};
+ghost use Rattle.jm_json.specs.LeastPlaces.{least_from};
 
 use crate::account_checks::check_accounts;
 use crate::places::note_user_member;

@@ -1,4 +1,6 @@
 // A log that begins at a floor. No command has one, since no account has a base yet.
+ghost use Rattle.std.specs.Prelude.{◌≡◌, IfOk};
+
 use jm_base::{Kind, NoMemory};
 use mail_records::Edit;
 use state_log::Log;
@@ -7,7 +9,9 @@ use std::test::Fail;
 
 // A log from the position 10 on, before which mailboxes were last edited at 7, emails at 10 and
 // threads at 3; and four edits.
-fn log(alloc: Global) -> Result<Log, NoMemory> {
+fn log(alloc: Global) -> Result<Log, NoMemory>
+    ensures { IfOk result (λ l. l.floor ≡ 10) }
+{
     let mut log = Log::new(alloc, 10, 7, 10, 3);
     let thread = 2;
     log.push(&Edit::DropEmail { number: 5, thread })?;
@@ -66,5 +70,27 @@ fn edits_after_the_floor_name_numbers(rt: HostRuntime) -> Result<(), Fail> {
         let touched = log.touched(rt.alloc(), *kind, *from, *to)?;
         assert_eq!(rt; touched.as_slice(), *numbers);
     }
+    Ok(())
+}
+
+// Positions of the emails' edits after the floor 12, and the threads of these.
+const EMAIL_POSITIONS: &[u64] = &[13, 14];
+
+const EMAIL_THREADS: &[u64] = &[1, 2];
+
+#[test]
+fn a_floor_moves_up(rt: HostRuntime) -> Result<(), Fail> {
+    let mut log = log(rt.alloc())?;
+    assert!(rt; log.end() == 14);
+    assert_eq!(rt; log.find_edit_before(14), 11);
+    log.move_floor(12);
+    assert_eq!(rt; log.find_edit_before(14), 0);
+    for (kind, state) in STATES {
+        assert_eq!(rt; log.state_of(*kind), *state);
+    }
+    assert!(rt; !log.reaches(Kind::Email, 10));
+    assert!(rt; log.reaches(Kind::Email, 11));
+    assert_eq!(rt; log.positions_between(Kind::Email, 11, 14), EMAIL_POSITIONS);
+    assert_eq!(rt; log.threads_between(11, 14), EMAIL_THREADS);
     Ok(())
 }

@@ -1,6 +1,6 @@
 use Rattle.std.proofs.Common.{◌≡◌, map, ◌++◌, length}
 use Rattle.jm_json.specs.Invocations.{call_of}
-use Rattle.method_batch.specs.Outcome.{call_tree}
+use Rattle.jm_json.specs.Responses.{call_tree}
 use Rattle.method_batch.proofs.response.call_lists.Given as goal
 
 abbrev pub invariant-loop-response : goal.invariant-loop-response

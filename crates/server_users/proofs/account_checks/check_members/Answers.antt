@@ -2,7 +2,7 @@ use Rattle.std.proofs.Common.{◌++◌, not, is_none, codes}
 use Rattle.jm_json.specs.Json.{tree_of}
 use Rattle.server_users.specs.Values.{text_at, flag_at}
 use Rattle.server_users.specs.BadPlaces.{account_pointer, bad_if, is_good_id}
-use Rattle.server_users.proofs.Least.{least_three}
+use Rattle.jm_json.proofs.Least.{least_three}
 use Rattle.server_users.proofs.account_checks.check_members.Goals as goal
 
 pub returns : goal.returns

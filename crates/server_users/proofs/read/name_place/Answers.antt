@@ -1,4 +1,4 @@
-use Rattle.server_users.proofs.Least.{is_least_alone}
+use Rattle.jm_json.proofs.Least.{is_least_alone}
 use Rattle.server_users.proofs.read.name_place.Goals as goal
 
 pub returns : goal.returns

@@ -1,5 +1,5 @@
 use Rattle.std.proofs.Common.{◌∙◌, sym}
-use Rattle.server_users.proofs.Least.{least_is, none_left}
+use Rattle.jm_json.proofs.Least.{least_is, none_left}
 use Rattle.server_users.proofs.read.read_tree.Goals as goal
 
 pub build_users-requires-clause-good : goal.build_users-requires-clause-good

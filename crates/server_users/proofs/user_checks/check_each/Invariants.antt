@@ -1,7 +1,8 @@
 use Rattle.std.proofs.Common.{◌≡◌, ◌+◌, [], length, map}
 use Rattle.jm_json.specs.Json.{tree_of}
 use Rattle.server_users.specs.BadPlaces.{users_places}
-use Rattle.server_users.specs.Lookups.{holds, least_from}
+use Rattle.jm_json.specs.LeastPlaces.{least_from}
+use Rattle.server_users.specs.Lookups.{holds}
 use Rattle.server_users.proofs.Walks.{UserWalk}
 use Rattle.server_users.proofs.user_checks.check_each.Given as goal
 

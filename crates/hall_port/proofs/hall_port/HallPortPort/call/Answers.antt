@@ -2,7 +2,7 @@ use Rattle.std.proofs.Common.{◌≡◌, ◌<◌, Some, length, sym, subst}
 use Rattle.server_users.specs.Configuration.{IsNumbered}
 use Rattle.jm_json.specs.Invocations.{call_of}
 use Rattle.hall_port.specs.Views.{PortView}
-use Rattle.hall_port.specs.Targets.{source_of}
+use Rattle.read_replies.specs.Targets.{source_of}
 use Rattle.hall_port.proofs.Found.{source_among, source_apart, target_among}
 use Rattle.hall_port.proofs.hall_port.HallPortPort.call.Goals as goal
 

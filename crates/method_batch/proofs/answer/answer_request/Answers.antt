@@ -2,7 +2,7 @@ use Rattle.method_batch.specs.Outcome.{HasBegunAnswer}
 use Rattle.method_batch.specs.Answered.{outcome_of}
 use Rattle.method_batch.proofs.Together.{on_err}
 use Rattle.method_batch.proofs.Outcomes.{answer_kept, answer_begun}
-use Rattle.method_batch.proofs.answer.answer_request_with.Goals as goal
+use Rattle.method_batch.proofs.answer.answer_request.Goals as goal
 
 pub returns-in-Ok-clause-outcome : goal.returns-in-Ok-clause-outcome
 returns-in-Ok-clause-outcome g c =
