@@ -1,4 +1,5 @@
 pub mod Encoding
+pub mod Bases
 pub mod Sizes
 pub mod Widths
 pub mod Offsets
