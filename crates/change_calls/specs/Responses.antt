@@ -8,12 +8,11 @@ use Rattle.jm_json.specs.Tree.{Tree, null, boolean, text, list, object, fields_o
 use Rattle.mail_records.specs.Histories.{History}
 use Rattle.method_args.specs.Arguments.{Form, find_invalid, integer_in, text_in}
 use Rattle.method_args.specs.Ids.{id_trees}
+use Rattle.method_args.specs.Outcomes.{Outcome, cannot_tell, invalid_call, replied}
 use Rattle.method_args.specs.declared.form.Presence.TheVariants.{Required, Nullable}
 use Rattle.method_args.specs.declared.form.Shape.TheVariants.{String, Integer}
 use Rattle.change_calls.specs.Changes.{Answer, answered, invalid_maximum, cannot_calculate, answer_of}
 use Rattle.change_calls.specs.declared.page.ChangePage.{ChangePage}
-use Rattle.change_calls.specs.declared.response.CallFault.{CallFault}
-use Rattle.change_calls.specs.declared.response.CallFault.TheVariants.{Invalid, CannotCalculate, NoMemory}
 
 -- the arguments in byte order, in which their forms are checked
 abbrev pub forms : List Form
@@ -84,20 +83,13 @@ page_tree kind account since page =
 
 -- ---- the outcome of a call
 
--- An argument is invalid (the name is empty if the arguments are no object), or the changes since
--- the state cannot be calculated, or these are the arguments of the response.
-pub data Outcome : Type 0 where
-  invalid : (argument : List ℕ) → Outcome
-  cannot_tell : Outcome
-  replied : (reply : Tree) → Outcome
-
 abbrev pub outcome_by : Kind → List ℕ → List ℕ → Answer → Outcome
 outcome_by kind account since (answered page) = replied (page_tree kind account since page)
-outcome_by kind account since invalid_maximum = invalid (codes "maxChanges")
+outcome_by kind account since invalid_maximum = invalid_call (codes "maxChanges")
 outcome_by kind account since cannot_calculate = cannot_tell
 
 abbrev pub outcome_with : History → Kind → List (List ℕ × Tree) → Option (List ℕ) → Outcome
-outcome_with h kind ms (Some name) = invalid name
+outcome_with h kind ms (Some name) = invalid_call name
 outcome_with h kind ms None =
     outcome_by kind
     (string_in (codes "accountId") ms)
@@ -105,16 +97,10 @@ outcome_with h kind ms None =
     (answer_of h kind (string_in (codes "sinceState") ms) (max_in ms))
 
 abbrev pub outcome_of_members : History → Kind → Option (List (List ℕ × Tree)) → Outcome
-outcome_of_members h kind None = invalid []
+outcome_of_members h kind None = invalid_call []
 outcome_of_members h kind (Some ms) = outcome_with h kind ms (invalid_argument ms)
 
 -- The outcome of a call for the changes of a kind, over an account with this history. First the
 -- forms of the arguments are checked, in byte order, then the maximum, then the state.
 abbrev pub changes_outcome : History → Kind → Tree → Outcome
 changes_outcome h kind args = outcome_of_members h kind (as_object args)
-
--- why there is no response; out of memory explains itself
-abbrev pub ExplainsCall : CallFault → Outcome → Type 0
-ExplainsCall (Invalid name) o = o ≡ invalid name
-ExplainsCall CannotCalculate o = o ≡ cannot_tell
-ExplainsCall NoMemory o = ⊤

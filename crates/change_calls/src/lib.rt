@@ -17,4 +17,4 @@ pub use laws::{
 };
 pub use page::{ChangeFault, ChangePage};
 pub use pages::{changes, find_state};
-pub use response::{CallFault, answer_changes};
+pub use response::answer_changes;

@@ -5,38 +5,17 @@ ghost use Rattle.jm_json.specs.Json.{tree_of};
 ghost use Rattle.jm_json.specs.Tree.{text};
 ghost use Rattle.mail_records.specs.Histories.{History};
 ghost use Rattle.change_calls.specs.Changes.{IsKeptBy};
-ghost use Rattle.change_calls.specs.Responses.{ExplainsCall, changes_outcome, count_properties, invalid_argument, outcome_with, page_members, page_tree, properties_tree, replied, string_in};
+ghost use Rattle.method_args.specs.Outcomes.{ExplainsCall, replied};
+ghost use Rattle.change_calls.specs.Responses.{changes_outcome, count_properties, invalid_argument, outcome_with, page_members, page_tree, properties_tree, string_in};
 
 use crate::{ChangeFault, ChangePage, changes};
 use jm_base::{Kind, NoMemory, Text, state_text};
 use jm_json::{Items, Json, Members};
-use method_args::{Argument, Presence, Shape, find_invalid, make_ids, read_integer, read_text};
+use method_args::{
+    Argument, MethodFault, Presence, Shape, find_invalid, make_ids, read_integer, read_text,
+};
 use state_log::Log;
 use std::alloc::Global;
-
-/// Why a call of a /changes method has no response of its own.
-#[derive(Debug, Drop)]
-pub enum CallFault {
-    /// The argument of this name is missing or has a wrong form or value; with an empty name the
-    /// arguments are no object (RFC 8620, section 3.6.2: `invalidArguments`).
-    Invalid(Text),
-    /// `sinceState` is not the text of a state from which all edits of the kind are known (RFC
-    /// 8620, section 5.2: `cannotCalculateChanges`).
-    CannotCalculate,
-    /// An allocation failed.
-    NoMemory,
-}
-
-impl From<NoMemory> for CallFault {
-    ghost use Rattle.std.specs.Prelude.{◌≡◌};
-    ghost use Rattle.change_calls.specs.declared.response.CallFault.TheVariants.{NoMemory};
-
-    ghost from_gives = { λ _ e. e ≡ NoMemory };
-
-    fn from(_refused: NoMemory) -> CallFault {
-        CallFault::NoMemory
-    }
-}
 
 // Returns the name of the first argument in byte order that is missing or does not have its form.
 fn find_invalid_argument(members: &Members) -> Option<&'static str>
@@ -151,7 +130,7 @@ fn answer_members(
     log: &Log,
     kind: Kind,
     members: &Members,
-) -> Result<Json, CallFault>
+) -> Result<Json, MethodFault>
     ensures reply { IfOk result (λ j. (h : History) → IsKeptBy log.now h
         → outcome_with h kind members.now None ≡ replied (tree_of j)) }
     ensures fault { IfErr result (λ fault. (h : History) → IsKeptBy log.now h
@@ -169,12 +148,12 @@ fn answer_members(
             let account = read_string(members, "accountId");
             Ok(make_reply(alloc, kind, account, since, &page)?)
         }
-        Err(ChangeFault::BadMaximum) => Err(CallFault::Invalid(Text::from_str(
+        Err(ChangeFault::BadMaximum) => Err(MethodFault::Invalid(Text::from_str(
             alloc,
             "maxChanges",
         )?)),
-        Err(ChangeFault::CannotCalculate) => Err(CallFault::CannotCalculate),
-        Err(ChangeFault::NoMemory) => Err(CallFault::NoMemory),
+        Err(ChangeFault::CannotCalculate) => Err(MethodFault::CannotCalculate),
+        Err(ChangeFault::NoMemory) => Err(MethodFault::NoMemory),
     }
 }
 
@@ -187,7 +166,12 @@ fn answer_members(
 /// byte order; else if `maxChanges` is below 1. Fails with `CannotCalculate` if `sinceState` is
 /// not the text of a state from which all edits of the kind are known, and with `NoMemory` if an
 /// allocation fails.
-pub fn answer_changes(alloc: Global, log: &Log, kind: Kind, args: &Json) -> Result<Json, CallFault>
+pub fn answer_changes(
+    alloc: Global,
+    log: &Log,
+    kind: Kind,
+    args: &Json,
+) -> Result<Json, MethodFault>
     ensures reply { IfOk result (λ j. (h : History) → IsKeptBy log.now h
         → changes_outcome h kind (tree_of args.now) ≡ replied (tree_of j)) }
     ensures fault { IfErr result (λ fault. (h : History) → IsKeptBy log.now h
@@ -195,9 +179,9 @@ pub fn answer_changes(alloc: Global, log: &Log, kind: Kind, args: &Json) -> Resu
 {
     match args.as_object() {
         Some(members) => match find_invalid_argument(members) {
-            Some(name) => Err(CallFault::Invalid(Text::from_str(alloc, name)?)),
+            Some(name) => Err(MethodFault::Invalid(Text::from_str(alloc, name)?)),
             None => answer_members(alloc, log, kind, members),
         },
-        None => Err(CallFault::Invalid(Text::from_str(alloc, "")?)),
+        None => Err(MethodFault::Invalid(Text::from_str(alloc, "")?)),
     }
 }
