@@ -2,6 +2,7 @@
 use Rattle.std.specs.Prelude.{ℕ, Bool, false, ◌&&◌, List, [], ◌∷◌, codes, bytes_eq, Option, None, Some, option_and_then, is_none, unwrap_or, if◌then◌else◌}
 use Rattle.httparse.specs.Grammar.{is_token}
 use Rattle.percent_encoding.specs.Percent.{percent_decode}
+use Rattle.server_users.specs.Lookups.{account_with}
 use Rattle.server_users.specs.declared.users.UserAccount.{UserAccount}
 use Rattle.jmap_http.specs.Cuts.{cut_before, cut_after, strip_start, strip_end}
 
@@ -11,11 +12,6 @@ pub data Resource : Type 0 where
   Missing SessionResource ApiResource : Resource
   UploadResource : UserAccount → Resource
   BlobResource : UserAccount → (blob accept : List ℕ) → Resource
-
--- the account of a user with this identifier
-abbrev pub account_with : List ℕ → List UserAccount → Option UserAccount
-account_with id [] = None
-account_with id (a ∷ accounts) = if bytes_eq a.id id then Some a else account_with id accounts
 
 -- an account that can be written
 abbrev pub upload_to : Option UserAccount → Resource

@@ -1,12 +1,12 @@
 // What a request's target names (RFC 8620, sections 2, 3.1, 6.1 and 6.2).
 ghost use Rattle.std.specs.Prelude.{◌≡◌, codes, option_map};
-ghost use Rattle.jmap_http.specs.Targets.{accept_by, account_with, blob_path, blob_resource, blob_with_name, resource_of, upload_if, upload_resource, upload_to};
+ghost use Rattle.jmap_http.specs.Targets.{accept_by, blob_path, blob_resource, blob_with_name, resource_of, upload_if, upload_resource, upload_to};
 ghost use Rattle.jmap_http.specs.Cuts.{strip_start};
 ghost use Rattle.jmap_http.specs.Responses.{is_refused};
 ghost use Rattle.jmap_http.specs.Views.{resource_as};
 
 use crate::cuts::{cut_at, strip_end, strip_start};
-use server_users::UserAccount;
+use server_users::{UserAccount, find_account};
 
 /// What a target names for a user.
 #[derive(Clone, Copy)]
@@ -25,20 +25,6 @@ pub(crate) enum Resource<'a> {
         blob: &'a [u8],
         accept: &'a [u8],
     },
-}
-
-// Finds the account with an identifier.
-fn find_account<'a>(accounts: &'a [UserAccount], id: &[u8]) -> Option<&'a UserAccount>
-    ensures { option_map (λ a. a.now) result ≡ account_with id.now accounts.now }
-{
-    let mut rest = accounts;
-    'account: while let Some((account, more)) = rest.split_first() {
-        if account.id.as_bytes() == id {
-            return Some(account);
-        }
-        rest = more;
-    }
-    None
 }
 
 // Returns uploads to an account, unless it is read-only.

@@ -6,9 +6,9 @@ use Rattle.jm_json.specs.Find.{as_object}
 use Rattle.jm_json.specs.Tree.{Tree}
 use Rattle.method_args.specs.Arguments.{text_in}
 use Rattle.server_users.specs.Configuration.{Configuration}
+use Rattle.server_users.specs.Lookups.{account_with}
 use Rattle.server_users.specs.declared.users.User.{User}
 use Rattle.server_users.specs.declared.users.UserAccount.{UserAccount}
-use Rattle.jmap_http.specs.Targets.{account_with}
 
 -- the accounts of the user with an index; no user has none
 abbrev pub accounts_by : Option User → List UserAccount

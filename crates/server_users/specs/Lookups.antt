@@ -1,5 +1,5 @@
--- Why a configuration is not read, and whose a token is.
-use Rattle.std.specs.Prelude.{◌≡◌, ⊤, ℕ, Bool, List, [], ◌∷◌, Option, bytes_eq}
+-- Why a configuration is not read, whose a token is, and which account an identifier names.
+use Rattle.std.specs.Prelude.{◌≡◌, ⊤, ℕ, Bool, List, [], ◌∷◌, Option, None, Some, bytes_eq, if◌then◌else◌}
 use Rattle.std.specs.List.{position}
 use Rattle.jm_json.specs.Tree.{Tree}
 use Rattle.jm_json.specs.LeastPlaces.{IsLeast}
@@ -9,6 +9,7 @@ use Rattle.server_users.specs.BadPlaces.{bad_places}
 use Rattle.std.specs.HashSet.{contains_by}
 use Rattle.server_users.specs.declared.seen_texts.SeenTexts.{SeenTexts}
 use Rattle.server_users.specs.declared.users.User.{User}
+use Rattle.server_users.specs.declared.users.UserAccount.{UserAccount}
 use Rattle.server_users.specs.declared.fault.ConfigFault.{ConfigFault}
 use Rattle.server_users.specs.declared.fault.ConfigFault.TheVariants.{BadConfig, NoMemory}
 
@@ -47,3 +48,10 @@ holds seen text = contains_by (λ k. bytes_eq text k.now) seen.texts
 -- the index of the user with this token
 abbrev pub user_with : List ℕ → List User → Option ℕ
 user_with token users = position (λ u. bytes_eq u.token token) users
+
+-- ---- accounts
+
+-- the account of a user with this identifier
+abbrev pub account_with : List ℕ → List UserAccount → Option UserAccount
+account_with id [] = None
+account_with id (a ∷ accounts) = if bytes_eq a.id id then Some a else account_with id accounts

@@ -1,6 +1,6 @@
 use Rattle.std.proofs.Common.{◌≡◌, length}
-use Rattle.jmap_http.specs.Targets.{account_with}
-use Rattle.jmap_http.proofs.targets.find_account.Given as goal
+use Rattle.server_users.specs.Lookups.{account_with}
+use Rattle.server_users.proofs.lookups.find_account.Given as goal
 
 abbrev pub invariant-account : goal.invariant-account
 invariant-account l = account_with l.id l.rest ≡ account_with l.id l.accounts
