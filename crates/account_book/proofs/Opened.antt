@@ -10,7 +10,7 @@ use Rattle.mail_records.specs.declared.edits.Commit.{Commit}
 use Rattle.mail_records.proofs.Growth.{AllFit-append}
 use Rattle.mail_records.proofs.Prefixes.{edits_of-grown}
 use Rattle.record_codec.specs.Offsets.{IsEncodingOf}
-use Rattle.account_book.specs.Keeping.{AreEncodings, IsBaseOf, KeepsHistory, KnowsHistory, no_base_encoding}
+use Rattle.account_book.specs.Keeping.{AreEncodings, IsBaseOf, KeepsHistory, KnowsHistory}
 use Rattle.account_book.specs.Opening.{AreDamaged, AreLoaded, AreTaken, IsContentFault, IsEndFault, IsLeftBefore, IsLoadFault, IsLoading, IsNotWhole, IsReadyLoaded, IsRowRefused, MakesHistory, TakesRow, history_of_commits}
 use Rattle.account_book.specs.declared.faults.Reason.{Reason}
 use Rattle.account_book.specs.declared.faults.Reason.TheVariants.{NotACommit, NotWhole}
@@ -90,11 +90,11 @@ commits_in-all : (cs : List Commit) → commits_in (map Committed cs) ≡ cs
 commits_in-all [] = refl
 commits_in-all (c ∷ cs) = ap (λ zs. c ∷ zs) (commits_in-all cs)
 
-pub KeepsHistory-made : (k : Kept) (h : History) → MakesHistory k h → KeepsHistory no_base_encoding k h
+pub KeepsHistory-made : (k : Kept) (h : History) → MakesHistory k h → KeepsHistory k h
 KeepsHistory-made k h m =
-    subst (KeepsHistory no_base_encoding k) (sym m.is)
+    subst (KeepsHistory k) (sym m.is)
     (record {
-      base = subst (λ b. IsBaseOf no_base_encoding b (history_of_commits m.commits)) (sym m.no_base) refl;
+      base = subst (λ b. IsBaseOf b (history_of_commits m.commits)) (sym m.no_base) refl;
       rows = subst (AreEncodings k.rows) (sym (commits_in-all m.commits)) m.taken.encoded;
     })
 
@@ -103,16 +103,16 @@ loaded_same content k t None e told = absurd (cc)
 loaded_same content k t (Some s) e told = cc
 
 -- a keeper that loaded this content keeps the history that the content makes
-pub knows_loaded : (known : Option Kept) (content : Kept) (h : History) → MakesHistory content h → IsContent known content → KnowsHistory no_base_encoding known h
-knows_loaded known content h makes is k e = subst (λ z. KeepsHistory no_base_encoding z h) (is k e) (KeepsHistory-made content h makes)
+pub knows_loaded : (known : Option Kept) (content : Kept) (h : History) → MakesHistory content h → IsContent known content → KnowsHistory known h
+knows_loaded known content h makes is k e = subst (λ z. KeepsHistory z h) (is k e) (KeepsHistory-made content h makes)
 
-known_before : (content t : Kept) (known loaded : Option Kept) (h : History) → IsUnknownOr (content_loaded (Ok content) known) loaded → (loaded ≡ None → known ≡ None) → KnowsHistory no_base_encoding loaded h → known ≡ Some t → KeepsHistory no_base_encoding t h
+known_before : (content t : Kept) (known loaded : Option Kept) (h : History) → IsUnknownOr (content_loaded (Ok content) known) loaded → (loaded ≡ None → known ≡ None) → KnowsHistory loaded h → known ≡ Some t → KeepsHistory t h
 known_before content t known None h after lost knows told = let none = lost refl in absurd (cc)
-known_before content t known (Some k) h after lost knows told = subst (λ z. KeepsHistory no_base_encoding z h) (loaded_same content k t known (after k refl) told) (knows k refl)
+known_before content t known (Some k) h after lost knows told = subst (λ z. KeepsHistory z h) (loaded_same content k t known (after k refl) told) (knows k refl)
 
 -- a keeper that was ready is so once it is loaded
 pub ready_loaded : (whole : History → Type 0) (known loaded : Option Kept) (image image' : Kept → Type 0) (content : Kept) → IsUnknownOr (content_loaded (Ok content) known) loaded → IsLeftBefore image loaded image'
-    → IsReadyLoaded no_base_encoding whole known image loaded image'
+    → IsReadyLoaded whole known image loaded image'
 ready_loaded whole known loaded image image' content after may ready lost h valid knows left i =
     ⊎_elim
     (λ before. ready h valid (λ t told. known_before content t known loaded h after lost knows told) left before)

@@ -10,7 +10,7 @@ use Rattle.mail_records.specs.declared.edits.Edit.{Edit}
 use Rattle.record_codec.specs.Offsets.{IsEncodingOf}
 use Rattle.record_codec.proofs.Again.{one_commit}
 use Rattle.account_book.specs.Accounts.{without_refusals}
-use Rattle.account_book.specs.Keeping.{AreEncodings, IsBaseOf, IsOneMore, IsReady, KeepsHistory, KnowsHistory, LeavesHistory, no_base_encoding}
+use Rattle.account_book.specs.Keeping.{AreEncodings, IsBaseOf, IsOneMore, IsReady, KeepsHistory, KnowsHistory, LeavesHistory}
 use Rattle.account_book.specs.Opening.{AreDamaged, IsDamaged, IsFirstFault, IsNotWhole, IsRowFault, MakesHistory, history_of_commits}
 use Rattle.account_book.specs.declared.faults.Reason.{Reason}
 use Rattle.account_book.specs.declared.faults.Reason.TheVariants.{NotACommit, DoesNotFit, NotWhole}
@@ -29,11 +29,11 @@ without_is h nothing =
     ap (λ (k : History). record k { entries = filter (λ (e : Entry). not (is_refused e)) h.entries }) nothing
     ∙ ap (λ (es : List Entry). record empty_history { entries = es }) (kept_commits h.entries)
 
-began : (base : Option (List ℕ)) (h : History) → IsBaseOf no_base_encoding base h → account_after h 0 ≡ empty_history
+began : (base : Option (List ℕ)) (h : History) → IsBaseOf base h → account_after h 0 ≡ empty_history
 began None h is = is
 began (Some b) h is = absurd is
 
-base_at : (base : Option (List ℕ)) (g h : History) → account_after h 0 ≡ empty_history → IsBaseOf no_base_encoding base g → IsBaseOf no_base_encoding base h
+base_at : (base : Option (List ℕ)) (g h : History) → account_after h 0 ≡ empty_history → IsBaseOf base g → IsBaseOf base h
 base_at None g h nothing is = nothing
 base_at (Some b) g h nothing is = absurd is
 
@@ -103,13 +103,13 @@ module _ (whole : History → Type 0) (ignores : (h : History) → whole (withou
   whole_same_commits g h nothing nothing' same w =
       (ignores h).0 (subst whole (ap history_of_commits same ∙ sym (without_is h nothing')) (whole_commits g nothing w))
 
-  keeps_same : (left : Kept) (g h : History) → account_after h 0 ≡ empty_history → commits_in g.entries ≡ commits_in h.entries → KeepsHistory no_base_encoding left g → KeepsHistory no_base_encoding left h
+  keeps_same : (left : Kept) (g h : History) → account_after h 0 ≡ empty_history → commits_in g.entries ≡ commits_in h.entries → KeepsHistory left g → KeepsHistory left h
   keeps_same left g h nothing same s = record { base = base_at left.base g h nothing s.base; rows = subst (AreEncodings left.rows) same s.rows }
 
   same_more : (g h : History) (c : Commit) → commits_in g.entries ≡ commits_in h.entries → commits_in (grown g (Committed c)).entries ≡ commits_in (grown h (Committed c)).entries
   same_more g h c same = commits_in-grown g (Committed c) ∙ ap (λ (cs : List Commit). cs ++ c ∷ []) same ∙ sym (commits_in-grown h (Committed c))
 
-  one_more_same : (left : Kept) (g h : History) → account_after g 0 ≡ empty_history → account_after h 0 ≡ empty_history → commits_in g.entries ≡ commits_in h.entries → IsOneMore no_base_encoding whole left g → IsOneMore no_base_encoding whole left h
+  one_more_same : (left : Kept) (g h : History) → account_after g 0 ≡ empty_history → account_after h 0 ≡ empty_history → commits_in g.entries ≡ commits_in h.entries → IsOneMore whole left g → IsOneMore whole left h
   one_more_same left g h nothing nothing' same m = record {
     commit = m.commit;
     valid = whole_same_commits (grown g (Committed m.commit)) (grown h (Committed m.commit)) nothing nothing' (same_more g h m.commit same) m.valid;
@@ -117,7 +117,7 @@ module _ (whole : History → Type 0) (ignores : (h : History) → whole (withou
   }
 
   -- a keeper that knows its content, and that a book of this history hands back
-  pub ready_again : (known : Option Kept) (image : Kept → Type 0) (g : History) → KnowsHistory no_base_encoding known g → LeavesHistory no_base_encoding whole image g → (k : Kept) → known ≡ Some k → IsReady no_base_encoding whole known image
+  pub ready_again : (known : Option Kept) (image : Kept → Type 0) (g : History) → KnowsHistory known g → LeavesHistory whole image g → (k : Kept) → known ≡ Some k → IsReady whole known image
   ready_again known image g knows leaves k told h w stands left i =
       let was = knows k told in
       let here = stands k told in
@@ -126,7 +126,7 @@ module _ (whole : History → Type 0) (ignores : (h : History) → whole (withou
       let same : commits_in g.entries ≡ commits_in h.entries = AreEncodings-once k.rows _ _ was.rows here.rows in
       ⊎_elim (λ s. inl (keeps_same left g h nothing' same s)) (λ m. inr (one_more_same left g h nothing nothing' same m)) (leaves left i)
 
-  undamaged : (sound : (h : History) → whole h → IsSound h) (base : Option (List ℕ)) (rows : List (List ℕ)) (h : History) (row : ℕ) (why : Reason) → whole h → IsBaseOf no_base_encoding base h → AreEncodings rows (commits_in h.entries) → AreDamaged whole base rows row why → ⊥
+  undamaged : (sound : (h : History) → whole h → IsSound h) (base : Option (List ℕ)) (rows : List (List ℕ)) (h : History) (row : ℕ) (why : Reason) → whole h → IsBaseOf base h → AreEncodings rows (commits_in h.entries) → AreDamaged whole base rows row why → ⊥
   undamaged sound (Some b) rows h row why w is all damaged = absurd is
   undamaged sound None rows h row why w nothing all damaged =
       let cs = commits_in h.entries in
@@ -137,19 +137,19 @@ module _ (whole : History → Type 0) (ignores : (h : History) → whole (withou
       damaged
 
   -- what a valid account is kept as is not damaged
-  not_damaged : (sound : (h : History) → whole h → IsSound h) (k : Kept) (h : History) (row : ℕ) (why : Reason) → whole h → KeepsHistory no_base_encoding k h → ¬ IsDamaged whole k row why
+  not_damaged : (sound : (h : History) → whole h → IsSound h) (k : Kept) (h : History) (row : ℕ) (why : Reason) → whole h → KeepsHistory k h → ¬ IsDamaged whole k row why
   not_damaged sound k h row why w stands damaged = undamaged sound k.base k.rows h row why w stands.base stands.rows damaged
 
   -- it isn't with one commit more, either
-  pub left_undamaged : (sound : (h : History) → whole h → IsSound h) (k : Kept) (h : History) (row : ℕ) (why : Reason) → whole h → KeepsHistory no_base_encoding k h ⊎ IsOneMore no_base_encoding whole k h → ¬ IsDamaged whole k row why
+  pub left_undamaged : (sound : (h : History) → whole h → IsSound h) (k : Kept) (h : History) (row : ℕ) (why : Reason) → whole h → KeepsHistory k h ⊎ IsOneMore whole k h → ¬ IsDamaged whole k row why
   left_undamaged sound k h row why w left damaged =
       ⊎_elim
-      (λ (s : KeepsHistory no_base_encoding k h). not_damaged sound k h row why w s damaged)
-      (λ (m : IsOneMore no_base_encoding whole k h). not_damaged sound k (grown h (Committed m.commit)) row why m.valid m.keeps damaged)
+      (λ (s : KeepsHistory k h). not_damaged sound k h row why w s damaged)
+      (λ (m : IsOneMore whole k h). not_damaged sound k (grown h (Committed m.commit)) row why m.valid m.keeps damaged)
       left
 
 -- what is opened over it is the account, without its refusals
-pub opened_again : (k : Kept) (h g : History) → KeepsHistory no_base_encoding k h → MakesHistory k g → g ≡ without_refusals h
+pub opened_again : (k : Kept) (h g : History) → KeepsHistory k h → MakesHistory k g → g ≡ without_refusals h
 opened_again k h g stands makes =
     makes.is
     ∙ ap history_of_commits (AreEncodings-once k.rows makes.commits (commits_in h.entries) makes.taken.encoded stands.rows)

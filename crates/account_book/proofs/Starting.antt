@@ -7,7 +7,7 @@ use Rattle.keep_port.specs.declared.kept.Kept.{Kept}
 use Rattle.mail_records.specs.Contents.{Held}
 use Rattle.mail_records.specs.Histories.{History, Entry, account_after, blobs_of, empty_history}
 use Rattle.mail_records.proofs.Prefixes.{account_after-all}
-use Rattle.account_book.specs.Keeping.{KnowsHistory, no_base_encoding}
+use Rattle.account_book.specs.Keeping.{KnowsHistory}
 use Rattle.account_book.specs.Books.{IsBook, RoseBy, refusals_in}
 use Rattle.account_book.specs.Passes.{IsPassNumber, greatest_pass}
 use Rattle.account_book.specs.Opening.{AreLoaded, IsContentFault, IsEndFault, IsLoadFault, IsLoading, IsOpened, IsRowRefused, IsStartFault, MakesHistory, TakesRow}
@@ -68,7 +68,7 @@ take_all [] = refl
 take_all (x ∷ xs) = ap (λ ys. x ∷ ys) (take_all xs)
 
 -- a book that is opened now over the keeper that loaded its content
-pub IsBook_new : (whole : History → Type 0) (known : Option Kept) (image : Kept → Type 0) (faults n greatest : ℕ) (h : History) → n ≡ length h.entries → greatest ≡ greatest_pass h.entries → whole h → KnowsHistory no_base_encoding known h
+pub IsBook_new : (whole : History → Type 0) (known : Option Kept) (image : Kept → Type 0) (faults n greatest : ℕ) (h : History) → n ≡ length h.entries → greatest ≡ greatest_pass h.entries → whole h → KnowsHistory known h
     → IsBook whole known image faults known image faults n greatest h
 IsBook_new whole known image faults n greatest h count most valid knows = record {
   valid = valid;

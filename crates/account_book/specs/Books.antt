@@ -5,7 +5,7 @@ use Rattle.jm_edge.specs.Causes.{Rose}
 use Rattle.keep_port.specs.declared.kept.Kept.{Kept}
 use Rattle.mail_records.specs.Histories.{History, Entry, Committed, Refused, grown, is_refused}
 use Rattle.mail_records.specs.declared.edits.Commit.{Commit}
-use Rattle.account_book.specs.Keeping.{IsKept, no_base_encoding}
+use Rattle.account_book.specs.Keeping.{IsKept}
 use Rattle.account_book.specs.Passes.{IsPassNumber, greatest_pass}
 
 -- A book: its rules, its keeper, and its account's history. `opened` is the history that the book
@@ -37,7 +37,7 @@ pub record IsBook (whole : History → Type 0) (known_then : Option Kept) (image
     → Type 0) (faults_then : ℕ) (known : Option Kept) (image : Kept → Type 0)
     (faults before greatest : ℕ) (h : History) : Type 0 where
   pub valid : whole h
-  pub kept : IsKept no_base_encoding whole known_then image_then known image h
+  pub kept : IsKept whole known_then image_then known image h
   pub count : before ≤ length h.entries
   pub refusals : refusals_in (drop before h.entries) ≤ faults
   pub rise : RoseBy (refusals_in (drop before h.entries)) faults_then faults

@@ -3,6 +3,7 @@ use Rattle.std.specs.Prelude.{◌≡◌, ℕ, List, [], ◌∷◌, Option, Some,
 use Rattle.keep_port.specs.declared.kept.Kept.{Kept}
 use Rattle.mail_records.specs.Histories.{History, Committed, account_after, commits_in, empty_history, grown}
 use Rattle.mail_records.specs.declared.edits.Commit.{Commit}
+use Rattle.record_codec.specs.Bases.{IsBaseEncodingOf}
 use Rattle.record_codec.specs.Offsets.{IsEncodingOf}
 
 -- the rows are the encodings of the commits, in order
@@ -11,46 +12,34 @@ AreEncodings [] [] = ⊤
 AreEncodings (row ∷ rows) (c ∷ cs) = IsEncodingOf row c × AreEncodings rows cs
 AreEncodings _ _ = ⊥
 
--- Bytes encode the base of a history: its floor, positions, content and blobs. There is no such
--- encoding yet, so no bytes do.
-abbrev pub no_base_encoding : List ℕ → History → Type 0
-no_base_encoding bytes h = ⊥
-
--- The base is the history's. Without a base the history began with nothing at position 0. Which
--- bytes encode which base is a parameter.
-abbrev pub IsBaseOf : (List ℕ → History → Type 0) → Option (List ℕ) → History → Type 0
-IsBaseOf encodes None h = account_after h 0 ≡ empty_history
-IsBaseOf encodes (Some bytes) h = encodes bytes h
+-- The base is the history's. Without a base the history began with nothing at position 0.
+abbrev pub IsBaseOf : Option (List ℕ) → History → Type 0
+IsBaseOf None h = account_after h 0 ≡ empty_history
+IsBaseOf (Some bytes) h = IsBaseEncodingOf bytes h
 
 -- A content keeps a history: its base is the history's, and its rows are the encodings of the
 -- history's commits, in order. Refusals are not kept.
-pub record KeepsHistory (encodes : List ℕ → History → Type 0) (k : Kept)
-    (h : History) : Type 0 where
-  pub base : IsBaseOf encodes k.base h
+pub record KeepsHistory (k : Kept) (h : History) : Type 0 where
+  pub base : IsBaseOf k.base h
   pub rows : AreEncodings k.rows (commits_in h.entries)
 
 -- a content keeps the history with one commit more, with which the account is valid
-pub record IsOneMore (encodes : List ℕ → History → Type 0) (whole : History
-    → Type 0) (k : Kept) (h : History) : Type 0 where
+pub record IsOneMore (whole : History → Type 0) (k : Kept) (h : History) : Type 0 where
   pub commit : Commit
   pub valid : whole (grown h (Committed commit))
-  pub keeps : KeepsHistory encodes k (grown h (Committed commit))
+  pub keeps : KeepsHistory k (grown h (Committed commit))
 
 -- whatever a crash may leave keeps the history, or the history with one commit more
-abbrev pub LeavesHistory : (List ℕ → History → Type 0) → (History → Type 0) → (Kept → Type 0)
-    → History → Type 0
-LeavesHistory encodes whole image h =
-    (k : Kept) → image k → KeepsHistory encodes k h ⊎ IsOneMore encodes whole k h
+abbrev pub LeavesHistory : (History → Type 0) → (Kept → Type 0) → History → Type 0
+LeavesHistory whole image h = (k : Kept) → image k → KeepsHistory k h ⊎ IsOneMore whole k h
 
 -- if a keeper knows its content, that keeps the history
-abbrev pub KnowsHistory : (List ℕ → History → Type 0) → Option Kept → History → Type 0
-KnowsHistory encodes known h = (k : Kept) → known ≡ Some k → KeepsHistory encodes k h
+abbrev pub KnowsHistory : Option Kept → History → Type 0
+KnowsHistory known h = (k : Kept) → known ≡ Some k → KeepsHistory k h
 
 -- a crash leaves the history and nothing else, if the keeper knew its content before
-abbrev pub LeavesOnly : (List ℕ → History → Type 0) → Option Kept → (Kept → Type 0) → History
-    → Type 0
-LeavesOnly encodes known image h =
-    (k left : Kept) → known ≡ Some k → image left → KeepsHistory encodes left h
+abbrev pub LeavesOnly : Option Kept → (Kept → Type 0) → History → Type 0
+LeavesOnly known image h = (k left : Kept) → known ≡ Some k → image left → KeepsHistory left h
 
 -- A keeper is ready: whatever valid history it may keep, a crash leaves that, or that with one
 -- commit more. If the keeper knows its content, the histories are those that its content keeps. So
@@ -58,17 +47,16 @@ LeavesOnly encodes known image h =
 -- returned Ok, or if a book returned it with a known content. If the keeper doesn't know its
 -- content, the histories are all valid ones. So it is ready then only if it promises nothing of a
 -- crash.
-abbrev pub IsReady : (List ℕ → History → Type 0) → (History → Type 0) → Option Kept
-    → (Kept → Type 0) → Type 0
-IsReady encodes whole known image =
-    (h : History) → whole h → KnowsHistory encodes known h → LeavesHistory encodes whole image h
+abbrev pub IsReady : (History → Type 0) → Option Kept → (Kept → Type 0) → Type 0
+IsReady whole known image =
+    (h : History) → whole h → KnowsHistory known h → LeavesHistory whole image h
 
 -- What holds of a keeper, which was as `then` says when its content was loaded, and the history
 -- that the content has become. If the keeper knows its content, that keeps the history. If the
 -- keeper was ready then, a crash leaves each commit of the history, complete and in order, and at
 -- most one commit more, whether or not the keeper knows its content now.
-pub record IsKept (encodes : List ℕ → History → Type 0) (whole : History → Type 0)
-    (known_then : Option Kept) (image_then : Kept → Type 0) (known : Option Kept)
-    (image : Kept → Type 0) (h : History) : Type 0 where
-  pub content : KnowsHistory encodes known h
-  pub left : IsReady encodes whole known_then image_then → LeavesHistory encodes whole image h
+pub record IsKept (whole : History → Type 0) (known_then : Option Kept)
+    (image_then : Kept → Type 0) (known : Option Kept) (image : Kept → Type 0)
+    (h : History) : Type 0 where
+  pub content : KnowsHistory known h
+  pub left : IsReady whole known_then image_then → LeavesHistory whole image h

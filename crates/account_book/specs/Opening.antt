@@ -88,11 +88,10 @@ abbrev pub IsLeftBefore : (Kept → Type 0) → Option Kept → (Kept → Type 0
 IsLeftBefore old known new = (k : Kept) → new k → old k ⊎ (known ≡ Some k)
 
 -- A keeper that was ready is so once it is loaded, unless it lost its knowledge of its content.
-abbrev pub IsReadyLoaded : (List ℕ → History → Type 0) → (History → Type 0) → Option Kept
-    → (Kept → Type 0) → Option Kept → (Kept → Type 0) → Type 0
-IsReadyLoaded encodes whole known image loaded image_loaded =
-    IsReady encodes whole known image → (loaded ≡ None → known ≡ None)
-    → IsReady encodes whole loaded image_loaded
+abbrev pub IsReadyLoaded : (History → Type 0) → Option Kept → (Kept → Type 0) → Option Kept
+    → (Kept → Type 0) → Type 0
+IsReadyLoaded whole known image loaded image_loaded =
+    IsReady whole known image → (loaded ≡ None → known ≡ None) → IsReady whole loaded image_loaded
 
 -- a known content is the same afterwards, or unknown
 abbrev pub IsAsBefore : Option Kept → Option Kept → Type 0

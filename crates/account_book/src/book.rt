@@ -13,7 +13,7 @@ ghost use Rattle.mail_records.specs.declared.edits.Stamp.{Stamp as TheStamp};
 ghost use Rattle.record_codec.specs.Sizes.{edit_bytes};
 ghost use Rattle.account_book.specs.Accounts.{IsBounded};
 ghost use Rattle.account_book.specs.Books.{IsEntered, IsFaultCounted, RoseBy, refusals_in};
-ghost use Rattle.account_book.specs.Keeping.{IsKept, IsReady, LeavesOnly, no_base_encoding};
+ghost use Rattle.account_book.specs.Keeping.{IsKept, IsReady, LeavesOnly};
 ghost use Rattle.account_book.specs.Opening.{IsAsBefore, IsContentFault, IsLeftBefore, IsOpened, IsReadyLoaded, IsStartFault, MakesHistory};
 ghost use Rattle.account_book.specs.Passes.{greatest_pass, named_since, numbered_since, pass_from};
 ghost use Rattle.account_book.specs.Plans.{last_moment};
@@ -110,7 +110,7 @@ impl<K: Keeper, R: Rules> Book<K, R> {
         ensures rules { IfOk result (λ b. b.rules ≡ rules) }
         ensures opened { IfOk result (λ b. IsOpened (K.kept keeper) (K.kept b.keeper) b.history) }
         ensures opened_over { IfOk result (λ b. b.opened_over ≡ b.keeper) }
-        ensures ready { IfOk result (λ b. IsReadyLoaded no_base_encoding (R.is_whole rules)
+        ensures ready { IfOk result (λ b. IsReadyLoaded (R.is_whole rules)
             (K.kept keeper) (K.image keeper) (K.kept b.keeper) (K.image b.keeper)) }
         ensures left { IfOk result (λ b. IsLeftBefore (K.image keeper) (K.kept b.keeper)
             (K.image b.keeper)) }
@@ -176,11 +176,11 @@ impl<K: Keeper, R: Rules> Book<K, R> {
     pub fn end(self) -> K
         ensures keeper { result ≡ self.keeper }
         ensures valid { R.is_whole self.rules self.history }
-        ensures kept { IsKept no_base_encoding (R.is_whole self.rules) (K.kept self.opened_over)
+        ensures kept { IsKept (R.is_whole self.rules) (K.kept self.opened_over)
             (K.image self.opened_over) (K.kept result) (K.image result) self.history }
-        ensures ready { IsReady no_base_encoding (R.is_whole self.rules) (K.kept self.opened_over)
+        ensures ready { IsReady (R.is_whole self.rules) (K.kept self.opened_over)
             (K.image self.opened_over) → (k : TheKept) → K.kept result ≡ Some k
-            → IsReady no_base_encoding (R.is_whole self.rules) (K.kept result) (K.image result) }
+            → IsReady (R.is_whole self.rules) (K.kept result) (K.image result) }
         ensures refusals { refusals_in self.since ≤ K.append_faults result }
         ensures rise { RoseBy (refusals_in self.since) (K.append_faults self.opened_over)
             (K.append_faults result) }
@@ -192,7 +192,7 @@ impl<K: Keeper, R: Rules> Book<K, R> {
     /// Does nothing. Its clauses say what holds of each book.
     pub fn keeps(&self)
         ensures valid { R.is_whole self.now.rules self.now.history }
-        ensures kept { IsKept no_base_encoding (R.is_whole self.now.rules)
+        ensures kept { IsKept (R.is_whole self.now.rules)
             (K.kept self.now.opened_over) (K.image self.now.opened_over) (K.kept self.now.keeper)
             (K.image self.now.keeper) self.now.history }
         ensures parts { self.now.history ≡ grown_by self.now.opened self.now.since }
@@ -267,7 +267,7 @@ impl<K: Keeper, R: Rules> Book<K, R> {
         ensures cause { self.new.history ≡ grown self.old.history (Refused stamp)
             → Rose (K.append_faults self.old.keeper) (K.append_faults self.new.keeper) }
         ensures settled { (c : TheCommit) → self.new.history ≡ grown self.old.history (Committed c)
-            → LeavesOnly no_base_encoding (K.kept self.old.keeper) (K.image self.new.keeper)
+            → LeavesOnly (K.kept self.old.keeper) (K.image self.new.keeper)
             self.new.history }
         ensures load_count { K.load_faults self.new.keeper ≡ K.load_faults self.old.keeper }
         ensures replace_count { K.replace_faults self.new.keeper
@@ -354,7 +354,7 @@ impl<K: Keeper, R: Rules> Book<K, R> {
         ensures cause { IsFaultCounted result (K.append_faults self.old.keeper)
             (K.append_faults self.new.keeper) }
         ensures settled { (c : TheCommit) → self.new.history ≡ grown self.old.history (Committed c)
-            → LeavesOnly no_base_encoding (K.kept self.old.keeper) (K.image self.new.keeper)
+            → LeavesOnly (K.kept self.old.keeper) (K.image self.new.keeper)
             self.new.history }
         ensures load_count { K.load_faults self.new.keeper ≡ K.load_faults self.old.keeper }
         ensures replace_count { K.replace_faults self.new.keeper

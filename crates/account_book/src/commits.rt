@@ -8,7 +8,7 @@ ghost use Rattle.mail_records.specs.Histories.{Committed, IsSound, blobs_of, con
 ghost use Rattle.mail_records.specs.declared.edits.Commit.{Commit as TheCommit};
 ghost use Rattle.record_codec.specs.Sizes.{edit_bytes};
 ghost use Rattle.account_book.specs.Accounts.{IsBounded};
-ghost use Rattle.account_book.specs.Keeping.{KnowsHistory, LeavesHistory, LeavesOnly, no_base_encoding};
+ghost use Rattle.account_book.specs.Keeping.{KnowsHistory, LeavesHistory, LeavesOnly};
 ghost use Rattle.account_book.specs.Books.{IsEntered, IsFaultCounted};
 ghost use Rattle.account_book.specs.Replies.{IsWithin};
 
@@ -41,15 +41,15 @@ pub(crate) fn keep_commit<K: Keeper, R: Rules>(
     requires sound { IsSound (grown account.old.history (Committed commit)) }
     requires valid { R.is_whole rules.now account.old.history }
     requires keeps { R.is_whole rules.now (grown account.old.history (Committed commit)) }
-    requires content { KnowsHistory no_base_encoding (K.kept keeper.old) account.old.history }
+    requires content { KnowsHistory (K.kept keeper.old) account.old.history }
     ensures entered { IsEntered result account.old.history account.new.history commit }
     ensures valid { R.is_whole rules.now account.new.history }
-    ensures content { KnowsHistory no_base_encoding (K.kept keeper.new) account.new.history }
-    ensures left { LeavesHistory no_base_encoding (R.is_whole rules.now) (K.image keeper.old)
-        account.old.history → LeavesHistory no_base_encoding (R.is_whole rules.now)
+    ensures content { KnowsHistory (K.kept keeper.new) account.new.history }
+    ensures left { LeavesHistory (R.is_whole rules.now) (K.image keeper.old)
+        account.old.history → LeavesHistory (R.is_whole rules.now)
         (K.image keeper.new) account.new.history }
     ensures settled { (c : TheCommit) → account.new.history ≡ grown account.old.history
-        (Committed c) → LeavesOnly no_base_encoding (K.kept keeper.old) (K.image keeper.new)
+        (Committed c) → LeavesOnly (K.kept keeper.old) (K.image keeper.new)
         account.new.history }
     ensures cause { IsFaultCounted result (K.append_faults keeper.old)
         (K.append_faults keeper.new) }

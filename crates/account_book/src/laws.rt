@@ -8,7 +8,7 @@ ghost use Rattle.mail_records.specs.declared.edits.Stamp.{Stamp};
 ghost use Rattle.jm_base.specs.declared.identifiers.Kind.{Kind};
 ghost use Rattle.keep_port.specs.declared.kept.Kept.{Kept};
 ghost use Rattle.account_book.specs.Accounts.{without_refusals};
-ghost use Rattle.account_book.specs.Keeping.{IsOneMore, IsReady, KeepsHistory, no_base_encoding};
+ghost use Rattle.account_book.specs.Keeping.{IsOneMore, IsReady, KeepsHistory};
 ghost use Rattle.account_book.specs.Opening.{IsDamaged, MakesHistory};
 ghost use Rattle.account_book.specs.Replies.{IsReply};
 ghost use Rattle.account_book.specs.declared.faults.Reason.{Reason};
@@ -54,10 +54,10 @@ pub fn history_outlasts_floor()
 /// refusals, which are not kept.
 pub fn kept_accounts_open_again<R: Rules>(rules: &R)
     ensures undamaged { (k : Kept) (h : History) (row : ℕ) (why : Reason)
-        → R.is_whole rules.now h → KeepsHistory no_base_encoding k h
-        ⊎ IsOneMore no_base_encoding (R.is_whole rules.now) k h
+        → R.is_whole rules.now h → KeepsHistory k h
+        ⊎ IsOneMore (R.is_whole rules.now) k h
         → ¬ IsDamaged (R.is_whole rules.now) k row why }
-    ensures same { (k : Kept) (h g : History) → KeepsHistory no_base_encoding k h → MakesHistory k g
+    ensures same { (k : Kept) (h g : History) → KeepsHistory k h → MakesHistory k g
         → g ≡ without_refusals h }
 {
     let _rules = rules;
@@ -68,7 +68,7 @@ pub fn kept_accounts_open_again<R: Rules>(rules: &R)
 /// and a [`keep_port::MemoryKeeper`] that was just made.
 pub fn clean_keepers_are_ready<K: Keeper, R: Rules>(keeper: &K, rules: &R)
     ensures { ((k : Kept) → K.image keeper.now k → K.kept keeper.now ≡ Some k)
-        → IsReady no_base_encoding (R.is_whole rules.now) (K.kept keeper.now)
+        → IsReady (R.is_whole rules.now) (K.kept keeper.now)
         (K.image keeper.now) }
 {
     let _keeper = keeper;

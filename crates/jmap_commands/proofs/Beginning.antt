@@ -3,7 +3,7 @@ use Rattle.std.proofs.Common.{◌≡◌, ◌⊎◌, inl, inr, ℕ, [], Some, Non
 use Rattle.jm_edge.specs.Causes.{Rose}
 use Rattle.keep_port.specs.declared.kept.Kept.{Kept}
 use Rattle.mail_records.specs.Histories.{History, empty_history}
-use Rattle.account_book.specs.Keeping.{IsOneMore, KeepsHistory, no_base_encoding}
+use Rattle.account_book.specs.Keeping.{IsOneMore, KeepsHistory}
 use Rattle.account_book.specs.Opening.{IsDamaged, IsOpened, IsStartFault, MakesHistory, WasLoaded}
 use Rattle.account_book.specs.Replies.{NoneRefused}
 use Rattle.account_book.specs.declared.faults.Reason.{Reason}
@@ -22,7 +22,7 @@ pub none_refused : (h k : History) → NoneRefused h k ⊎ Rose 0 0 → NoneRefu
 none_refused h k (inl none) = none
 none_refused h k (inr r) = absurd (not_risen r)
 
-keeps_nothing : KeepsHistory no_base_encoding nothing empty_history
+keeps_nothing : KeepsHistory nothing empty_history
 keeps_nothing = record { base = refl; rows = tt }
 
 -- what was loaded is what was kept
@@ -38,7 +38,7 @@ begins_empty old new h is o =
     opened_again nothing empty_history h keeps_nothing (subst (λ k. MakesHistory k h) (was_nothing o.content old new is o.loaded) o.makes)
 
 module _ (whole : History → Type 0)
-    (undamaged : (k : Kept) (h : History) (row : ℕ) (why : Reason) → whole h → KeepsHistory no_base_encoding k h ⊎ IsOneMore no_base_encoding whole k h → ¬ IsDamaged whole k row why) (valid : whole empty_history) where
+    (undamaged : (k : Kept) (h : History) (row : ℕ) (why : Reason) → whole h → KeepsHistory k h ⊎ IsOneMore whole k h → ¬ IsDamaged whole k row why) (valid : whole empty_history) where
   pub only_memory : (old new : Kept) (fault : StartFault) → old ≡ nothing → IsStartFault whole (Some old) (Some new) 0 0 fault → fault ≡ NoMemory
   only_memory old new KeeperFault is cause = absurd (not_risen cause)
   only_memory old new (Damaged row why) is cause =

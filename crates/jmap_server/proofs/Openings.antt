@@ -6,7 +6,7 @@ use Rattle.keep_port.specs.Keeping.{content_loaded}
 use Rattle.keep_port.specs.declared.kept.Kept.{Kept}
 use Rattle.mail_records.specs.Histories.{Entry, History, grown_by}
 use Rattle.account_book.specs.Books.{refusals_in}
-use Rattle.account_book.specs.Keeping.{KnowsHistory, no_base_encoding}
+use Rattle.account_book.specs.Keeping.{KnowsHistory}
 use Rattle.account_book.specs.Opening.{IsAsBefore, WasLoaded}
 use Rattle.account_book.specs.Passes.{named_since, numbered_since}
 use Rattle.account_lock.specs.Passes.{split_off}
@@ -125,10 +125,10 @@ joined_openings (r ∷ rs) (k ∷ ks) = ap (λ (hs : List History). r.opening �
 -- ---- accounts that are closed
 
 -- what a book keeps, its keeper keeps
-pub kept_by : {K : Type 0} (kept : K → Option Kept) (append_faults : K → ℕ) (opened history : History) (since : List Entry) (keeper : K) → KnowsHistory no_base_encoding (kept keeper) history → history ≡ grown_by opened since → named_since opened (numbered_since opened since) ≡ since
+pub kept_by : {K : Type 0} (kept : K → Option Kept) (append_faults : K → ℕ) (opened history : History) (since : List Entry) (keeper : K) → KnowsHistory (kept keeper) history → history ≡ grown_by opened since → named_since opened (numbered_since opened since) ≡ since
     → refusals_in since ≤ append_faults keeper → IsKeptBy kept append_faults opened (numbered_since opened since) keeper
 kept_by kept append_faults opened history since keeper knows parts passes refusals = record {
-  keeps = subst (KnowsHistory no_base_encoding (kept keeper)) (parts ∙ ap (grown_by opened) (sym passes)) knows;
+  keeps = subst (KnowsHistory (kept keeper)) (parts ∙ ap (grown_by opened) (sym passes)) knows;
   refusals = subst (λ (es : List Entry). refusals_in es ≤ append_faults keeper) (sym passes) refusals;
 }
 

@@ -3,7 +3,7 @@ use Rattle.std.specs.Prelude.{◌≡◌, ℕ, ◌+◌, ◌≤◌, List, [], ◌�
 use Rattle.keep_port.specs.declared.kept.Kept.{Kept}
 use Rattle.mail_records.specs.Histories.{Entry, History, grown_by}
 use Rattle.account_book.specs.Books.{refusals_in}
-use Rattle.account_book.specs.Keeping.{KnowsHistory, no_base_encoding}
+use Rattle.account_book.specs.Keeping.{KnowsHistory}
 use Rattle.account_book.specs.Opening.{IsAsBefore, IsOpened}
 use Rattle.account_book.specs.Passes.{named_since}
 use Rattle.account_lock.specs.Entries.{StartsWith}
@@ -86,7 +86,7 @@ history_since opening entries = grown_by opening (named_since opening entries)
 -- shows what it keeps. It has refused no fewer commits than those entries have marks of.
 pub record IsKeptBy {K : Type 0} (kept : K → Option Kept) (append_faults : K → ℕ)
     (opening : History) (entries : List Entry) (keeper : K) : Type 0 where
-  pub keeps : KnowsHistory no_base_encoding (kept keeper) (history_since opening entries)
+  pub keeps : KnowsHistory (kept keeper) (history_since opening entries)
   pub refusals : refusals_in (named_since opening entries) ≤ append_faults keeper
 
 -- The accounts from this number on were closed, in their order. The entries of each are those of

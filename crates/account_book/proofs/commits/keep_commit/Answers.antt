@@ -1,18 +1,18 @@
 use Rattle.std.proofs.Common.{sym, ap, ◌∙◌, subst}
 use Rattle.mail_records.specs.Histories.{Committed, Refused, grown}
 use Rattle.record_codec.specs.Offsets.{IsEncodingOf}
-use Rattle.account_book.specs.Keeping.{KnowsHistory, LeavesHistory, no_base_encoding}
+use Rattle.account_book.specs.Keeping.{KnowsHistory, LeavesHistory}
 use Rattle.account_book.proofs.KeptHistories.{knows_refused, knows_same, knows_taken, left_not_taken, left_refused, left_taken, only_taken, whole_refused}
 use Rattle.account_book.proofs.Parts.{not_committed, not_grown}
 use Rattle.account_book.proofs.commits.keep_commit.Goals as goal
 
 pub returns-in_err-reserve-clause-content : goal.returns-in_err-reserve-clause-content
 returns-in_err-reserve-clause-content g c =
-    subst (KnowsHistory no_base_encoding (g.K.Keeper.kept c.args.keeper.now)) (sym c.reserve.ensures.same) c.requires.content
+    subst (KnowsHistory (g.K.Keeper.kept c.args.keeper.now)) (sym c.reserve.ensures.same) c.requires.content
 
 pub returns-in_err-reserve-clause-left : goal.returns-in_err-reserve-clause-left
 returns-in_err-reserve-clause-left g c leaves =
-    subst (LeavesHistory no_base_encoding (g.R.Rules.is_whole c.args.rules.now) (g.K.Keeper.image c.args.keeper.now)) (sym c.reserve.ensures.same) leaves
+    subst (LeavesHistory (g.R.Rules.is_whole c.args.rules.now) (g.K.Keeper.image c.args.keeper.now)) (sym c.reserve.ensures.same) leaves
 
 pub returns-in_err-reserve-clause-settled : goal.returns-in_err-reserve-clause-settled
 returns-in_err-reserve-clause-settled g c commit grows = absurd (not_grown c.args.account.now.history c.reserve.new.self.history (Committed commit) c.reserve.ensures.same grows)

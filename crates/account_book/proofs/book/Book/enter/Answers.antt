@@ -1,7 +1,7 @@
 use Rattle.std.proofs.Common.{◌≡◌, ◌++◌, drop, length, ap, ◌∙◌, subst, arith}
 use Rattle.mail_records.specs.Histories.{Committed, grown}
 use Rattle.mail_records.specs.declared.edits.Commit.{Commit}
-use Rattle.account_book.specs.Keeping.{LeavesOnly, no_base_encoding}
+use Rattle.account_book.specs.Keeping.{LeavesOnly}
 use Rattle.account_book.proofs.Parts.{count_entered, greatest_entered, opened_entered, passes_entered, refusals_entered, rise_entered, since_entered}
 use Rattle.account_book.proofs.book.Book.enter.Goals as goal
 
@@ -37,4 +37,4 @@ pub returns-clause-settled : goal.returns-clause-settled
 returns-clause-settled g c =
     let k = c.keep_commit-kept.new.account.history in
     let image = g.K.Keeper.image c.keep_commit-kept.new.keeper in
-    subst (λ v. (e : Commit) → k ≡ grown v.history (Committed e) → LeavesOnly no_base_encoding (g.K.Keeper.kept v.keeper) image k) c.self.view_is c.keep_commit-kept.ensures.settled
+    subst (λ v. (e : Commit) → k ≡ grown v.history (Committed e) → LeavesOnly (g.K.Keeper.kept v.keeper) image k) c.self.view_is c.keep_commit-kept.ensures.settled

@@ -1,5 +1,4 @@
 use Rattle.std.proofs.Common.{◌≡◌, sym, ◌∙◌, subst}
-use Rattle.account_book.specs.Keeping.{no_base_encoding}
 use Rattle.account_book.specs.Opening.{IsAsBefore, IsLeftBefore, IsOpened, IsReadyLoaded, IsStartFault}
 use Rattle.account_book.proofs.Answering.{IfErr-both, IfErr-weaken, IfOk-both, IfOk-weaken}
 use Rattle.account_book.proofs.Opened.{ready_loaded}
@@ -22,8 +21,8 @@ returns-in-Ok-clause-ready g c =
     let whole = g.R.Rules.is_whole c.args.rules in
     let kept = g.K.Keeper.kept in
     let image = g.K.Keeper.image in
-    IfOk-weaken c.over.result _ (λ b. IsReadyLoaded no_base_encoding whole (kept c.args.keeper) (image c.args.keeper) (kept b.keeper) (image b.keeper))
-    (λ b same. subst (λ z. IsReadyLoaded no_base_encoding whole (kept c.args.keeper) (image c.args.keeper) (kept z) (image z)) (sym same)
+    IfOk-weaken c.over.result _ (λ b. IsReadyLoaded whole (kept c.args.keeper) (image c.args.keeper) (kept b.keeper) (image b.keeper))
+    (λ b same. subst (λ z. IsReadyLoaded whole (kept c.args.keeper) (image c.args.keeper) (kept z) (image z)) (sym same)
     (ready_loaded whole (kept c.args.keeper) (kept c.load.new.self) (image c.args.keeper) (image c.load.new.self) c.in-Ok.content c.in-Ok.ensures.kept c.load.ensures.image))
     c.over.ensures.keeper
 
