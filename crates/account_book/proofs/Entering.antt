@@ -2,6 +2,8 @@
 use Rattle.std.proofs.Common.{◌≡◌, ◌↔◌, ℕ, Bool, IsTrue, ◌+◌, List, [], ◌∷◌, ◌++◌, map, ◌≤◌, take, drop, length, refl, sym, ap, ap₂, ◌∙◌, subst, append_assoc, arith}
 use Rattle.std.proofs.Math.Seq.{take-append_seam, drop-append_seam}
 use Rattle.std.proofs.lemmas.List.{append-nil, drop-append-le, map-append, take-append-le}
+use Rattle.std.specs.List.{AllByRecursion}
+use Rattle.mail_records.specs.Commits.{IsFormed, IsFormedEdit}
 use Rattle.mail_records.specs.Contents.{Content}
 use Rattle.mail_records.specs.Edits.{after_edits, AllFit, AllKeepThread}
 use Rattle.mail_records.specs.Histories.{History, Entry, Committed, Refused, IsSound, edits_of, content_of, blobs_in, blobs_of, grown}
@@ -9,6 +11,7 @@ use Rattle.mail_records.specs.declared.edits.Edit.{Edit}
 use Rattle.mail_records.specs.declared.edits.Commit.{Commit}
 use Rattle.mail_records.specs.declared.edits.Stamp.{Stamp}
 use Rattle.mail_records.proofs.Growth.{AllFit-append, AllKeepThread-append, AllKeepThread-sound}
+use Rattle.mail_records.proofs.NumbersNamed.{IsFormedHistory-grown_by}
 use Rattle.mail_records.proofs.Prefixes.{IsFounded-grown_by, edits_of-grown, content_of-grown, blobs_of-grown, edits_of-refused, content_of-refused, blobs_of-refused}
 use Rattle.mail_records.proofs.Reached.{length_take}
 use Rattle.record_codec.specs.Sizes.{capped, edit_bytes}
@@ -61,15 +64,16 @@ history_of-commit log log' base content entries entries' blobs blobs' n bytes t 
 
 -- and all that is kept besides is of it
 pub IsAccountOf-commit : (h : History) (content content' : Content) (log log' : Notes) (entries entries' : List KeptEntry) (blobs blobs' : List (List ℕ)) (n bytes bytes' : ℕ) (t t' : Bool) (commit : Commit)
-    → IsAccountOf h content log entries blobs n bytes t → AllFit (content_of h) commit.edits
+    → IsAccountOf h content log entries blobs n bytes t → IsFormed commit → AllFit (content_of h) commit.edits
     → content' ≡ after_edits content commit.edits → log' ≡ noted log commit.edits log'.spare
     → entries' ≡ entries ++ kept_entry (Committed commit) ∷ [] → blobs' ≡ blobs ++ commit.blobs → AreBlobsFew (blobs_of h ++ commit.blobs) → bytes' ≡ capped (edit_bytes (edits_of h) + edit_bytes commit.edits)
     → (IsTrue t' ↔ AllKeepThread h.base (edits_of h ++ commit.edits))
     → IsAccountOf (grown h (Committed commit)) content' log' entries' blobs' n bytes' t'
-IsAccountOf-commit h content content' log log' entries entries' blobs blobs' n bytes bytes' t t' commit s fit is_content is_log are_entries are_blobs few are_bytes keeps =
+IsAccountOf-commit h content content' log log' entries entries' blobs blobs' n bytes bytes' t t' commit s formed fit is_content is_log are_entries are_blobs few are_bytes keeps =
     let all = edits_of-grown h (Committed commit) in
     record {
       founded = IsFounded-grown_by h (Committed commit ∷ []) s.founded;
+      formed = IsFormedHistory-grown_by h (Committed commit ∷ []) s.formed (subst (AllByRecursion IsFormedEdit) (sym (append-nil commit.edits)) formed);
       fits = subst (AllFit h.base) (sym all) (AllFit-append (edits_of h) commit.edits h.base s.fits fit);
       content_is = is_content ∙ ap (λ c. after_edits c commit.edits) s.content_is ∙ sym (content_of-grown h (Committed commit));
       log_is = IsLogOf-committed h log log' commit s.log_is is_log;
@@ -132,6 +136,7 @@ IsAccountOf-refused h content log entries entries' blobs n bytes t s st are_entr
     let all = edits_of-refused h s in
     record {
       founded = IsFounded-grown_by h (Refused s ∷ []) st.founded;
+      formed = IsFormedHistory-grown_by h (Refused s ∷ []) st.formed tt;
       fits = subst (AllFit h.base) (sym all) st.fits;
       content_is = st.content_is ∙ sym (content_of-refused h s);
       log_is = IsLogOf-refused h log s st.log_is;
@@ -147,16 +152,16 @@ IsAccountOf-refused h content log entries entries' blobs n bytes t s st are_entr
 
 pub IsAccountOf-entered : (log log' : Notes) (base content content' : Content) (entries entries' : List KeptEntry) (blobs blobs' : List (List ℕ)) (n bytes bytes' : ℕ) (t u r : Bool) (commit : Commit)
     → IsAccountOf (history_of log base n entries blobs) content log entries blobs n bytes t
-    → AllFit content commit.edits → content' ≡ after_edits content commit.edits → (IsTrue u ↔ AllKeepThread content commit.edits)
+    → IsFormed commit → AllFit content commit.edits → content' ≡ after_edits content commit.edits → (IsTrue u ↔ AllKeepThread content commit.edits)
     → blobs' ≡ blobs ++ commit.blobs → AreBlobsFew (blobs ++ commit.blobs)
     → log' ≡ noted log commit.edits log'.spare → entries' ≡ entries ++ kept_entry (Committed commit) ∷ []
     → bytes' ≡ capped (bytes + capped (edit_bytes commit.edits)) → (IsTrue r ↔ (IsTrue t × IsTrue u))
     → IsAccountOf (history_of log' base n entries' blobs') content' log' entries' blobs' n bytes' r
-IsAccountOf-entered log log' base content content' entries entries' blobs blobs' n bytes bytes' t u r commit s fit is_content keeps are_blobs few is_log are_entries are_bytes both =
+IsAccountOf-entered log log' base content content' entries entries' blobs blobs' n bytes bytes' t u r commit s formed fit is_content keeps are_blobs few is_log are_entries are_bytes both =
     let h = history_of log base n entries blobs in
     let grows = history_of-commit log log' base content entries entries' blobs blobs' n bytes t commit s is_log are_entries are_blobs in
     subst (λ k. IsAccountOf k content' log' entries' blobs' n bytes' r) (sym grows)
-    (IsAccountOf-commit h content content' log log' entries entries' blobs blobs' n bytes bytes' t r commit s
+    (IsAccountOf-commit h content content' log log' entries entries' blobs blobs' n bytes bytes' t r commit s formed
     (subst (λ c. AllFit c commit.edits) s.content_is fit)
     is_content is_log are_entries are_blobs
     (subst (λ bs. AreBlobsFew (bs ++ commit.blobs)) s.blobs_are few)

@@ -2,7 +2,7 @@
 use Rattle.std.specs.Prelude.{◌≡◌, ◌↔◌, ℕ, ◌≤◌, Bool, IsTrue, true, false, not, if◌then◌else◌, List, [], ◌∷◌, take, drop, filter, length, map}
 use Rattle.mail_records.specs.Contents.{Content, NextAtMost}
 use Rattle.mail_records.specs.Edits.{AllFit, AllKeepThread}
-use Rattle.mail_records.specs.Histories.{History, Entry, Committed, Refused, IsFounded, is_refused, edits_of, content_of, blobs_of, end_of, max_position}
+use Rattle.mail_records.specs.Histories.{History, Entry, Committed, Refused, IsFormedHistory, IsFounded, is_refused, edits_of, content_of, blobs_of, end_of, max_position}
 use Rattle.blob_store.specs.Blobs.{AreBlobsFew}
 use Rattle.state_log.specs.Logs.{Notes, IsLogOf}
 use Rattle.record_codec.specs.Sizes.{capped, edit_bytes}
@@ -44,11 +44,12 @@ history_of log base base_blobs entries blobs = record {
 }
 
 -- Content, log, entries, blobs, the count of the base's blobs, the count of the bytes of edits and
--- the flag that threads are kept are those of the history. The history is founded, its edits fit
--- one after the other, and its blobs are within the limits.
+-- the flag that threads are kept are those of the history. The history is founded and formed, its
+-- edits fit one after the other, and its blobs are within the limits.
 pub record IsAccountOf (h : History) (content : Content) (log : Notes) (entries : List KeptEntry)
     (blobs : List (List ℕ)) (base_blobs bytes : ℕ) (keeps_threads : Bool) : Type 0 where
   pub founded : IsFounded h
+  pub formed : IsFormedHistory h
   pub fits : AllFit h.base (edits_of h)
   pub content_is : content ≡ content_of h
   pub log_is : IsLogOf h log

@@ -1,9 +1,10 @@
 // An account: what it began with, its entries, and what they make of it.
 ghost use Rattle.std.specs.Prelude.{◌≡◌, ◌↔◌, ◌+◌, ◌-◌, ◌^◌, ◌≤◌, ◌++◌, IfOk, IsTrue, OnOk, MatchOption, length, map, ⊤};
 ghost use Rattle.std.specs.List.{AllByRecursion};
+ghost use Rattle.mail_records.specs.Commits.{IsFormed};
 ghost use Rattle.mail_records.specs.Contents.{AreNumbered, AreTables, NextAtMost};
 ghost use Rattle.mail_records.specs.Edits.{AllFit, IsSmall, email_puts};
-ghost use Rattle.mail_records.specs.Histories.{Committed, IsFounded, IsSound, Refused, blobs_of, content_of, edits_of, empty_history, end_of, grown};
+ghost use Rattle.mail_records.specs.Histories.{Committed, IsFormedHistory, IsFounded, IsSound, Refused, blobs_of, content_of, edits_of, empty_history, end_of, grown};
 ghost use Rattle.blob_store.specs.Blobs.{AreBlobsFew};
 ghost use Rattle.state_log.specs.Logs.{IsLogOf};
 ghost use Rattle.record_codec.specs.Sizes.{edit_bytes};
@@ -89,6 +90,14 @@ impl Account {
     /// Does nothing. Its clause says that the edits of its history fit one after the other.
     pub fn has_fitting_edits(&self)
         ensures { AllFit self.now.history.base (edits_of self.now.history) }
+    {
+        let _log = &self.log;
+    }
+
+    /// Does nothing. Its clause says that the emails of its base are formed, and so is each email
+    /// that an edit puts. So its base and its commits can be encoded.
+    pub fn is_formed(&self)
+        ensures { IsFormedHistory self.now.history }
     {
         let _log = &self.log;
     }
@@ -207,6 +216,7 @@ impl Account {
         requires sound { IsSound (grown self.old.history (Committed commit)) }
         requires copy { copy ≡ commit.edits }
         requires fits { AllFit (content_of self.old.history) commit.edits }
+        requires formed { IsFormed commit }
         requires small { AllByRecursion IsSmall commit.edits }
         requires bounded { IsBounded self.old.history }
         requires within { IsWithin edit_bytes self.old.history commit.edits }
@@ -252,6 +262,7 @@ impl Account {
         alloc: Global,
         commit: Commit,
     ) -> Result<Option<Loading>, NoMemory>
+        requires { IsFormed commit }
         ensures { IfOk result (IsTaken self.history commit) }
     {
         let Account {

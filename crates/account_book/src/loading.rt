@@ -1,5 +1,6 @@
 // Rows of a keeper, which are read one after the other.
 ghost use Rattle.std.specs.Prelude.{◌≡◌, Err, IfOk, IfErr, Some};
+ghost use Rattle.mail_records.specs.Commits.{IsFormed};
 ghost use Rattle.mail_records.specs.Histories.{History};
 ghost use Rattle.account_book.specs.Opening.{AreLoaded, IsCommitRefused, IsLoadFault, IsLoading, IsRowRefused, IsTaken, TakesRow};
 
@@ -40,6 +41,7 @@ fn apply_commit(
 #[tactic(auto, using(crate::proofs::Taking::taken_at))]
 // Takes a commit, or answers None where its edits don't fit.
 fn load_commit(alloc: Global, loading: Loading, commit: Commit) -> Result<Option<Loading>, NoMemory>
+    requires { IsFormed commit }
     ensures { IfOk result (λ o. (h : History) → IsLoading loading h → IsTaken h commit o) }
 {
     match loading {
@@ -55,6 +57,7 @@ fn take_commit(
     commit: Commit,
     row: u64,
 ) -> Result<Loading, StartFault>
+    requires { IsFormed commit }
     ensures ok { IfOk result (λ l. (h : History) → IsLoading loading h
         → IsTaken h commit (Some l)) }
     ensures err { IfErr result (λ e. (h : History) → IsLoading loading h

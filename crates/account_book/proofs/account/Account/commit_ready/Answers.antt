@@ -39,4 +39,4 @@ invariant_of-self c =
     let grows = history_of-commit inside.log c.note_all_ready.new.log inside.base.content inside.content.content inside.entries.items c.push_reserved.new.self.items inside.blobs.blobs c.push_all_ready.new.blobs.blobs inside.base_blobs inside.edit_bytes inside.keeps_threads commit c.self.invariant log entries blobs in
     subst (λ h. IsAccountOf h c.apply_all_ready.new.content.content c.note_all_ready.new.log c.push_reserved.new.self.items c.push_all_ready.new.blobs.blobs inside.base_blobs c.args.bytes inside.keeps_threads) (sym grows)
     (IsAccountOf-commit (history_of inside.log inside.base.content inside.base_blobs inside.entries.items inside.blobs.blobs) inside.content.content c.apply_all_ready.new.content.content inside.log c.note_all_ready.new.log inside.entries.items c.push_reserved.new.self.items inside.blobs.blobs c.push_all_ready.new.blobs.blobs inside.base_blobs inside.edit_bytes c.args.bytes inside.keeps_threads inside.keeps_threads commit
-    c.self.invariant fits content log entries blobs few (capped_within _ _ low bytes) threads)
+    c.self.invariant c.requires.formed fits content log entries blobs few (capped_within _ _ low bytes) threads)

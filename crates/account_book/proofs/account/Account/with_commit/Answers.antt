@@ -35,7 +35,7 @@ build_account-account-requires c =
     let g = grown_as inside.content.content c.end-end.result commit.edits c.as_slice.result.now inside.blobs.blobs commit.blobs c.in-Ok.grown (Fitting c.in-Fitting.applied c.in-Fitting.blobs) c.in-Ok.ensures c.in-Fitting.is c.as_slice.ensures in
     let entries : c.in_ok-noted-in-Fitting.noted.entries.items ≡ inside.entries.items ++ kept_entry (Committed commit) ∷ [] = search rules in
     IsAccountOf-entered inside.log c.in_ok-noted-in-Fitting.noted.log inside.base.content inside.content.content c.in-Fitting.applied.content.content inside.entries.items c.in_ok-noted-in-Fitting.noted.entries.items inside.blobs.blobs c.in-Fitting.blobs.blobs inside.base_blobs inside.edit_bytes c.in_ok-noted-in-Fitting.noted.bytes
-    inside.keeps_threads c.in-Fitting.applied.keeps_threads c.are_both-threads.result commit c.self.invariant g.0 g.1 g.2 g.3 g.4 c.in_ok-noted-in-Fitting.ensures.log entries c.in_ok-noted-in-Fitting.ensures.bytes c.are_both-threads.ensures
+    inside.keeps_threads c.in-Fitting.applied.keeps_threads c.are_both-threads.result commit c.self.invariant c.requires g.0 g.1 g.2 g.3 g.4 c.in_ok-noted-in-Fitting.ensures.log entries c.in_ok-noted-in-Fitting.ensures.bytes c.are_both-threads.ensures
 
 pub returns-in_ok-noted-in-Fitting : goal.returns-in_ok-noted-in-Fitting
 returns-in_ok-noted-in-Fitting c =
