@@ -12,3 +12,4 @@ pub mod Parts
 pub mod Passing
 pub mod Ready
 pub mod Reopening
+pub mod Running

@@ -1,5 +1,6 @@
 pub mod Views
 pub mod Replies
+pub mod Runs
 pub mod Plans
 pub mod Accounts
 pub mod Keeping

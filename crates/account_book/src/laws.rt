@@ -1,6 +1,7 @@
 // What holds of every account, whatever its rules.
-ghost use Rattle.std.specs.Prelude.{◌≡◌, ◌≤◌, ◌^◌, ◌⊎◌, ℕ, List, Some, length};
-ghost use Rattle.mail_records.specs.Histories.{History, Entry, IsFounded, IsSound, blobs_of, content_at, content_of, end_after, end_of, grown_by, max_floor};
+ghost use Rattle.std.specs.Prelude.{◌≡◌, ◌<◌, ◌≤◌, ◌^◌, ◌⊎◌, ℕ, List, Some, length};
+ghost use Rattle.std.specs.List.{AllByRecursion};
+ghost use Rattle.mail_records.specs.Histories.{History, Entry, IsFounded, IsSound, account_after, blobs_of, content_at, content_of, end_after, end_of, grown_by, max_floor};
 ghost use Rattle.mail_records.specs.FloorMoves.{moved_up};
 ghost use Rattle.mail_records.specs.States.{state_at, state_of};
 ghost use Rattle.mail_records.specs.declared.edits.Edit.{Edit};
@@ -11,6 +12,8 @@ ghost use Rattle.account_book.specs.Accounts.{without_refusals};
 ghost use Rattle.account_book.specs.Keeping.{IsOneMore, IsReady, KeepsHistory};
 ghost use Rattle.account_book.specs.Opening.{IsDamaged, MakesHistory};
 ghost use Rattle.account_book.specs.Replies.{IsReply};
+ghost use Rattle.account_book.specs.Runs.{AreKeptValid, Event, IsEntryOfReply, IsTimely, after_event};
+ghost use Rattle.record_codec.specs.Sizes.{edit_bytes};
 ghost use Rattle.account_book.specs.declared.faults.Reason.{Reason};
 ghost use Rattle.account_book.specs.declared.asks.Call.{Call};
 ghost use Rattle.account_book.specs.declared.plans.Out.{Out};
@@ -29,6 +32,33 @@ pub fn reply_lasts()
         → IsReply plan bytes h point call stamp out
         → IsReply plan bytes (grown_by h more) point call stamp out }
 {}
+
+/// From valid accounts, whatever events are performed on them, one after the other, and whichever
+/// commits the keepers refuse: each history stays sound and each account is valid at the end of
+/// each entry, each answer is the written reply at its point of the history that its account has in
+/// the end, and the state of a kind changes exactly with an edit of the kind. An event changes no
+/// account but its own.
+pub fn events_keep_accounts_valid<R: Rules>(rules: &R)
+    ensures kept { (accounts : ℕ → History) (events : List Event)
+        → ((account : ℕ) → R.is_whole rules.now (accounts account))
+        → AllByRecursion IsTimely events → AreKeptValid (R.plan_of rules.now) edit_bytes
+        (R.is_whole rules.now) accounts events }
+    ensures others { (accounts : ℕ → History) (e : Event) (account : ℕ) → ¬ (account ≡ e.account)
+        → after_event (R.plan_of rules.now) edit_bytes accounts e account ≡ accounts account }
+{
+    let _rules = rules;
+}
+
+/// An account that was valid after its first entries is valid after each later one, if each later
+/// entry comes of a call that was answered with the written reply.
+pub fn replies_keep_accounts_valid<R: Rules>(rules: &R)
+    ensures { (h : History) (first : ℕ) → R.is_whole rules.now (account_after h first)
+        → ((index : ℕ) → first ≤ index → index < length h.entries
+        → IsEntryOfReply (R.plan_of rules.now) edit_bytes h index)
+        → (count : ℕ) → first ≤ count → R.is_whole rules.now (account_after h count) }
+{
+    let _rules = rules;
+}
 
 /// A history whose floor moves up to the end of its first `c` entries keeps its content, blobs and
 /// last position, and, from the new floor on, the content and the states at each position. If it
