@@ -10,3 +10,4 @@ pub mod HeadStays
 pub mod BodyStays
 pub mod SizedBody
 pub mod HeadSizes
+pub mod Dropped

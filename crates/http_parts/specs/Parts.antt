@@ -71,6 +71,11 @@ Moves size body_old body_new old new taken =
     (size ≤ length (old ++ taken))
     × (body_new ≡ body_old ++ take size (old ++ taken)) × (new ≡ drop size (old ++ taken))
 
+-- So many bytes were passed: of the unread ones, and of those that the link gave.
+abbrev pub Passes : ℕ → List ℕ → List ℕ → List ℕ → Type 0
+Passes size old new taken =
+    (size ≤ length (old ++ taken)) × (new ≡ drop size (old ++ taken))
+
 -- why no part of a body was read, from why nothing more of the link was
 abbrev pub body_fault_of : WireFault → BodyFault
 body_fault_of LinkFault = ReadFault

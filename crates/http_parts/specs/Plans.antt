@@ -1,5 +1,5 @@
 -- What contracts see of how a body is read.
-use Rattle.std.specs.Prelude.{◌≡◌, ⊤, ℕ, ◌≤◌, ◌-◌, ◌^◌, List}
+use Rattle.std.specs.Prelude.{◌≡◌, ⊤, ℕ, ◌≤◌, ◌-◌, ◌^◌, Bool, List, [], if◌then◌else◌}
 use Rattle.http_parts.specs.Bodies.{Body, BodyInvalid, BodyTooLong, sized_body}
 use Rattle.http_parts.specs.Chunks.{chunked_body}
 use Rattle.http_parts.specs.declared.bodies.BodyPlan.{BodyPlan}
@@ -18,3 +18,7 @@ IsWithinLimit limit NoPlan = ⊤
 IsWithinLimit limit IsOver = ⊤
 IsWithinLimit limit (OfSize size) = size ≤ limit
 IsWithinLimit limit InChunks = ⊤
+
+-- the bytes of a body that are kept: all of them, or none
+abbrev pub kept_bytes : Bool → List ℕ → List ℕ
+kept_bytes keep body = if keep then body else []

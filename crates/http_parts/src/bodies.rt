@@ -1,5 +1,5 @@
 // Reading the body of a message.
-ghost use Rattle.std.specs.Prelude.{◌≡◌, ◌<◌, ◌≤◌, ◌++◌, length, IfOk, IfErr, ℕ};
+ghost use Rattle.std.specs.Prelude.{◌≡◌, ◌<◌, ◌≤◌, ◌++◌, length, IfOk, IfErr, OnOk, List, ℕ};
 ghost use Rattle.http_parts.specs.Bodies.{BodyInvalid, BodyTooLong, BodyUnfinished, Whole};
 ghost use Rattle.http_parts.specs.Plans.{IsWithinLimit, planned};
 ghost use Rattle.http_parts.specs.Parts.{Took, Halts, IsCountBelow};
@@ -7,6 +7,8 @@ ghost use Rattle.http_parts.specs.declared.limits.TheConstants.{BODY_BYTES_LIMIT
 
 use crate::body_fault::BodyFault;
 use crate::chunks::read_chunked;
+use crate::dropped_bodies::drop_sized;
+use crate::dropped_chunks::drop_chunked;
 use crate::sized_bodies::read_sized;
 use crate::unread::Unread;
 use jm_edge::Link;
@@ -72,5 +74,39 @@ pub fn read_body<L: Link>(
     match read_sized(link, &mut body, bytes, size) {
         Ok(()) => Ok(body),
         Err(fault) => Err(fault),
+    }
+}
+
+/// Reads a body as [`read_body`] does, and drops its bytes as they come: no memory holds them.
+///
+/// Fails as [`read_body`] does.
+#[tactic(auto, using(crate::proofs::Dropped::sized_dropped, crate::proofs::SizedBody::sized_cut))]
+pub fn drop_body<L: Link>(
+    link: &mut L,
+    room: &mut [u8],
+    plan: BodyPlan,
+    limit: usize,
+    bytes: &mut Unread,
+) -> Result<(), BodyFault>
+    requires room { 0 < length room.old }
+    requires small { limit < BODY_BYTES_LIMIT }
+    requires within { IsWithinLimit limit plan }
+    ensures ok { OnOk result (Took (L.left link.old) (L.left link.new)
+        (λ t. (body : List ℕ) × (planned limit plan (bytes.old ++ t) ≡ Whole body bytes.new))) }
+    ensures err { IfErr result (λ e. Took (L.left link.old) (L.left link.new) (λ t. Halts e
+        (planned limit plan (bytes.old ++ t) ≡ BodyInvalid) (planned limit plan (bytes.old ++ t) ≡
+        BodyTooLong) (planned limit plan (bytes.old ++ t) ≡ BodyUnfinished) (length (bytes.old ++
+        t)) (L.left link.new) (L.read_faults link.old) (L.read_faults link.new))) }
+    ensures below { IfErr result (IsCountBelow SEEN_BYTES_LIMIT) }
+    ensures room { length room.new ≡ length room.old }
+    ensures later { L.read_faults link.old ≤ L.read_faults link.new }
+    ensures held { L.held link.new ≡ L.held link.old }
+    ensures put_faults { L.put_faults link.new ≡ L.put_faults link.old }
+{
+    match plan {
+        BodyPlan::Invalid => Err(BodyFault::Invalid),
+        BodyPlan::TooLong => Err(BodyFault::TooLong),
+        BodyPlan::Chunked => drop_chunked(link, room, limit, bytes),
+        BodyPlan::Sized(size) => drop_sized(link, room, bytes, size),
     }
 }

@@ -10,6 +10,8 @@ mod body_fault;
 mod chunk_ends;
 mod chunk_lines;
 mod chunks;
+mod dropped_bodies;
+mod dropped_chunks;
 mod fault;
 mod heads;
 mod laws;
@@ -19,7 +21,7 @@ mod pieces;
 mod sized_bodies;
 mod unread;
 
-pub use bodies::{BodyPlan, read_body};
+pub use bodies::{BodyPlan, drop_body, read_body};
 pub use body_fault::BodyFault;
 pub use chunk_lines::read_digit;
 pub use fault::WireFault;
