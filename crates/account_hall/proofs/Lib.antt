@@ -15,3 +15,8 @@ pub mod Grips
 pub mod Nested
 pub mod Releases
 pub mod Sending
+pub mod Numbers
+pub mod Closing
+pub mod Standing
+pub mod Gaps
+pub mod Growing

@@ -26,7 +26,7 @@ both_true true true is = (refl, refl)
 both_true true false is = absurd (cc is)
 both_true false b is = absurd (cc is)
 
-entered_is : (account : ℕ) (p : Point) → is_entered account p ≡ true → (p.account ≡ account) × (p.after ≡ p.before + 1)
+pub entered_is : (account : ℕ) (p : Point) → is_entered account p ≡ true → (p.account ≡ account) × (p.after ≡ p.before + 1)
 entered_is account p is = let b = both_true _ _ is in (eqb-true p.account account b.0, eqb-true p.after (p.before + 1) b.1)
 
 entered_not : (account : ℕ) (p : Point) → p.account ≢ account → is_entered account p ≡ false
@@ -118,7 +118,7 @@ in_order_other account k trail p apart o =
 pub more_seen : (opened : History) (seen log : List Entry) → StartsWith log seen → count_with opened seen ≤ count_with opened log
 more_seen opened seen log s = let l = ap length s.1 ∙ length-append seen s.0 in omega (arith, l)
 
-within_more : (account : ℕ) (k k' : PassFacts) (ps : List Point) → k'.opening ≡ k.opening → StartsWith k'.seen k.seen → AllByRecursion (IsWithinSeen account k) ps → AllByRecursion (IsWithinSeen account k') ps
+pub within_more : (account : ℕ) (k k' : PassFacts) (ps : List Point) → k'.opening ≡ k.opening → StartsWith k'.seen k.seen → AllByRecursion (IsWithinSeen account k) ps → AllByRecursion (IsWithinSeen account k') ps
 within_more account k k' ps same starts all =
     let far = more_seen k.opening k.seen k'.seen starts in
     let count : seen_count k ≤ seen_count k' = subst (λ o. count_with k.opening k.seen ≤ count_with o k'.seen) (sym same) far in
@@ -126,7 +126,7 @@ within_more account k k' ps same starts all =
     all_map (IsWithinSeen account k) (IsWithinSeen account k') ps (λ p w here. let x = w here in (omega (arith, base, x.0), x.1, omega (arith, count, x.2))) all
 
 -- what was its own stays so, if it has seen more
-own_more : (account : ℕ) (k k' : PassFacts) (trail : List Point) → k'.opening ≡ k.opening → StartsWith k'.seen k.seen → IsInOrder account k trail → k.own ≡ entries_at account (length k'.opening.entries) k'.seen trail
+pub own_more : (account : ℕ) (k k' : PassFacts) (trail : List Point) → k'.opening ≡ k.opening → StartsWith k'.seen k.seen → IsInOrder account k trail → k.own ≡ entries_at account (length k'.opening.entries) k'.seen trail
 own_more account k k' trail same starts o =
     let base = length k.opening.entries in
     o.own

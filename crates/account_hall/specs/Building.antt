@@ -1,8 +1,9 @@
 -- How a hall is built of accounts, and what an account is that it gives back.
 use Rattle.std.specs.Prelude.{◌≡◌, ℕ, List, [], ◌∷◌, ◌++◌, ⊤}
+use Rattle.mail_records.specs.Histories.{Entry}
 use Rattle.account_book.specs.Books.{BookView}
 use Rattle.account_lock.specs.Entries.{StartsWith}
-use Rattle.account_lock.specs.Passes.{HasEndedAll, HasNoOthers, KeepsEnded, root_of}
+use Rattle.account_lock.specs.Passes.{HasEndedAll, HasNoOthers, IsLast, KeepsEnded, root_of}
 use Rattle.account_lock.specs.Views.{LockFacts, PassFacts}
 use Rattle.account_hall.specs.Halls.{RoomFacts, RoomView, entries_of}
 use Rattle.account_hall.specs.declared.named_account.Named.{Named}
@@ -26,14 +27,21 @@ AreBuilt (a ∷ accounts) (r ∷ rs) (k ∷ ks) =
     (r.name ≡ a.name) × (k ≡ root_of r.lock a.book.before a.book.opened) × AreBuilt accounts rs ks
 AreBuilt _ _ _ = ⊥
 
--- What an account is that was guarded by a lock with this root. Its entries begin with what the
--- root had seen. Under the name of each session that left they are those that the session had then,
--- and each of them is of such a session. What the account had opened with is as before.
-pub record IsClosed {K R : Type 0} (root : PassFacts) (book : BookView K R) : Type 0 where
-  pub seen : StartsWith (entries_of book) root.seen
-  pub ended : KeepsEnded root (entries_of book)
+-- What the entries of an account are that was guarded by a lock with this root. They begin with
+-- what the root had seen. Each name that the root gave is that of one session, which left. Under
+-- the name of each session they are those that the session had then, and each of them is of such a
+-- session.
+pub record AreClosedBy (root : PassFacts) (entries : List Entry) : Type 0 where
+  pub seen : StartsWith entries root.seen
+  pub ended : KeepsEnded root entries
   pub all : HasEndedAll root
-  pub names : HasNoOthers root (entries_of book)
+  pub last : IsLast root
+  pub names : HasNoOthers root entries
+
+-- What an account is that was guarded by a lock with this root. What it had opened with is as
+-- before.
+pub record IsClosed {K R : Type 0} (root : PassFacts) (book : BookView K R) : Type 0 where
+  pub entries_are : AreClosedBy root (entries_of book)
   pub before : book.before ≡ root.before
   pub opening : book.opened ≡ root.opening
 

@@ -5,3 +5,5 @@ pub mod Halls
 pub mod Building
 pub mod Copies
 pub mod HeldAccounts
+pub mod Growing
+pub mod Closing

@@ -14,6 +14,7 @@ mod copying;
 mod front;
 mod hall;
 mod held_accounts;
+mod laws;
 mod named_account;
 mod passes;
 mod taking;
@@ -22,5 +23,9 @@ pub use build::build_hall;
 pub use copies::{CopyCall, Originals};
 pub use front::{AdmitFault, Front};
 pub use hall::Hall;
+pub use laws::{
+    answers_stand_in_closed_accounts, calls_let_sessions_grow,
+    closed_accounts_have_entries_of_sessions, lone_sessions_leave_no_gap,
+};
 pub use named_account::Named;
 pub use passes::{Passes, Trail};

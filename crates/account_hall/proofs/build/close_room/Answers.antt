@@ -6,10 +6,13 @@ pub returns-clause-closed : goal.returns-clause-closed
 returns-clause-closed g c =
     subst (IsClosed c.args.root) (sym c.into_inner.ensures)
     (record {
-      seen = c.close-book.ensures.seen;
-      ended = c.close-book.ensures.ended;
-      all = c.close-book.ensures.all;
-      names = c.close-book.ensures.names;
+      entries_are = record {
+        seen = c.close-book.ensures.seen;
+        ended = c.close-book.ensures.ended;
+        all = c.close-book.ensures.all;
+        last = c.requires.last.1;
+        names = c.close-book.ensures.names;
+      };
       before = c.close-book.ensures.before;
       opening = c.close-book.ensures.opening;
     })
