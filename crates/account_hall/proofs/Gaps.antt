@@ -1,5 +1,5 @@
 -- The points of a session that was alone leave no gap: for its entries are all that the account gained, each point gained one at most, and a point begins at or after the end of the one before.
-use Rattle.std.proofs.Common.{◌≡◌, ◌≢◌, ℕ, zero, suc, ◌+◌, ◌-◌, ◌≤◌, eqb, eq-eqb, Bool, true, false, cond, ◌&&◌, if◌then◌else◌, List, [], ◌∷◌, ◌++◌, take, drop, length, Some, slice_get, refl, sym, ap, ◌∙◌, subst, arith, length-append}
+use Rattle.std.proofs.Common.{◌≡◌, ◌≢◌, ℕ, ◌+◌, ◌-◌, ◌≤◌, eqb, eq-eqb, Bool, true, false, cond, ◌&&◌, if◌then◌else◌, List, [], ◌∷◌, take, drop, length, Some, slice_get, refl, sym, ap, ◌∙◌, subst, arith, length-append}
 use Rattle.std.specs.List.{AllByRecursion}
 use Rattle.std.proofs.lemmas.Bool.{eqb-true, true≢false}
 use Rattle.mail_records.specs.Histories.{Entry, History, entry_pass}

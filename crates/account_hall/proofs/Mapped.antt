@@ -1,5 +1,5 @@
 -- A copy over states is one over what these states show.
-use Rattle.std.proofs.Common.{◌≡◌, ◌⊎◌, inl, inr, ⊎_elim, ℕ, Bool, true, false, cond, List, [], ◌∷◌, ◌++◌, Option, Some, None, Result, Ok, Err, refl, sym, ap, subst}
+use Rattle.std.proofs.Common.{◌≡◌, inl, inr, Bool, true, false, cond, List, Option, Some, None, Result, Ok, Err, sym, ap, subst}
 use Rattle.jm_json.specs.Call.{Call as Invocation}
 use Rattle.jm_json.specs.declared.invocation.Invocation.{Invocation as TheInvocation}
 use Rattle.jm_json.specs.declared.invocation.Created.{Created}

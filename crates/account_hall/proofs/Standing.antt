@@ -1,5 +1,5 @@
 -- What a session was answered is so over the history of the account as it was taken out.
-use Rattle.std.proofs.Common.{◌≡◌, ◌⊎◌, ⊎_elim, ℕ, zero, suc, ◌+◌, ◌≤◌, List, [], ◌∷◌, ◌++◌, map, length, Some, slice_get, refl, sym, ap, ap₂, ◌∙◌, subst, append_assoc, arith, length-append}
+use Rattle.std.proofs.Common.{◌≡◌, ◌⊎◌, ⊎_elim, ℕ, zero, suc, ◌+◌, ◌≤◌, List, [], ◌∷◌, ◌++◌, length, Some, slice_get, refl, sym, ap, ◌∙◌, subst, append_assoc, arith, length-append}
 use Rattle.std.proofs.Math.ListN.{set}
 use Rattle.std.proofs.lemmas.List.{length-map, map-append}
 use Rattle.mail_records.specs.Histories.{Entry, History, grown_by}
@@ -16,7 +16,7 @@ use Rattle.account_lock.specs.Entries.{StartsWith}
 use Rattle.account_lock.specs.Views.{PassFacts}
 use Rattle.account_hall.specs.Closing.{HasAllOf, IsAnsweredIn, IsPartOf}
 use Rattle.account_hall.specs.Growing.{HasGrown, IsLater}
-use Rattle.account_hall.specs.Histories.{count_with, history_with, seen_count, seen_history, stamp_from}
+use Rattle.account_hall.specs.Histories.{count_with, history_with, stamp_from}
 use Rattle.account_hall.specs.Sessions.{IsCall, SessionView}
 use Rattle.account_hall.proofs.Closing.{seen_further}
 

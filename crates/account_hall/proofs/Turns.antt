@@ -1,5 +1,5 @@
 -- What a session has seen of an account after a turn at it.
-use Rattle.std.proofs.Common.{◌≡◌, ℕ, Bool, true, false, List, [], ◌∷◌, ◌++◌, None, Result, Ok, Err, IfOk, refl, sym, ap, ◌∙◌, subst}
+use Rattle.std.proofs.Common.{◌≡◌, ℕ, Bool, true, false, List, None, Result, Ok, Err, IfOk, sym, ap, ◌∙◌, subst}
 use Rattle.mail_records.specs.Histories.{History, Entry}
 use Rattle.account_book.specs.declared.asks.Call.{Call}
 use Rattle.account_book.specs.declared.plans.Done.{Done}

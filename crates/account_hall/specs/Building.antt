@@ -1,5 +1,5 @@
 -- How a hall is built of accounts, and what an account is that it gives back.
-use Rattle.std.specs.Prelude.{◌≡◌, ℕ, List, [], ◌∷◌, ◌++◌, ⊤}
+use Rattle.std.specs.Prelude.{◌≡◌, List, [], ◌∷◌, ◌++◌, ⊤}
 use Rattle.mail_records.specs.Histories.{Entry}
 use Rattle.account_book.specs.Books.{BookView}
 use Rattle.account_lock.specs.Entries.{StartsWith}

@@ -1,5 +1,5 @@
 -- What a call on one account does, and what a session has seen of the account after it.
-use Rattle.std.specs.Prelude.{◌≡◌, ℕ, ◌≤◌, List}
+use Rattle.std.specs.Prelude.{◌≡◌, ℕ, List}
 use Rattle.mail_records.specs.Histories.{Entry, History}
 use Rattle.record_codec.specs.Sizes.{edit_bytes}
 use Rattle.account_book.specs.Replies.{IsReply}

@@ -1,6 +1,6 @@
 -- What a hall's front knows of the sessions that left, and what the accounts have of them that are
 -- taken out of the hall.
-use Rattle.std.specs.Prelude.{◌≡◌, ◌≢◌, ℕ, ◌+◌, ◌≤◌, ◌==◌, cond, List, [], ◌∷◌, ◌++◌, length, Option, Some, None, slice_get, ⊤}
+use Rattle.std.specs.Prelude.{◌≡◌, ◌≢◌, ℕ, ◌+◌, ◌==◌, cond, List, [], ◌∷◌, ◌++◌, length, Option, Some, None, slice_get, ⊤}
 use Rattle.std.specs.List.{AllByRecursion}
 use Rattle.mail_records.specs.Histories.{Entry, History}
 use Rattle.record_codec.specs.Sizes.{edit_bytes}

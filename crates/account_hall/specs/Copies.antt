@@ -1,6 +1,6 @@
 -- What a copy from one account to another is: the calls of one copy, in order. The definitions of
 -- the first part are over any states of a session; those of the last part over a session of a hall.
-use Rattle.std.specs.Prelude.{◌≡◌, ℕ, ◌+◌, ◌⊎◌, Bool, true, false, cond, List, [], ◌∷◌, ◌++◌, take, min, max, slice_get, Option, Some, None, option_and_then, Result, Ok, Err, codes}
+use Rattle.std.specs.Prelude.{◌≡◌, ℕ, ◌+◌, ◌⊎◌, Bool, false, cond, List, [], ◌∷◌, ◌++◌, take, min, max, slice_get, Option, Some, None, option_and_then, Result, Ok, Err, codes}
 use Rattle.jm_json.specs.Call.{Call as Invocation, error_of}
 use Rattle.jm_json.specs.Invocations.{call_of}
 use Rattle.jm_json.specs.declared.invocation.Invocation.{Invocation as TheInvocation}

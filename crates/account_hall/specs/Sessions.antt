@@ -1,6 +1,6 @@
 -- Sessions of a hall. A session has a pass for each account, which says what it has seen, and a
 -- trail: the points of its calls, in order.
-use Rattle.std.specs.Prelude.{◌≡◌, ℕ, ◌+◌, ◌-◌, ◌≤◌, ◌==◌, Bool, true, false, ◌&&◌, if◌then◌else◌, List, [], ◌∷◌, ◌++◌, Some, None, map, take, drop, length, slice_get, slice_set, ⊤}
+use Rattle.std.specs.Prelude.{◌≡◌, ℕ, ◌+◌, ◌-◌, ◌≤◌, ◌==◌, Bool, false, ◌&&◌, if◌then◌else◌, List, [], ◌∷◌, ◌++◌, Some, None, map, take, drop, length, slice_get, slice_set, ⊤}
 use Rattle.std.specs.List.{AllByRecursion}
 use Rattle.mail_records.specs.Histories.{Entry, History, entry_stamp}
 use Rattle.record_codec.specs.Sizes.{edit_bytes}

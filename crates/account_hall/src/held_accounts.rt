@@ -28,6 +28,16 @@ pub(crate) struct Held<K: Keeper, R: Rules> {
     pub(crate) book: Box<Book<K, R>>,
 }
 
+/// What a copy asks: its call, what the request has made up to here, whether the user may only read
+/// the account of the originals, and the timestamp of its calls.
+#[derive(Drop)]
+struct Asked {
+    read_only: bool,
+    call: Invocation,
+    made: Made,
+    moment: u64,
+}
+
 // Performs a call on a held account. The trail, which has room for it, gains the point.
 fn perform_held<K: Keeper, R: Rules>(
     alloc: Global,
@@ -219,18 +229,16 @@ fn follow_copy<K: Keeper, R: Rules>(
     alloc: Global,
     from: &mut Held<K, R>,
     trail: &mut Vec<Point>,
-    read_only: bool,
-    copy: Invocation,
-    made: Made,
+    asked: Asked,
     placed: Replied,
     set: Option<Invocation>,
-    moment: u64,
 ) -> Result<Out, NoMemory>
-    requires moment { moment ≤ last_moment }
+    requires moment { asked.moment ≤ last_moment }
     requires room { vec_len trail.old + 1 ≤ vec_capacity trail.old }
     ensures followed { (to : Side) (es : List Entry) (set_of : SetOf) → IfOk result
-        (λ out. IsFollowed (held_steps R.plan_of set_of (side_of from.old) to read_only copy made
-        moment) placed (option_map call_of set) (state_from from.old es trail.old.items)
+        (λ out. IsFollowed (held_steps R.plan_of set_of (side_of from.old) to asked.read_only
+        asked.call asked.made asked.moment) placed (option_map call_of set)
+        (state_from from.old es trail.old.items)
         (state_from from.new es trail.new.items) out) }
     ensures gained { HasGained from.old from.new }
     ensures none { OnErr result ((entries_in from.new ≡ entries_in from.old)
@@ -239,6 +247,12 @@ fn follow_copy<K: Keeper, R: Rules>(
     match set {
         None => Ok(Out::Replies(placed)),
         Some(set) => {
+            let Asked {
+                read_only,
+                call: copy,
+                made,
+                moment,
+            } = asked;
             if read_only {
                 return with_error(alloc, "accountReadOnly", &copy.id, placed);
             }
@@ -253,17 +267,15 @@ fn follow_placed<K: Keeper, R: Rules, O: Originals>(
     from: &mut Held<K, R>,
     trail: &mut Vec<Point>,
     originals: &O,
-    read_only: bool,
-    copy: Invocation,
-    made: Made,
+    asked: Asked,
     placed: Out,
-    moment: u64,
 ) -> Result<Out, NoMemory>
-    requires moment { moment ≤ last_moment }
+    requires moment { asked.moment ≤ last_moment }
     requires room { vec_len trail.old + 1 ≤ vec_capacity trail.old }
     ensures followed { (to : Side) (es : List Entry) → IfOk result
-        (λ out. IsPlacedSo (held_steps R.plan_of O.set_of (side_of from.old) to read_only copy made
-        moment) (replied_in placed) (state_from from.old es trail.old.items)
+        (λ out. IsPlacedSo (held_steps R.plan_of O.set_of (side_of from.old) to asked.read_only
+        asked.call asked.made asked.moment) (replied_in placed)
+        (state_from from.old es trail.old.items)
         (state_from from.new es trail.new.items) out) }
     ensures gained { HasGained from.old from.new }
     ensures none { OnErr result ((entries_in from.new ≡ entries_in from.old)
@@ -271,10 +283,8 @@ fn follow_placed<K: Keeper, R: Rules, O: Originals>(
 {
     match take_replied(placed) {
         Err(other) => Ok(other),
-        Ok(placed) => match find_set(alloc, originals, &copy, &placed) {
-            Ok(set) => follow_copy(
-                alloc, from, trail, read_only, copy, made, placed, set, moment,
-            ),
+        Ok(placed) => match find_set(alloc, originals, &asked.call, &placed) {
+            Ok(set) => follow_copy(alloc, from, trail, asked, placed, set),
             Err(refused) => Err(refused),
         },
     }
@@ -287,24 +297,27 @@ fn place_held<K: Keeper, R: Rules, O: Originals>(
     to: &mut Held<K, R>,
     trail: &mut Vec<Point>,
     originals: &O,
-    read_only: bool,
-    copy: Invocation,
-    made: Made,
+    asked: Asked,
     carried: Carried,
-    moment: u64,
 ) -> Result<Out, NoMemory>
-    requires moment { moment ≤ last_moment }
+    requires moment { asked.moment ≤ last_moment }
     requires room { vec_len trail.old + 2 ≤ vec_capacity trail.old }
     ensures placed { IfOk result (λ out. IsPlaced (held_steps R.plan_of O.set_of (side_of from.old)
-        (side_of to.old) read_only copy made moment) carried
+        (side_of to.old) asked.read_only asked.call asked.made asked.moment) carried
         (state_of from.old to.old trail.old.items) (state_of from.new to.new trail.new.items)
         out) }
     ensures begun { OnErr result (MayHavePlaced (held_steps R.plan_of O.set_of (side_of from.old)
-        (side_of to.old) read_only copy made moment) carried
+        (side_of to.old) asked.read_only asked.call asked.made asked.moment) carried
         (state_of from.old to.old trail.old.items)
         (state_of from.new to.new trail.new.items)) }
     ensures gained { HasGained from.old from.new × HasGained to.old to.new }
 {
+    let Asked {
+        read_only,
+        call: copy,
+        made,
+        moment,
+    } = asked;
     let place = Call {
         ask: Ask::Place(copy, carried),
         made,
@@ -314,9 +327,13 @@ fn place_held<K: Keeper, R: Rules, O: Originals>(
         Ok(placed) => {
             let Call { ask, made, .. } = place;
             let copy = copy_asked(ask).unwrap();
-            follow_placed(
-                alloc, from, trail, originals, read_only, copy, made, placed, moment,
-            )
+            let asked = Asked {
+                read_only,
+                call: copy,
+                made,
+                moment,
+            };
+            follow_placed(alloc, from, trail, originals, asked, placed)
         }
         Err(refused) => Err(refused),
     }
@@ -329,29 +346,26 @@ fn follow_fetched<K: Keeper, R: Rules, O: Originals>(
     to: &mut Held<K, R>,
     trail: &mut Vec<Point>,
     originals: &O,
-    read_only: bool,
-    copy: Invocation,
-    made: Made,
+    asked: Asked,
     fetched: Out,
-    moment: u64,
 ) -> Result<Out, NoMemory>
-    requires moment { moment ≤ last_moment }
+    requires moment { asked.moment ≤ last_moment }
     requires room { vec_len trail.old + 2 ≤ vec_capacity trail.old }
     ensures followed { IfOk result (λ out. IsFetchedSo (held_steps R.plan_of O.set_of
-        (side_of from.old) (side_of to.old) read_only copy made moment) (carried_in fetched)
+        (side_of from.old) (side_of to.old) asked.read_only asked.call asked.made asked.moment)
+        (carried_in fetched)
         (state_of from.old to.old trail.old.items) (state_of from.new to.new trail.new.items)
         out) }
     ensures begun { OnErr result (MayHaveFollowed (held_steps R.plan_of O.set_of
-        (side_of from.old) (side_of to.old) read_only copy made moment) fetched
+        (side_of from.old) (side_of to.old) asked.read_only asked.call asked.made asked.moment)
+        fetched
         (state_of from.old to.old trail.old.items)
         (state_of from.new to.new trail.new.items)) }
     ensures gained { HasGained from.old from.new × HasGained to.old to.new }
 {
     match take_carried(fetched) {
         Err(other) => Ok(other),
-        Ok(carried) => place_held(
-            alloc, from, to, trail, originals, read_only, copy, made, carried, moment,
-        ),
+        Ok(carried) => place_held(alloc, from, to, trail, originals, asked, carried),
     }
 }
 
@@ -390,18 +404,13 @@ pub(crate) fn copy_held<K: Keeper, R: Rules, O: Originals>(
         Ok(fetched) => {
             let Call { ask, made, .. } = fetch;
             let call = copy_asked(ask).unwrap();
-            follow_fetched(
-                alloc,
-                from,
-                to,
-                trail,
-                originals,
-                from_read_only,
+            let asked = Asked {
+                read_only: from_read_only,
                 call,
                 made,
-                fetched,
                 moment,
-            )
+            };
+            follow_fetched(alloc, from, to, trail, originals, asked, fetched)
         }
         Err(refused) => Err(refused),
     }

@@ -7,14 +7,14 @@ use Rattle.account_hall.proofs.held_accounts.follow_placed.Goals as goal
 pub returns-in-Err-clause-followed : goal.returns-in-Err-clause-followed
 returns-in-Err-clause-followed g c to es =
     let s = state_from c.args.from.now es c.args.trail.now.items in
-    subst (λ r. IsPlacedSo (held_steps g.R.Rules.plan_of g.O.Originals.set_of (side_of c.args.from.now) to c.args.read_only c.args.copy c.args.made c.args.moment) r s s c.in-Err.other) c.in-Err.ensures (refl, refl)
+    subst (λ r. IsPlacedSo (held_steps g.R.Rules.plan_of g.O.Originals.set_of (side_of c.args.from.now) to c.args.asked.read_only c.args.asked.call c.args.asked.made c.args.asked.moment) r s s c.in-Err.other) c.in-Err.ensures (refl, refl)
 
 pub returns-in-Err-clause-gained : goal.returns-in-Err-clause-gained
 returns-in-Err-clause-gained g c = gained_none c.args.from.now
 
 pub returns-in-Ok-find_set-clause-followed : goal.returns-in-Ok-find_set-clause-followed
 returns-in-Ok-find_set-clause-followed g c to es =
-    let steps = held_steps g.R.Rules.plan_of g.O.Originals.set_of (side_of c.args.from.now) to c.args.read_only c.args.copy c.args.made c.args.moment in
+    let steps = held_steps g.R.Rules.plan_of g.O.Originals.set_of (side_of c.args.from.now) to c.args.asked.read_only c.args.asked.call c.args.asked.made c.args.asked.moment in
     let s = state_from c.args.from.now es c.args.trail.now.items in
     let s' = state_from c.follow_copy.new.from es c.follow_copy.new.trail.items in
     subst (λ r. IfOk c.follow_copy.result (λ out. IsPlacedSo steps r s s' out)) c.in-Ok.ensures

@@ -5,23 +5,23 @@ use Rattle.account_hall.proofs.Parts.{gained_none, placed_begun, placed_if, same
 use Rattle.account_hall.proofs.held_accounts.place_held.Goals as goal
 
 pub unwrap-copy-requires : goal.unwrap-copy-requires
-unwrap-copy-requires g c = ap is_some (c.copy_asked.ensures.place c.args.copy c.args.carried refl)
+unwrap-copy-requires g c = ap is_some (c.copy_asked.ensures.place c.args.asked.call c.args.carried refl)
 
 pub returns-in-Ok-clause-placed : goal.returns-in-Ok-clause-placed
 returns-in-Ok-clause-placed g c =
-    let steps = held_steps g.R.Rules.plan_of g.O.Originals.set_of (side_of c.args.from.now) (side_of c.args.to.now) c.args.read_only c.args.copy c.args.made c.args.moment in
+    let steps = held_steps g.R.Rules.plan_of g.O.Originals.set_of (side_of c.args.from.now) (side_of c.args.to.now) c.args.asked.read_only c.args.asked.call c.args.asked.made c.args.asked.moment in
     let s = state_of c.args.from.now c.args.to.now c.args.trail.now.items in
     let m = state_of c.args.from.now c.perform_held.new.held c.perform_held.new.trail.items in
     let s' = state_of c.follow_placed.new.from c.perform_held.new.held c.follow_placed.new.trail.items in
-    let same : c.unwrap-copy.result ≡ c.args.copy = taken_out c.copy_asked.result c.unwrap-copy.result c.args.copy c.unwrap-copy.ensures (c.copy_asked.ensures.place c.args.copy c.args.carried refl) in
+    let same : c.unwrap-copy.result ≡ c.args.asked.call = taken_out c.copy_asked.result c.unwrap-copy.result c.args.asked.call c.unwrap-copy.ensures (c.copy_asked.ensures.place c.args.asked.call c.args.carried refl) in
     let rest : IfOk c.follow_placed.result (λ out. IsPlacedSo steps (replied_in c.in-Ok.placed) m s' out) =
-    subst (λ x. IfOk c.follow_placed.result (λ out. IsPlacedSo (held_steps g.R.Rules.plan_of g.O.Originals.set_of (side_of c.args.from.now) (side_of c.args.to.now) c.args.read_only x c.args.made c.args.moment) (replied_in c.in-Ok.placed) m s' out)) same
+    subst (λ x. IfOk c.follow_placed.result (λ out. IsPlacedSo (held_steps g.R.Rules.plan_of g.O.Originals.set_of (side_of c.args.from.now) (side_of c.args.to.now) c.args.asked.read_only x c.args.asked.made c.args.asked.moment) (replied_in c.in-Ok.placed) m s' out)) same
     (c.follow_placed.ensures.followed (side_of c.args.to.now) (entries_in c.perform_held.new.held)) in
     placed_if steps s m s' c.args.carried c.in-Ok.placed c.follow_placed.result (c.in-Ok.ensures.step, refl) rest
 
 pub returns-in-Ok-clause-begun : goal.returns-in-Ok-clause-begun
 returns-in-Ok-clause-begun g c =
-    let steps = held_steps g.R.Rules.plan_of g.O.Originals.set_of (side_of c.args.from.now) (side_of c.args.to.now) c.args.read_only c.args.copy c.args.made c.args.moment in
+    let steps = held_steps g.R.Rules.plan_of g.O.Originals.set_of (side_of c.args.from.now) (side_of c.args.to.now) c.args.asked.read_only c.args.asked.call c.args.asked.made c.args.asked.moment in
     let s = state_of c.args.from.now c.args.to.now c.args.trail.now.items in
     let m = state_of c.args.from.now c.perform_held.new.held c.perform_held.new.trail.items in
     let s' = state_of c.follow_placed.new.from c.perform_held.new.held c.follow_placed.new.trail.items in

@@ -1,4 +1,4 @@
-use Rattle.std.proofs.Common.{◌≡◌, ◌+◌, ◌≤◌, ◌<◌, inl, IfOk, OnErr, length, refl, sym, ap, ◌∙◌, subst, arith}
+use Rattle.std.proofs.Common.{inl, IfOk, OnErr, length, refl, sym, ap, ◌∙◌, subst, arith}
 use Rattle.account_hall.specs.Copies.{HasBegunCopy, IsCopy}
 use Rattle.account_hall.specs.Halls.{AreOf, room_view}
 use Rattle.account_hall.specs.Sessions.{IsSession, SessionView, session_of}
