@@ -11,6 +11,7 @@ use Rattle.mail_counts.specs.Views.{count_tree}
 use Rattle.mail_records.specs.Contents.{Content}
 use Rattle.method_args.specs.Arguments.{Form, find_invalid, flag_in, integer_in, text_in}
 use Rattle.method_args.specs.Ids.{id_trees}
+use Rattle.method_args.specs.Outcomes.{Outcome, invalid_call, no_anchor, replied, unsupported_filter_call, unsupported_sort_call}
 use Rattle.method_args.specs.declared.form.Presence.TheVariants.{Required, Optional, Nullable}
 use Rattle.method_args.specs.declared.form.Shape.TheVariants.{String, Flag, Integer, Count}
 use Rattle.filter_terms.specs.Texts.{MessageTexts}
@@ -23,8 +24,6 @@ use Rattle.query_engine.specs.declared.frame.Frame.{Frame}
 use Rattle.query_engine.specs.declared.frame.Shown.{Shown}
 use Rattle.query_engine.specs.declared.faults.QueryFault.{QueryFault}
 use Rattle.query_engine.specs.declared.faults.QueryFault.TheVariants.{Invalid, UnsupportedFilter, UnsupportedSort, NoMemory}
-use Rattle.query_engine.specs.declared.faults.QueryCallFault.{QueryCallFault}
-use Rattle.query_engine.specs.declared.faults.QueryCallFault.TheVariants.{Invalid as InvalidCall, UnsupportedFilter as UnsupportedFilterCall, UnsupportedSort as UnsupportedSortCall, AnchorNotFound as AnchorNotFoundCall, NoMemory as NoMemoryCall}
 
 -- ---- the query of a call
 
@@ -188,15 +187,6 @@ response_members kind account state shown counted total =
     ∷ (codes "queryState", text (state_text state))
     ∷ total_members counted total)
 
--- The outcome of a call: a fault of the arguments, of the filter or of the sort, by its name; the
--- anchor is not in the result list; or the arguments of the response.
-pub data Outcome : Type 0 where
-  invalid_call : (name : List ℕ) → Outcome
-  unsupported_filter_call : (name : List ℕ) → Outcome
-  unsupported_sort_call : (name : List ℕ) → Outcome
-  no_anchor : Outcome
-  replied : (reply : Tree) → Outcome
-
 abbrev pub outcome_of_window : Kind → ℕ → List (List ℕ × Tree) → ℕ → Window → Outcome
 outcome_of_window kind state ms total (part shown) =
     replied
@@ -236,11 +226,3 @@ outcome_of_members kind state c texts (Some ms) =
 -- byte order of their names; then filter and sort; then the anchor is looked for.
 abbrev pub query_outcome : Kind → ℕ → Content → (ℕ → MessageTexts) → Tree → Outcome
 query_outcome kind state c texts args = outcome_of_members kind state c texts (as_object args)
-
--- why there is no response; out of memory explains itself
-abbrev pub ExplainsCall : QueryCallFault → Outcome → Type 0
-ExplainsCall (InvalidCall name) o = o ≡ invalid_call name
-ExplainsCall (UnsupportedFilterCall name) o = o ≡ unsupported_filter_call name
-ExplainsCall (UnsupportedSortCall name) o = o ≡ unsupported_sort_call name
-ExplainsCall AnchorNotFoundCall o = o ≡ no_anchor
-ExplainsCall NoMemoryCall o = ⊤

@@ -1,4 +1,4 @@
-// Why a call has no query, and why it has no response (RFC 8620, section 5.5).
+// Why a call has no query (RFC 8620, section 5.5).
 use jm_base::{NoMemory, Text};
 
 /// The arguments of a call have no query.
@@ -15,21 +15,6 @@ pub enum QueryFault {
     NoMemory,
 }
 
-/// A call of a /query method has no response of its own.
-#[derive(Debug, Drop)]
-pub enum QueryCallFault {
-    /// As for a query, or the argument of this name does not have its form: `invalidArguments`.
-    Invalid(Text),
-    /// As for a query, or `filterAsTree` is true: `unsupportedFilter`.
-    UnsupportedFilter(Text),
-    /// As for a query, or `sortAsTree` is true: `unsupportedSort`.
-    UnsupportedSort(Text),
-    /// The anchor is not in the result list: `anchorNotFound`.
-    AnchorNotFound,
-    /// An allocation failed.
-    NoMemory,
-}
-
 impl From<NoMemory> for QueryFault {
     ghost use Rattle.std.specs.Prelude.{◌≡◌};
     ghost use Rattle.query_engine.specs.declared.faults.QueryFault.TheVariants.{NoMemory};
@@ -38,16 +23,5 @@ impl From<NoMemory> for QueryFault {
 
     fn from(_refused: NoMemory) -> QueryFault {
         QueryFault::NoMemory
-    }
-}
-
-impl From<NoMemory> for QueryCallFault {
-    ghost use Rattle.std.specs.Prelude.{◌≡◌};
-    ghost use Rattle.query_engine.specs.declared.faults.QueryCallFault.TheVariants.{NoMemory};
-
-    ghost from_gives = { λ _ e. e ≡ NoMemory };
-
-    fn from(_refused: NoMemory) -> QueryCallFault {
-        QueryCallFault::NoMemory
     }
 }

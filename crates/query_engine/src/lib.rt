@@ -23,7 +23,7 @@ mod sorted_in_mailbox;
 mod walks;
 mod windows;
 
-pub use faults::{QueryCallFault, QueryFault};
+pub use faults::QueryFault;
 pub use frame::{Frame, Shown, WindowFault};
 pub use laws::{
     collapsing_keeps_the_first_of_a_thread, queries_have_one_result, queries_see_only_their_records,

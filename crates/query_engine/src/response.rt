@@ -3,15 +3,16 @@
 ghost use Rattle.std.specs.Prelude.{◌≡◌, ◌+◌, pos, true, None, IfErr, IfOk, IfSome, OnOk};
 ghost use Rattle.jm_json.specs.Json.{tree_of};
 ghost use Rattle.jm_json.specs.Tree.{fields_of, object};
+ghost use Rattle.method_args.specs.Outcomes.{ExplainsCall, replied};
 ghost use Rattle.mail_counts.specs.Views.{count_tree};
 ghost use Rattle.query_engine.specs.Queries.{result_list};
 ghost use Rattle.query_engine.specs.Replies.{Decides, plain_members, with_limit, with_total};
-ghost use Rattle.query_engine.specs.Responses.{ExplainsCall, outcome_of_list, outcome_with, query_outcome, replied, response_members};
+ghost use Rattle.query_engine.specs.Responses.{outcome_of_list, outcome_with, query_outcome, response_members};
 
 use crate::arguments::{
     call_query, copy_name, find_invalid_argument, is_set, read_account_id, read_frame,
 };
-use crate::faults::{QueryCallFault, QueryFault};
+use crate::faults::QueryFault;
 use crate::frame::{Frame, Shown, WindowFault};
 use crate::query::Query;
 use crate::run::run_query_upto;
@@ -20,7 +21,7 @@ use filter_terms::Texts2;
 use jm_base::{Kind, MAX_JSON_INTEGER, NoMemory, Text, state_text};
 use jm_json::{Json, Members};
 use mail_records::Content;
-use method_args::make_ids;
+use method_args::{MethodFault, make_ids};
 use std::alloc::Global;
 
 /// Returns a number as JSON has it, which has no greater one than [`MAX_JSON_INTEGER`] (RFC 8620,
@@ -158,7 +159,7 @@ fn answer_query_of<T: Texts2>(
     texts: &T,
     members: &Members,
     query: &Query,
-) -> Result<Json, QueryCallFault>
+) -> Result<Json, MethodFault>
     ensures reply { IfOk result (λ j. outcome_of_list kind state members.now
         (result_list query.now content.now.content (T.texts texts.now)) ≡ replied (tree_of j)) }
     ensures fault { IfErr result (λ e. ExplainsCall e (outcome_of_list kind state
@@ -174,9 +175,9 @@ fn answer_query_of<T: Texts2>(
             let total = numbers.len() as u64;
             Ok(make_reply(alloc, kind, account, state, &shown, counted, total)?)
         }
-        Err(WindowFault::AnchorNotFound) => Err(QueryCallFault::AnchorNotFound),
-        Err(WindowFault::BadLimit) => Err(QueryCallFault::Invalid(copy_name(alloc, "limit")?)),
-        Err(WindowFault::NoMemory) => Err(QueryCallFault::NoMemory),
+        Err(WindowFault::AnchorNotFound) => Err(MethodFault::AnchorNotFound),
+        Err(WindowFault::BadLimit) => Err(MethodFault::Invalid(copy_name(alloc, "limit")?)),
+        Err(WindowFault::NoMemory) => Err(MethodFault::NoMemory),
     }
 }
 
@@ -188,7 +189,7 @@ fn answer_members<T: Texts2>(
     content: &Content,
     texts: &T,
     members: &Members,
-) -> Result<Json, QueryCallFault>
+) -> Result<Json, MethodFault>
     ensures reply { IfOk result (λ j. outcome_with kind state content.now.content
         (T.texts texts.now) members.now None ≡ replied (tree_of j)) }
     ensures fault { IfErr result (λ e. ExplainsCall e (outcome_with kind state content.now.content
@@ -196,10 +197,10 @@ fn answer_members<T: Texts2>(
 {
     match call_query(alloc, kind, members) {
         Ok(query) => answer_query_of(alloc, kind, state, content, texts, members, &query),
-        Err(QueryFault::Invalid(name)) => Err(QueryCallFault::Invalid(name)),
-        Err(QueryFault::UnsupportedFilter(name)) => Err(QueryCallFault::UnsupportedFilter(name)),
-        Err(QueryFault::UnsupportedSort(name)) => Err(QueryCallFault::UnsupportedSort(name)),
-        Err(QueryFault::NoMemory) => Err(QueryCallFault::NoMemory),
+        Err(QueryFault::Invalid(name)) => Err(MethodFault::Invalid(name)),
+        Err(QueryFault::UnsupportedFilter(name)) => Err(MethodFault::UnsupportedFilter(name)),
+        Err(QueryFault::UnsupportedSort(name)) => Err(MethodFault::UnsupportedSort(name)),
+        Err(QueryFault::NoMemory) => Err(MethodFault::NoMemory),
     }
 }
 
@@ -224,7 +225,7 @@ pub fn answer_query<T: Texts2>(
     content: &Content,
     texts: &T,
     args: &Json,
-) -> Result<Json, QueryCallFault>
+) -> Result<Json, MethodFault>
     ensures reply { IfOk result (λ j. query_outcome kind state content.now.content
         (T.texts texts.now) (tree_of args.now) ≡ replied (tree_of j)) }
     ensures fault { IfErr result (λ e. ExplainsCall e (query_outcome kind state
@@ -232,9 +233,9 @@ pub fn answer_query<T: Texts2>(
 {
     match args.as_object() {
         Some(members) => match find_invalid_argument(kind, members) {
-            Some(name) => Err(QueryCallFault::Invalid(copy_name(alloc, name)?)),
+            Some(name) => Err(MethodFault::Invalid(copy_name(alloc, name)?)),
             None => answer_members(alloc, kind, state, content, texts, members),
         },
-        None => Err(QueryCallFault::Invalid(copy_name(alloc, "")?)),
+        None => Err(MethodFault::Invalid(copy_name(alloc, "")?)),
     }
 }
