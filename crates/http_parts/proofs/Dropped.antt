@@ -1,5 +1,5 @@
 -- Bytes that are read of a link and dropped.
-use Rattle.std.proofs.Common.{◌≡◌, ◌<◌, ◌≤◌, ◌+◌, ℕ, List, [], ◌++◌, length, take, Option, None, Some, Result, Ok, Err, OnOk, refl, sym, subst, arith, append-nil, length-append, length-take}
+use Rattle.std.proofs.Common.{◌≡◌, ◌<◌, ◌≤◌, ◌+◌, ◌-◌, ℕ, List, [], ◌++◌, length, take, Option, None, Some, Result, Ok, Err, OnOk, refl, sym, subst, arith, append-nil, length-append, length-take}
 use Rattle.std.specs.Io.KnownBytes.{Consumes, IsAtEnd}
 use Rattle.jm_edge.specs.Causes.{Rose}
 use Rattle.jm_edge.proofs.Known.{consumes_on, consumes_none}
