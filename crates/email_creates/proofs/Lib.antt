@@ -1,0 +1,10 @@
+pub mod Dates
+pub mod SentMembers
+pub mod Passing
+pub mod Accepting
+pub mod Joining
+pub mod NewThreads
+pub mod Following
+pub mod Planning
+pub mod Room
+pub mod Promising
