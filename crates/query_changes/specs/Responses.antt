@@ -9,6 +9,7 @@ use Rattle.jm_json.specs.Tree.{Tree, text, list, object, fields_of, trees_of}
 use Rattle.mail_counts.specs.Views.{count_tree}
 use Rattle.mail_records.specs.Histories.{History}
 use Rattle.method_args.specs.Arguments.{Form, find_invalid, if_unsigned, integer_in}
+use Rattle.method_args.specs.Outcomes.{Outcome, cannot_tell, invalid_call, replied, too_many_changes, unsupported_filter_call, unsupported_sort_call}
 use Rattle.method_args.specs.declared.form.Presence.TheVariants.{Required, Optional, Nullable}
 use Rattle.method_args.specs.declared.form.Shape.TheVariants.{String, Flag, Count}
 use Rattle.change_calls.specs.Responses.{ids_tree, string_in}
@@ -16,8 +17,6 @@ use Rattle.filter_terms.specs.Texts.{MessageTexts}
 use Rattle.query_engine.specs.Responses.{Reading, is_set, query, invalid, unsupported_filter, unsupported_sort, query_in, total_members}
 use Rattle.query_changes.specs.Deltas.{Answer, answered, cannot_calculate, too_many, answer_of}
 use Rattle.query_changes.specs.declared.delta.Delta.{Delta}
-use Rattle.query_changes.specs.declared.faults.QueryChangesFault.{QueryChangesFault}
-use Rattle.query_changes.specs.declared.faults.QueryChangesFault.TheVariants.{Invalid, UnsupportedFilter, UnsupportedSort, CannotCalculate, TooMany, NoMemory}
 
 -- ---- the arguments
 
@@ -85,16 +84,6 @@ delta_tree kind account since counted delta =
 
 -- ---- the outcome of a call
 
--- The outcome of a call: a fault of the arguments, of the filter or of the sort, by its name; the
--- changes cannot be calculated, or are more than the maximum; or the arguments of the response.
-pub data Outcome : Type 0 where
-  invalid_call : (name : List ℕ) → Outcome
-  unsupported_filter_call : (name : List ℕ) → Outcome
-  unsupported_sort_call : (name : List ℕ) → Outcome
-  cannot_tell : Outcome
-  too_many_changes : Outcome
-  replied : (reply : Tree) → Outcome
-
 abbrev pub outcome_by : Kind → List (List ℕ × Tree) → Answer → Outcome
 outcome_by kind ms (answered delta) =
     replied
@@ -126,12 +115,3 @@ outcome_of_members h texts kind (Some ms) = outcome_with h texts kind ms (invali
 -- then filter and sort; then the state; then the count of changes.
 abbrev pub query_changes_outcome : History → (ℕ → MessageTexts) → Kind → Tree → Outcome
 query_changes_outcome h texts kind args = outcome_of_members h texts kind (as_object args)
-
--- why there is no response; out of memory explains itself
-abbrev pub ExplainsCall : QueryChangesFault → Outcome → Type 0
-ExplainsCall (Invalid name) o = o ≡ invalid_call name
-ExplainsCall (UnsupportedFilter name) o = o ≡ unsupported_filter_call name
-ExplainsCall (UnsupportedSort name) o = o ≡ unsupported_sort_call name
-ExplainsCall CannotCalculate o = o ≡ cannot_tell
-ExplainsCall TooMany o = o ≡ too_many_changes
-ExplainsCall NoMemory o = ⊤

@@ -10,14 +10,12 @@
 mod arguments;
 mod changes;
 mod delta;
-mod faults;
 mod laws;
 mod response;
 mod touched;
 
 pub use changes::query_changes;
 pub use delta::{Added, Delta, DeltaFault};
-pub use faults::QueryChangesFault;
 pub use laws::{
     changes_bring_lists_up_to_date, changes_see_only_their_texts, lists_are_those_of_states,
     lists_see_only_their_texts, untouched_records_stay,

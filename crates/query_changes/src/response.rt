@@ -3,19 +3,19 @@
 ghost use Rattle.std.specs.Prelude.{◌≡◌, None, IfErr, IfOk};
 ghost use Rattle.jm_json.specs.Json.{tree_of};
 ghost use Rattle.mail_records.specs.Histories.{History};
+ghost use Rattle.method_args.specs.Outcomes.{ExplainsCall, replied};
 ghost use Rattle.query_changes.specs.Deltas.{AreOf};
-ghost use Rattle.query_changes.specs.Responses.{ExplainsCall, added_tree, added_trees, delta_members, delta_tree, outcome_of_query, outcome_with, query_changes_outcome, replied};
+ghost use Rattle.query_changes.specs.Responses.{added_tree, added_trees, delta_members, delta_tree, outcome_of_query, outcome_with, query_changes_outcome};
 ghost use Rattle.query_engine.specs.Responses.{query as the_query};
 
 use crate::arguments::{find_invalid_argument, is_set, read_max_changes, read_string};
 use crate::changes::find_changes;
 use crate::delta::{Delta, DeltaFault};
-use crate::faults::QueryChangesFault;
 use filter_terms::Texts2;
 use jm_base::{AddedItem, Id, Kind, NoMemory, Text, id_text, state_text};
 use jm_json::{Items, Json, Members};
 use mail_records::Content;
-use method_args::make_ids;
+use method_args::{MethodFault, make_ids};
 use query_engine::{Query, QueryFault, make_count, read_query_in};
 use state_log::Log;
 use std::alloc::Global;
@@ -97,7 +97,7 @@ fn answer_query<T: Texts2>(
     kind: Kind,
     members: &Members,
     query: &Query,
-) -> Result<Json, QueryChangesFault>
+) -> Result<Json, MethodFault>
     ensures reply { IfOk result (λ j. (h : History) → AreOf h log.now content.now.content
         → outcome_of_query h (T.texts texts.now) kind members.now (the_query query.now)
         ≡ replied (tree_of j)) }
@@ -122,9 +122,9 @@ fn answer_query<T: Texts2>(
             let account = read_string(members, "accountId");
             Ok(make_reply(alloc, kind, account, since, counted, &delta)?)
         }
-        Err(DeltaFault::CannotCalculate) => Err(QueryChangesFault::CannotCalculate),
-        Err(DeltaFault::TooMany(_)) => Err(QueryChangesFault::TooMany),
-        Err(DeltaFault::NoMemory) => Err(QueryChangesFault::NoMemory),
+        Err(DeltaFault::CannotCalculate) => Err(MethodFault::CannotCalculate),
+        Err(DeltaFault::TooMany(_)) => Err(MethodFault::TooMany),
+        Err(DeltaFault::NoMemory) => Err(MethodFault::NoMemory),
     }
 }
 
@@ -136,7 +136,7 @@ fn answer_members<T: Texts2>(
     texts: &T,
     kind: Kind,
     members: &Members,
-) -> Result<Json, QueryChangesFault>
+) -> Result<Json, MethodFault>
     ensures reply { IfOk result (λ j. (h : History) → AreOf h log.now content.now.content
         → outcome_with h (T.texts texts.now) kind members.now None ≡ replied (tree_of j)) }
     ensures fault { IfErr result (λ fault. (h : History) → AreOf h log.now content.now.content
@@ -144,10 +144,10 @@ fn answer_members<T: Texts2>(
 {
     match read_query_in(alloc, kind, members) {
         Ok(query) => answer_query(alloc, log, content, texts, kind, members, &query),
-        Err(QueryFault::Invalid(name)) => Err(QueryChangesFault::Invalid(name)),
-        Err(QueryFault::UnsupportedFilter(name)) => Err(QueryChangesFault::UnsupportedFilter(name)),
-        Err(QueryFault::UnsupportedSort(name)) => Err(QueryChangesFault::UnsupportedSort(name)),
-        Err(QueryFault::NoMemory) => Err(QueryChangesFault::NoMemory),
+        Err(QueryFault::Invalid(name)) => Err(MethodFault::Invalid(name)),
+        Err(QueryFault::UnsupportedFilter(name)) => Err(MethodFault::UnsupportedFilter(name)),
+        Err(QueryFault::UnsupportedSort(name)) => Err(MethodFault::UnsupportedSort(name)),
+        Err(QueryFault::NoMemory) => Err(MethodFault::NoMemory),
     }
 }
 
@@ -171,7 +171,7 @@ pub fn answer_query_changes<T: Texts2>(
     texts: &T,
     kind: Kind,
     args: &Json,
-) -> Result<Json, QueryChangesFault>
+) -> Result<Json, MethodFault>
     ensures reply { IfOk result (λ j. (h : History) → AreOf h log.now content.now.content
         → query_changes_outcome h (T.texts texts.now) kind (tree_of args.now)
         ≡ replied (tree_of j)) }
@@ -181,9 +181,9 @@ pub fn answer_query_changes<T: Texts2>(
 {
     match args.as_object() {
         Some(members) => match find_invalid_argument(kind, members) {
-            Some(name) => Err(QueryChangesFault::Invalid(Text::from_str(alloc, name)?)),
+            Some(name) => Err(MethodFault::Invalid(Text::from_str(alloc, name)?)),
             None => answer_members(alloc, log, content, texts, kind, members),
         },
-        None => Err(QueryChangesFault::Invalid(Text::from_str(alloc, "")?)),
+        None => Err(MethodFault::Invalid(Text::from_str(alloc, "")?)),
     }
 }
