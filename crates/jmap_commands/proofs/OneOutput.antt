@@ -33,7 +33,7 @@ use Rattle.account_book.specs.declared.plans.Plan.{Plan}
 use Rattle.account_book.specs.declared.plans.Point.{Point}
 use Rattle.blob_store.specs.Blobs.{has_room}
 use Rattle.mail_calls.specs.BlobPlans.{upload_if, upload_plan}
-use Rattle.read_replies.specs.Plans.{changes_plan, get_plan, query_plan, query_changes_plan}
+use Rattle.read_replies.specs.Plans.{get_plan, outcome_plan}
 use Rattle.mail_calls.specs.Plans.{call_plan, email_set_plan, ground_in, mailbox_set_plan, method_plan, plan_by, set_plan}
 use Rattle.mail_calls.specs.Methods.{method_named}
 use Rattle.mail_calls.specs.declared.methods.Method.{Method as MailMethod}
@@ -173,9 +173,9 @@ plan_by_unstamped : (h : History) (c : Call) (made : List Created) (read_only : 
     → plan_by (unstamped h) c made read_only 0 method ≡ plan_by h c made read_only 0 method
 plan_by_unstamped h c made read_only None = refl
 plan_by_unstamped h c made read_only (Some (Get kind)) = ap (get_plan c) (get_unstamped h c.args read_only kind)
-plan_by_unstamped h c made read_only (Some (Changes kind)) = ap (changes_plan c) (changes_unstamped h kind c.args)
-plan_by_unstamped h c made read_only (Some (Query kind)) = ap (query_plan c) (queried_unstamped h kind c.args)
-plan_by_unstamped h c made read_only (Some (QueryChanges kind)) = ap (query_changes_plan c) (query_changed_unstamped h kind c.args)
+plan_by_unstamped h c made read_only (Some (Changes kind)) = ap (outcome_plan c) (changes_unstamped h kind c.args)
+plan_by_unstamped h c made read_only (Some (Query kind)) = ap (outcome_plan c) (queried_unstamped h kind c.args)
+plan_by_unstamped h c made read_only (Some (QueryChanges kind)) = ap (outcome_plan c) (query_changed_unstamped h kind c.args)
 plan_by_unstamped h c made read_only (Some MailboxSet) = ap (mailbox_set_plan c made) (ground_unstamped h)
 plan_by_unstamped h c made read_only (Some EmailSet) = ap (email_set_plan c made) (ground_unstamped h)
 plan_by_unstamped h c made read_only (Some EmailImport) = ap (set_plan c) (import_unstamped h c.args made 0)

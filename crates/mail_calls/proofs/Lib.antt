@@ -3,6 +3,7 @@ pub mod CopyPlans
 pub mod Rooms
 pub mod Changes
 pub mod Queries
+pub mod Returned
 pub mod ValidityTested
 pub mod SharedMessages
 pub mod RightFlags

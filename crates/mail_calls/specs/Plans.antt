@@ -29,7 +29,7 @@ use Rattle.account_book.specs.declared.plans.Out.{Out}
 use Rattle.account_book.specs.declared.plans.Out.TheVariants.{Replies}
 use Rattle.account_book.specs.declared.plans.Out.TheVariants as out
 use Rattle.account_book.specs.declared.plans.Plan.{Plan}
-use Rattle.read_replies.specs.Plans.{changes_plan, get_plan, queried, query_changed, query_changes_plan, query_plan, refused, response_to}
+use Rattle.read_replies.specs.Plans.{get_plan, outcome_plan, queried, query_changed, refused, response_to}
 use Rattle.mail_calls.specs.BlobPlans.{upload_plan}
 use Rattle.mail_copies.specs.Plans.{place_in}
 use Rattle.copy_calls.specs.BlobCopies.{BlobPlan, blob_plan_in, blob_rejection, blobs_fetched_in, bytes_named}
@@ -87,10 +87,10 @@ plan_by h c made read_only moment None = refused c (codes "unknownMethod")
 plan_by h c made read_only moment (Some (Get kind)) =
     get_plan c (get_of_kind kind h c.args read_only)
 plan_by h c made read_only moment (Some (Changes kind)) =
-    changes_plan c (changes_outcome h kind c.args)
-plan_by h c made read_only moment (Some (Query kind)) = query_plan c (queried h kind c.args)
+    outcome_plan c (changes_outcome h kind c.args)
+plan_by h c made read_only moment (Some (Query kind)) = outcome_plan c (queried h kind c.args)
 plan_by h c made read_only moment (Some (QueryChanges kind)) =
-    query_changes_plan c (query_changed h kind c.args)
+    outcome_plan c (query_changed h kind c.args)
 plan_by h c made read_only moment (Some MailboxSet) =
     mailbox_set_plan c made (ground_in h)
 plan_by h c made read_only moment (Some EmailSet) =

@@ -12,10 +12,8 @@ use Rattle.mail_view.specs.Parses.{parse_in}
 use Rattle.mailbox_set.specs.Sets.{mailbox_set_outcome}
 use Rattle.set_parts.specs.Outcomes.{Outcome}
 use Rattle.set_parts.specs.Outcomes as sets
-use Rattle.change_calls.specs.Responses as change
+use Rattle.method_args.specs.Outcomes as method
 use Rattle.change_calls.specs.Responses.{changes_outcome}
-use Rattle.query_engine.specs.Responses as queries
-use Rattle.query_changes.specs.Responses as query_change
 use Rattle.mailbox_set.proofs.Leading.{promised}
 use Rattle.email_set.specs.Plans.{email_set_outcome}
 use Rattle.email_set.proofs.Promising.{promised as emails_promised}
@@ -41,7 +39,7 @@ use Rattle.blob_store.specs.Blobs.{AreBlobsFew, byte_count, has_room}
 use Rattle.blob_store.specs.declared.limits.TheConstants.{MAX_BLOB_BYTES_PER_ACCOUNT, MAX_BLOBS_PER_ACCOUNT}
 use Rattle.std.proofs.lemmas.List.Sums.{sum-map, sum_by-append}
 use Rattle.mail_calls.specs.Methods.{copy_method_named, method_named}
-use Rattle.read_replies.specs.Plans.{refused, get_plan, changes_plan, queried, query_plan, query_changed, query_changes_plan}
+use Rattle.read_replies.specs.Plans.{refused, get_plan, outcome_plan, queried, query_changed}
 use Rattle.mail_calls.specs.Plans.{reading, set_plan, ground_in, plan_by, ask_plan, call_plan, unless_for, copies_plan, blobs_planned, fetch_by, placement_by}
 use Rattle.mail_calls.specs.declared.methods.CopyMethod.{CopyMethod}
 use Rattle.mail_calls.specs.declared.methods.CopyMethod.TheVariants.{Emails, Blobs}
@@ -53,30 +51,9 @@ get_keeps h call (invalid name) whole = idle_keeps h _ whole refl refl
 get_keeps h call too_large whole = idle_keeps h _ whole refl refl
 get_keeps h call (got t) whole = idle_keeps h _ whole refl refl
 
-changes_keep : (h : History) (call : Invocation) (o : change.Outcome) → IsWholeMail h
-    → Keeps h (changes_plan call o)
-changes_keep h call (change.invalid name) whole = idle_keeps h _ whole refl refl
-changes_keep h call change.cannot_tell whole = idle_keeps h _ whole refl refl
-changes_keep h call (change.replied reply) whole = idle_keeps h _ whole refl refl
-
-query_keeps : (h : History) (call : Invocation) (o : queries.Outcome) → IsWholeMail h
-    → Keeps h (query_plan call o)
-query_keeps h call (queries.invalid_call name) whole = idle_keeps h _ whole refl refl
-query_keeps h call (queries.unsupported_filter_call name) whole = idle_keeps h _ whole refl refl
-query_keeps h call (queries.unsupported_sort_call name) whole = idle_keeps h _ whole refl refl
-query_keeps h call queries.no_anchor whole = idle_keeps h _ whole refl refl
-query_keeps h call (queries.replied reply) whole = idle_keeps h _ whole refl refl
-
-query_changes_keep : (h : History) (call : Invocation) (o : query_change.Outcome) → IsWholeMail h
-    → Keeps h (query_changes_plan call o)
-query_changes_keep h call (query_change.invalid_call name) whole = idle_keeps h _ whole refl refl
-query_changes_keep h call (query_change.unsupported_filter_call name) whole =
-    idle_keeps h _ whole refl refl
-query_changes_keep h call (query_change.unsupported_sort_call name) whole =
-    idle_keeps h _ whole refl refl
-query_changes_keep h call query_change.cannot_tell whole = idle_keeps h _ whole refl refl
-query_changes_keep h call query_change.too_many_changes whole = idle_keeps h _ whole refl refl
-query_changes_keep h call (query_change.replied reply) whole = idle_keeps h _ whole refl refl
+outcome_keeps : (h : History) (call : Invocation) (o : method.Outcome) → IsWholeMail h
+    → Keeps h (outcome_plan call o)
+outcome_keeps h call o whole = idle_keeps h _ whole refl refl
 
 -- edits that are planned without blobs are planned with none that are brought
 without_blobs : (h : History) (edits : List Edit) (brought : List (List ℕ)) → brought ≡ []
@@ -199,13 +176,13 @@ by_method h P all call made read_only moment import whole (Some (Get kind)) =
     all (get_plan call g) (get_keeps h call g whole)
 by_method h P all call made read_only moment import whole (Some (Changes kind)) =
     let o = changes_outcome h kind call.args in
-    all (changes_plan call o) (changes_keep h call o whole)
+    all (outcome_plan call o) (outcome_keeps h call o whole)
 by_method h P all call made read_only moment import whole (Some (Query kind)) =
     let o = queried h kind call.args in
-    all (query_plan call o) (query_keeps h call o whole)
+    all (outcome_plan call o) (outcome_keeps h call o whole)
 by_method h P all call made read_only moment import whole (Some (QueryChanges kind)) =
     let o = query_changed h kind call.args in
-    all (query_changes_plan call o) (query_changes_keep h call o whole)
+    all (outcome_plan call o) (outcome_keeps h call o whole)
 by_method h P all call made read_only moment import whole (Some MailboxSet) =
     let o = mailbox_set_outcome (ground_in h) call.args made in
     all (set_plan call o) (set_keeps h call made o whole refl)

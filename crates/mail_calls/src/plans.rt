@@ -8,11 +8,11 @@ ghost use Rattle.mailbox_set.specs.Sets.{mailbox_set_outcome};
 ghost use Rattle.set_parts.specs.Outcomes.{ExplainsSet, Outcome, Plan as SetPlanned};
 ghost use Rattle.email_set.specs.Plans.{email_set_outcome};
 ghost use Rattle.mail_import.specs.Plans.{import_in};
-ghost use Rattle.change_calls.specs.Responses.{ExplainsCall, changes_outcome, replied};
-ghost use Rattle.read_replies.specs.Plans.{answered, changes_plan, get_plan, refused, response_to, queried, query_plan, query_changed, query_changes_plan};
+ghost use Rattle.change_calls.specs.Responses.{changes_outcome};
+ghost use Rattle.method_args.specs.Outcomes.{ExplainsCall, replied};
+ghost use Rattle.method_args.specs.Outcomes as method;
+ghost use Rattle.read_replies.specs.Plans.{answered, get_plan, outcome_plan, refused, response_to, queried, query_changed};
 ghost use Rattle.mail_calls.specs.Plans.{IsOutcomeOf, ground_in, method_plan, set_plan, unless_rejected};
-ghost use Rattle.query_engine.specs.Responses as queries;
-ghost use Rattle.query_changes.specs.Responses as query_change;
 ghost use Rattle.account_book.specs.Accounts.{IsBounded};
 ghost use Rattle.account_book.specs.Plans.{last_moment};
 ghost use Rattle.account_book.specs.declared.plans.Plan.{Plan as ThePlan};
@@ -20,7 +20,7 @@ ghost use Rattle.account_book.specs.declared.plans.Plan.{Plan as ThePlan};
 use crate::blobs::find_state;
 use crate::methods::{Method, read_method};
 use account_book::{Account, Out, Plan};
-use change_calls::{CallFault, answer_changes};
+use change_calls::answer_changes;
 use email_set::plan_email_set;
 use get_calls::{GetFault, get, parse};
 use jm_base::{Blobs, Kind, NoMemory};
@@ -30,8 +30,9 @@ use mail_import::plan_import;
 use mail_records::Edits;
 use mailbox_set::plan_mailbox_set;
 use message_texts::BlobTexts;
-use query_changes::{QueryChangesFault, answer_query_changes};
-use query_engine::{QueryCallFault, answer_query};
+use method_args::{MethodFault, build_response};
+use query_changes::answer_query_changes;
+use query_engine::answer_query;
 use std::alloc::Global;
 
 /// Returns the plan that answers one response, with what was created, the blobs and the edits.
@@ -93,6 +94,19 @@ fn plan_response(alloc: Global, call: &Invocation, args: Json) -> Result<Plan, N
     plan_reply(alloc, response)
 }
 
+// Returns the plan that answers a call for which a method returned this, and changes nothing.
+fn plan_outcome(
+    alloc: Global,
+    call: &Invocation,
+    returned: Result<Json, MethodFault>,
+) -> Result<Plan, NoMemory>
+    ensures { IfOk result (λ p. (o : method.Outcome) → method.IsOutcomeOf returned o
+        → p ≡ outcome_plan (call_of call.now) o) }
+{
+    let response = build_response(alloc, call, returned)?;
+    plan_reply(alloc, response)
+}
+
 // Returns the plan of a get of records of a kind (RFC 8621, sections 2.1, 3.1 and 4.2).
 fn plan_get(
     alloc: Global,
@@ -131,7 +145,7 @@ fn find_changes(
     account: &Account,
     kind: Kind,
     args: &Json,
-) -> Result<Json, CallFault>
+) -> Result<Json, MethodFault>
     ensures reply { IfOk result (λ j. changes_outcome account.now.history kind (tree_of args.now)
         ≡ replied (tree_of j)) }
     ensures fault { IfErr result (λ fault. ExplainsCall fault
@@ -148,15 +162,11 @@ fn plan_changes(
     account: &Account,
     call: &Invocation,
 ) -> Result<Plan, NoMemory>
-    ensures { IfOk result (λ p. p ≡ changes_plan (call_of call.now)
+    ensures { IfOk result (λ p. p ≡ outcome_plan (call_of call.now)
         (changes_outcome account.now.history kind (tree_of call.now.args))) }
 {
-    match find_changes(alloc, account, kind, &call.args) {
-        Ok(args) => plan_response(alloc, call, args),
-        Err(CallFault::Invalid(_)) => plan_error(alloc, call, "invalidArguments"),
-        Err(CallFault::CannotCalculate) => plan_error(alloc, call, "cannotCalculateChanges"),
-        Err(CallFault::NoMemory) => Err(NoMemory),
-    }
+    let returned = find_changes(alloc, account, kind, &call.args);
+    plan_outcome(alloc, call, returned)
 }
 
 // Returns the arguments of the response to a query of a kind.
@@ -165,10 +175,10 @@ fn find_results(
     account: &Account,
     kind: Kind,
     args: &Json,
-) -> Result<Json, QueryCallFault>
+) -> Result<Json, MethodFault>
     ensures reply { IfOk result (λ j. queried account.now.history kind (tree_of args.now)
-        ≡ queries.replied (tree_of j)) }
-    ensures fault { IfErr result (λ fault. queries.ExplainsCall fault
+        ≡ replied (tree_of j)) }
+    ensures fault { IfErr result (λ fault. ExplainsCall fault
         (queried account.now.history kind (tree_of args.now))) }
 {
     let texts = BlobTexts {
@@ -186,17 +196,11 @@ fn plan_query(
     account: &Account,
     call: &Invocation,
 ) -> Result<Plan, NoMemory>
-    ensures { IfOk result (λ p. p ≡ query_plan (call_of call.now)
+    ensures { IfOk result (λ p. p ≡ outcome_plan (call_of call.now)
         (queried account.now.history kind (tree_of call.now.args))) }
 {
-    match find_results(alloc, account, kind, &call.args) {
-        Ok(args) => plan_response(alloc, call, args),
-        Err(QueryCallFault::Invalid(_)) => plan_error(alloc, call, "invalidArguments"),
-        Err(QueryCallFault::UnsupportedFilter(_)) => plan_error(alloc, call, "unsupportedFilter"),
-        Err(QueryCallFault::UnsupportedSort(_)) => plan_error(alloc, call, "unsupportedSort"),
-        Err(QueryCallFault::AnchorNotFound) => plan_error(alloc, call, "anchorNotFound"),
-        Err(QueryCallFault::NoMemory) => Err(NoMemory),
-    }
+    let returned = find_results(alloc, account, kind, &call.args);
+    plan_outcome(alloc, call, returned)
 }
 
 // Returns the arguments of the response to a call for the changes of a query of a kind.
@@ -205,10 +209,10 @@ fn find_query_changes(
     account: &Account,
     kind: Kind,
     args: &Json,
-) -> Result<Json, QueryChangesFault>
+) -> Result<Json, MethodFault>
     ensures reply { IfOk result (λ j. query_changed account.now.history kind (tree_of args.now)
-        ≡ query_change.replied (tree_of j)) }
-    ensures fault { IfErr result (λ fault. query_change.ExplainsCall fault
+        ≡ replied (tree_of j)) }
+    ensures fault { IfErr result (λ fault. ExplainsCall fault
         (query_changed account.now.history kind (tree_of args.now))) }
 {
     let texts = BlobTexts {
@@ -227,26 +231,11 @@ fn plan_query_changes(
     account: &Account,
     call: &Invocation,
 ) -> Result<Plan, NoMemory>
-    ensures { IfOk result (λ p. p ≡ query_changes_plan (call_of call.now)
+    ensures { IfOk result (λ p. p ≡ outcome_plan (call_of call.now)
         (query_changed account.now.history kind (tree_of call.now.args))) }
 {
-    match find_query_changes(alloc, account, kind, &call.args) {
-        Ok(args) => plan_response(alloc, call, args),
-        Err(QueryChangesFault::Invalid(_)) => plan_error(alloc, call, "invalidArguments"),
-        Err(QueryChangesFault::UnsupportedFilter(_)) => plan_error(
-            alloc,
-            call,
-            "unsupportedFilter",
-        ),
-        Err(QueryChangesFault::UnsupportedSort(_)) => plan_error(alloc, call, "unsupportedSort"),
-        Err(QueryChangesFault::CannotCalculate) => plan_error(
-            alloc,
-            call,
-            "cannotCalculateChanges",
-        ),
-        Err(QueryChangesFault::TooMany) => plan_error(alloc, call, "tooManyChanges"),
-        Err(QueryChangesFault::NoMemory) => Err(NoMemory),
-    }
+    let returned = find_query_changes(alloc, account, kind, &call.args);
+    plan_outcome(alloc, call, returned)
 }
 
 /// Returns the plan that answers a set, an import or a copy that is rejected with this fault.

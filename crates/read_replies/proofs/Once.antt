@@ -9,10 +9,8 @@ use Rattle.mail_records.specs.Histories.{History, account_after}
 use Rattle.mail_records.specs.declared.edits.Edit.{Edit}
 use Rattle.mail_records.specs.declared.edits.Stamp.{Stamp}
 use Rattle.mail_view.specs.Gets.{Got, invalid, too_large, got, get_of_kind}
-use Rattle.change_calls.specs.Responses as change
+use Rattle.method_args.specs.Outcomes.{Outcome, cannot_tell, invalid_call, no_anchor, replied, response_of, too_many_changes, unsupported_filter_call, unsupported_sort_call}
 use Rattle.change_calls.specs.Responses.{changes_outcome}
-use Rattle.query_engine.specs.Responses as queries
-use Rattle.query_changes.specs.Responses as query_change
 use Rattle.account_book.specs.Replies.{IsIdle, IsReply, IsReplyTo}
 use Rattle.account_book.specs.declared.asks.Ask.{Ask}
 use Rattle.account_book.specs.declared.asks.Call.{Call as AccountCall}
@@ -20,7 +18,7 @@ use Rattle.account_book.specs.declared.plans.Out.{Out}
 use Rattle.account_book.specs.declared.plans.Plan.{Plan}
 use Rattle.account_book.specs.declared.plans.Point.{Point}
 use Rattle.server_users.specs.declared.users.UserAccount.{UserAccount}
-use Rattle.read_replies.specs.Plans.{refused, response_to, changes_plan, get_plan, queried, query_changed, query_changes_plan, query_plan}
+use Rattle.read_replies.specs.Plans.{refused, response_to, get_plan, outcome_plan, queried, query_changed}
 use Rattle.read_replies.specs.Reads.{AnswersOnce, PlansReads, ReadMethod, gets, changes, mailbox_query, email_query, mailbox_query_changes, email_query_changes, method_call, read_name, read_plan}
 use Rattle.read_replies.specs.Replies.{IsReadAt, replied_of}
 
@@ -32,38 +30,27 @@ get_once c (invalid name) = error_once c (codes "invalidArguments")
 get_once c too_large = error_once c (codes "requestTooLarge")
 get_once c (got t) = record { response = response_to c t; same = refl; id = refl }
 
-changes_once : (c : Call) (o : change.Outcome) → AnswersOnce c (changes_plan c o)
-changes_once c (change.invalid name) = error_once c (codes "invalidArguments")
-changes_once c change.cannot_tell = error_once c (codes "cannotCalculateChanges")
-changes_once c (change.replied t) = record { response = response_to c t; same = refl; id = refl }
+response_id : (c : Call) (o : Outcome) → (response_of c o).id ≡ c.id
+response_id c (replied reply) = refl
+response_id c (invalid_call name) = refl
+response_id c (unsupported_filter_call name) = refl
+response_id c (unsupported_sort_call name) = refl
+response_id c no_anchor = refl
+response_id c cannot_tell = refl
+response_id c too_many_changes = refl
 
-query_once : (c : Call) (o : queries.Outcome) → AnswersOnce c (query_plan c o)
-query_once c (queries.invalid_call name) = error_once c (codes "invalidArguments")
-query_once c (queries.unsupported_filter_call name) = error_once c (codes "unsupportedFilter")
-query_once c (queries.unsupported_sort_call name) = error_once c (codes "unsupportedSort")
-query_once c queries.no_anchor = error_once c (codes "anchorNotFound")
-query_once c (queries.replied t) = record { response = response_to c t; same = refl; id = refl }
-
-query_changes_once : (c : Call) (o : query_change.Outcome) → AnswersOnce c (query_changes_plan c o)
-query_changes_once c (query_change.invalid_call name) = error_once c (codes "invalidArguments")
-query_changes_once c (query_change.unsupported_filter_call name) =
-    error_once c (codes "unsupportedFilter")
-query_changes_once c (query_change.unsupported_sort_call name) =
-    error_once c (codes "unsupportedSort")
-query_changes_once c query_change.cannot_tell = error_once c (codes "cannotCalculateChanges")
-query_changes_once c query_change.too_many_changes = error_once c (codes "tooManyChanges")
-query_changes_once c (query_change.replied t) =
-    record { response = response_to c t; same = refl; id = refl }
+outcome_once : (c : Call) (o : Outcome) → AnswersOnce c (outcome_plan c o)
+outcome_once c o = record { response = response_of c o; same = refl; id = response_id c o }
 
 pub read_once : (h : History) (c : Call) (read_only : Bool) (method : ReadMethod)
     → AnswersOnce c (read_plan h c read_only method)
 read_once h c read_only (gets kind) = get_once c (get_of_kind kind h c.args read_only)
-read_once h c read_only (changes kind) = changes_once c (changes_outcome h kind c.args)
-read_once h c read_only mailbox_query = query_once c (queried h Mailbox c.args)
-read_once h c read_only email_query = query_once c (queried h Email c.args)
+read_once h c read_only (changes kind) = outcome_once c (changes_outcome h kind c.args)
+read_once h c read_only mailbox_query = outcome_once c (queried h Mailbox c.args)
+read_once h c read_only email_query = outcome_once c (queried h Email c.args)
 read_once h c read_only mailbox_query_changes =
-    query_changes_once c (query_changed h Mailbox c.args)
-read_once h c read_only email_query_changes = query_changes_once c (query_changed h Email c.args)
+    outcome_once c (query_changed h Mailbox c.args)
+read_once h c read_only email_query_changes = outcome_once c (query_changed h Email c.args)
 
 -- ---- the answer to an idle plan
 

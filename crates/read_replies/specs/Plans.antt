@@ -7,11 +7,9 @@ use Rattle.jm_json.specs.Tree.{Tree}
 use Rattle.mail_records.specs.Histories.{History, blobs_of, content_of}
 use Rattle.mail_records.specs.States.{state_of}
 use Rattle.mail_view.specs.Gets.{Got, invalid, too_large, got}
-use Rattle.change_calls.specs.Responses as change
+use Rattle.method_args.specs.Outcomes.{Outcome, response_of}
 use Rattle.message_texts.specs.Texts.{texts_of_blobs}
-use Rattle.query_engine.specs.Responses as queries
 use Rattle.query_engine.specs.Responses.{query_outcome}
-use Rattle.query_changes.specs.Responses as query_change
 use Rattle.query_changes.specs.Responses.{query_changes_outcome}
 use Rattle.account_book.specs.declared.plans.Out.TheVariants.{Replies}
 use Rattle.account_book.specs.declared.plans.Plan.{Plan}
@@ -38,37 +36,16 @@ get_plan c (invalid name) = refused c (codes "invalidArguments")
 get_plan c too_large = refused c (codes "requestTooLarge")
 get_plan c (got t) = answered (response_to c t)
 
--- the plan of a call for changes
-abbrev pub changes_plan : Invocation → change.Outcome → Plan
-changes_plan c (change.invalid name) = refused c (codes "invalidArguments")
-changes_plan c change.cannot_tell = refused c (codes "cannotCalculateChanges")
-changes_plan c (change.replied reply) = answered (response_to c reply)
+-- the plan of a call that is answered so, and changes nothing
+abbrev pub outcome_plan : Invocation → Outcome → Plan
+outcome_plan c o = answered (response_of c o)
 
 -- the outcome of a query of a kind over the account's content, where texts are those of its blobs
-abbrev pub queried : History → Kind → Tree → queries.Outcome
+abbrev pub queried : History → Kind → Tree → Outcome
 queried h kind args =
     query_outcome kind (state_of h kind) (content_of h) (texts_of_blobs (blobs_of h)) args
 
--- the plan of a query
-abbrev pub query_plan : Invocation → queries.Outcome → Plan
-query_plan c (queries.invalid_call name) = refused c (codes "invalidArguments")
-query_plan c (queries.unsupported_filter_call name) = refused c (codes "unsupportedFilter")
-query_plan c (queries.unsupported_sort_call name) = refused c (codes "unsupportedSort")
-query_plan c queries.no_anchor = refused c (codes "anchorNotFound")
-query_plan c (queries.replied reply) = answered (response_to c reply)
-
 -- the outcome of a call for the changes of a query of a kind over an account with this history,
 -- where texts are those of its blobs
-abbrev pub query_changed : History → Kind → Tree → query_change.Outcome
+abbrev pub query_changed : History → Kind → Tree → Outcome
 query_changed h kind args = query_changes_outcome h (texts_of_blobs (blobs_of h)) kind args
-
--- the plan of a call for the changes of a query
-abbrev pub query_changes_plan : Invocation → query_change.Outcome → Plan
-query_changes_plan c (query_change.invalid_call name) = refused c (codes "invalidArguments")
-query_changes_plan c (query_change.unsupported_filter_call name) =
-    refused c (codes "unsupportedFilter")
-query_changes_plan c (query_change.unsupported_sort_call name) =
-    refused c (codes "unsupportedSort")
-query_changes_plan c query_change.cannot_tell = refused c (codes "cannotCalculateChanges")
-query_changes_plan c query_change.too_many_changes = refused c (codes "tooManyChanges")
-query_changes_plan c (query_change.replied reply) = answered (response_to c reply)

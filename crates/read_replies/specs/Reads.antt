@@ -13,7 +13,7 @@ use Rattle.change_calls.specs.Responses.{changes_outcome}
 use Rattle.account_book.specs.declared.asks.Ask.TheVariants.{Method}
 use Rattle.account_book.specs.declared.asks.Call.{Call}
 use Rattle.account_book.specs.declared.plans.Plan.{Plan}
-use Rattle.read_replies.specs.Plans.{answered, changes_plan, get_plan, queried, query_changed, query_changes_plan, query_plan}
+use Rattle.read_replies.specs.Plans.{answered, get_plan, outcome_plan, queried, query_changed}
 
 -- the /get and /changes of each kind, and the /query and /queryChanges of mailboxes and emails
 pub data ReadMethod : Type 0 where
@@ -36,12 +36,11 @@ read_name email_query_changes = codes "Email/queryChanges"
 -- is read-only or not.
 abbrev pub read_plan : History → Invocation → Bool → ReadMethod → Plan
 read_plan h c read_only (gets kind) = get_plan c (get_of_kind kind h c.args read_only)
-read_plan h c read_only (changes kind) = changes_plan c (changes_outcome h kind c.args)
-read_plan h c read_only mailbox_query = query_plan c (queried h Mailbox c.args)
-read_plan h c read_only email_query = query_plan c (queried h Email c.args)
-read_plan h c read_only mailbox_query_changes =
-    query_changes_plan c (query_changed h Mailbox c.args)
-read_plan h c read_only email_query_changes = query_changes_plan c (query_changed h Email c.args)
+read_plan h c read_only (changes kind) = outcome_plan c (changes_outcome h kind c.args)
+read_plan h c read_only mailbox_query = outcome_plan c (queried h Mailbox c.args)
+read_plan h c read_only email_query = outcome_plan c (queried h Email c.args)
+read_plan h c read_only mailbox_query_changes = outcome_plan c (query_changed h Mailbox c.args)
+read_plan h c read_only email_query_changes = outcome_plan c (query_changed h Email c.args)
 
 -- the call on an account that a method call is, for a user to whom it is read-only or not
 abbrev pub method_call : TheInvocation → List Created → Bool → Call

@@ -1,6 +1,7 @@
 use Rattle.std.proofs.Common.{◌≡◌}
 use Rattle.jm_json.specs.Json.{tree_of}
-use Rattle.change_calls.specs.Responses.{ExplainsCall, changes_outcome, replied}
+use Rattle.change_calls.specs.Responses.{changes_outcome}
+use Rattle.method_args.specs.Outcomes.{ExplainsCall, replied}
 use Rattle.mail_calls.proofs.Changes.{err_at, kept, ok_at}
 use Rattle.mail_calls.proofs.plans.find_changes.Goals as goal
 

@@ -1,6 +1,6 @@
 use Rattle.std.proofs.Common.{◌≡◌}
 use Rattle.jm_json.specs.Json.{tree_of}
-use Rattle.query_changes.specs.Responses.{ExplainsCall, replied}
+use Rattle.method_args.specs.Outcomes.{ExplainsCall, replied}
 use Rattle.mail_calls.proofs.Queries.{err_changes, ok_changes}
 use Rattle.mail_calls.proofs.plans.find_query_changes.Goals as goal
 

@@ -1,6 +1,6 @@
 use Rattle.std.proofs.Common.{◌≡◌}
 use Rattle.jm_json.specs.Json.{tree_of}
-use Rattle.query_engine.specs.Responses.{ExplainsCall, replied}
+use Rattle.method_args.specs.Outcomes.{ExplainsCall, replied}
 use Rattle.mail_calls.proofs.Queries.{err_query, ok_query}
 use Rattle.mail_calls.proofs.plans.find_results.Goals as goal
 

@@ -1,0 +1,10 @@
+use Rattle.jm_json.specs.Invocations.{call_of}
+use Rattle.jm_json.specs.Json.{tree_of}
+use Rattle.change_calls.specs.Responses.{changes_outcome}
+use Rattle.mail_calls.proofs.Returned.{answered_so}
+use Rattle.mail_calls.proofs.plans.plan_changes.Goals as goal
+
+pub returns : goal.returns
+returns c =
+    answered_so c.plan_outcome.result (call_of c.args.call.now) c.find_changes-returned.result (changes_outcome c.args.account.now.history c.args.kind (tree_of c.args.call.now.args))
+    c.find_changes-returned.ensures.reply c.find_changes-returned.ensures.fault c.plan_outcome.ensures
