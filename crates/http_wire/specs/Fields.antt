@@ -1,5 +1,5 @@
 -- The fields of a head (RFC 9110, 5, 7.2 and 10.1.1; RFC 9112, 6 and 9.6).
-use Rattle.std.specs.Prelude.{ℕ, Bool, ◌&&◌, ◌||◌, ◌==◌, nat_lt, List, [], ◌∷◌, length, map, filter, codes, if◌then◌else◌}
+use Rattle.std.specs.Prelude.{ℕ, Bool, ◌&&◌, ◌||◌, ◌==◌, nat_lt, List, [], ◌∷◌, length, map, filter, codes, bytes_eq, if◌then◌else◌}
 use Rattle.std.specs.List.{list_all, list_any, onto_first}
 use Rattle.std.specs.Char.{is_ascii_alphanumeric}
 use Rattle.std.specs.Str.{str_eq_ignore_ascii_case}
@@ -34,6 +34,10 @@ parts_of (b ∷ bytes) = if b == 44 then [] ∷ parts_of bytes else onto_first b
 -- not count)
 abbrev pub lists_word : List ℕ → List ℕ → Bool
 lists_word word value = list_any (λ p. str_eq_ignore_ascii_case (trim_ows p) word) (parts_of value)
+
+-- a list of words has exactly this word
+abbrev pub lists_name : List ℕ → List ℕ → Bool
+lists_name name value = list_any (λ p. bytes_eq (trim_ows p) name) (parts_of value)
 
 -- The connection ends after this message: it is of HTTP/1.0, or a Connection field says `close`
 -- (RFC 9112, 9.3 and 9.6).

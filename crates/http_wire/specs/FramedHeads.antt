@@ -74,4 +74,5 @@ pub record IsMade (o : FramedHead) (body : List ℕ) (r : HttpRequest) : Type 0 
   pub target : r.target ≡ o.head.target
   pub fields : pairs r.fields ≡ pairs o.head.fields
   pub body_is : r.body ≡ body
+  pub minor : r.minor ≡ o.head.minor
   pub last : r.last ≡ is_last o.head.minor (pairs o.head.fields)

@@ -1,5 +1,5 @@
 -- What contracts see of what the fields say of the length of the body.
-use Rattle.std.specs.Prelude.{◌≡◌, ⊤, ℕ, ◌≤◌, ◌-◌, ◌^◌, min, List, codes}
+use Rattle.std.specs.Prelude.{◌≡◌, ℕ, ◌-◌, ◌^◌, min, List, codes}
 use Rattle.http_wire.specs.Framings.{Framing, InvalidLength, Chunked, NotSaid, Sized}
 use Rattle.http_wire.specs.declared.lengths.BodyLength.{BodyLength}
 use Rattle.http_wire.specs.declared.lengths.BodyLength.TheVariants.{Invalid as IsInvalid, NotSaid as IsNotSaid, Chunked as IsChunked, Sized as IsSized}

@@ -7,6 +7,7 @@ use Rattle.http_wire.specs.Fields.{has_host, is_last, expects_continue}
 use Rattle.http_wire.specs.Framings.{Framing, InvalidLength, Chunked, NotSaid, Sized, framing_of}
 use Rattle.http_parts.specs.Bodies.{Body, BodyInvalid, BodyTooLong, BodyUnfinished, Whole, sized_body}
 use Rattle.http_parts.specs.Chunks.{chunked_body}
+use Rattle.http_parts.specs.Plans.{kept_bytes}
 use Rattle.jm_edge.specs.Causes.{Rose}
 use Rattle.http_wire.specs.Responses.{continue_bytes}
 use Rattle.http_wire.specs.declared.request.HttpField.{HttpField}
@@ -120,6 +121,7 @@ pub record IsRequestOf (h : RequestHead) (body : List ℕ) (r : HttpRequest) : T
   pub target : r.target ≡ h.target
   pub fields : map (λ (f : HttpField). (f.name, f.value)) r.fields ≡ names_and_values h.fields
   pub body_is : r.body ≡ body
+  pub minor : r.minor ≡ h.minor
   pub last : r.last ≡ is_last h.minor (names_and_values h.fields)
 
 -- when the reading of a request may fail, after these bytes were read, with all that is known of
@@ -155,15 +157,17 @@ HasContinued result seen held_old held_new =
     ⊎ (¬ (IsDue seen) × Appends held_old held_new [])
 
 -- What a call that reads a request did: it read these bytes of the link, and what it returned is
--- the first message of `early` and these; after a request `early` has the bytes after it.
-pub record ReadsRequestFrom
+-- the first message of `early` and these, with its body or not, by what its fields are; after a
+-- request `early` has the bytes after it.
+pub record ReadsRequestFrom (keeps : List (List ℕ × List ℕ) → Bool)
     (early_old early_new : List ℕ) (left_old left_new held_old held_new : Option (List ℕ))
     (reads_old reads_new puts_old puts_new : ℕ) (result : Result HttpRequest WireFault) : Type 0
   where
     pub taken : List ℕ
     pub consumed : Consumes left_old left_new taken
     pub outcome : MatchResult result
-        (λ r. (h : RequestHead) × (body : List ℕ) × IsRequestOf h body r
+        (λ r. (h : RequestHead) × (body : List ℕ)
+        × IsRequestOf h (kept_bytes (keeps (names_and_values h.fields)) body) r
         × IsMessage requests (early_old ++ taken) (Complete h body early_new))
         (λ fault. MayFailWith fault (early_old ++ taken) left_new reads_old reads_new puts_old
         puts_new)

@@ -1,23 +1,17 @@
 -- The bytes of a response (RFC 9112, 4; RFC 9110, 15).
-use Rattle.std.specs.Prelude.{◌≡◌, ◌⊎◌, ℕ, Bool, List, [], ◌++◌, ◌==◌, length, take, codes, Option, if◌then◌else◌}
+use Rattle.std.specs.Prelude.{◌≡◌, ◌⊎◌, ℕ, Bool, List, [], ◌++◌, ◌==◌, ◌&&◌, nat_le, nat_lt, length, take, codes, Option, unwrap_or, if◌then◌else◌}
+use Rattle.http.specs.StatusCode.{reason_phrase as canonical_phrase}
 use Rattle.std.specs.Io.KnownBytes.{Appends}
 use Rattle.http_parts.specs.declared.fault.WireFault.{WireFault}
 use Rattle.http_parts.specs.declared.fault.WireFault.TheVariants.{WriteFault, NoMemory}
 use Rattle.std.specs.Fmt.{decimal}
 
--- the reason phrase of a status (RFC 9110, 15)
-abbrev pub reason_phrase : ℕ → List ℕ
+-- The reason phrase of a status (RFC 9110, 15), as the crate `http` has it. A number that is no
+-- status of three digits has none.
+unfoldable pub reason_phrase : ℕ → List ℕ
 reason_phrase status =
-    if status == 200 then codes "OK"
-    else if status == 201 then codes "Created"
-    else if status == 400 then codes "Bad Request"
-    else if status == 401 then codes "Unauthorized"
-    else if status == 404 then codes "Not Found"
-    else if status == 405 then codes "Method Not Allowed"
-    else if status == 413 then codes "Content Too Large"
-    else if status == 431 then codes "Request Header Fields Too Large"
-    else if status == 500 then codes "Internal Server Error"
-    else if status == 503 then codes "Service Unavailable"
+    if nat_le 100 status && nat_lt status 1000
+    then unwrap_or (canonical_phrase status) []
     else []
 
 -- a line with its CR LF

@@ -3,7 +3,7 @@ ghost use Rattle.std.specs.Prelude.{◌≡◌, ◌∷◌, ◌+◌, ◌<◌, [], 
 ghost use Rattle.std.specs.List.{list_all, list_any};
 ghost use Rattle.std.specs.Str.{str_eq_ignore_ascii_case};
 ghost use Rattle.httparse.specs.Grammar.{is_ows, skip_ows, trim_ows};
-ghost use Rattle.http_wire.specs.Fields.{pairs, values_of, is_host_byte, has_host, parts_of, lists_word, is_last, expects_continue};
+ghost use Rattle.http_wire.specs.Fields.{pairs, values_of, is_host_byte, has_host, parts_of, lists_name, lists_word, is_last, expects_continue};
 
 use crate::fields::{find_next, has_field, is_same_word};
 use crate::request::HttpField;
@@ -119,8 +119,9 @@ fn find_comma(bytes: &[u8]) -> Option<usize>
     memchr(b',', bytes)
 }
 
-// Returns whether a list of words has this word, in either case.
-fn lists_word(value: &[u8], word: &[u8]) -> bool
+/// Returns whether a value that is a list of words has this word, in either case. Words are
+/// separated by commas, and spaces and tabs around a word do not count (RFC 9110, section 5.6.1).
+pub fn lists_word(value: &[u8], word: &[u8]) -> bool
     ensures { result ≡ lists_word word.now value.now }
 {
     let mut rest = value;
@@ -130,6 +131,24 @@ fn lists_word(value: &[u8], word: &[u8]) -> bool
         };
         let (part, _) = rest.split_at(at);
         if is_same_word(trim_blanks(part), word) {
+            return true;
+        }
+        let (_, next) = rest.split_at(at + 1);
+        rest = next;
+    }
+}
+
+/// Returns whether a value that is a list of words has exactly this word.
+pub fn lists_name(value: &[u8], name: &[u8]) -> bool
+    ensures { result ≡ lists_name name.now value.now }
+{
+    let mut rest = value;
+    'part: loop {
+        let Some(at) = find_comma(rest) else {
+            return trim_blanks(rest) == name;
+        };
+        let (part, _) = rest.split_at(at);
+        if trim_blanks(part) == name {
             return true;
         }
         let (_, next) = rest.split_at(at + 1);

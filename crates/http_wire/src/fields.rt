@@ -12,11 +12,9 @@ pub(crate) fn is_same_word(word: &[u8], other: &[u8]) -> bool
     word.eq_ignore_ascii_case(other)
 }
 
-// Finds the first field of this name. Returns its value, and the fields after it.
-pub(crate) fn find_next<'a>(
-    fields: &'a [HttpField],
-    name: &[u8],
-) -> Option<(&'a [u8], &'a [HttpField])>
+/// Finds the first field of this name, in either case. Returns its value, and the fields after it
+/// (RFC 9110, section 5.1).
+pub fn find_next<'a>(fields: &'a [HttpField], name: &[u8]) -> Option<(&'a [u8], &'a [HttpField])>
     ensures value { MatchOption result (values_of name.now (pairs fields.now) ≡ []) (λ r. values_of
         name.now (pairs fields.now) ≡ r.0.now ∷ values_of name.now (pairs r.1.now)) }
     ensures shorter { IfSome result (λ r. length r.1.now < length fields.now) }
@@ -31,8 +29,8 @@ pub(crate) fn find_next<'a>(
     None
 }
 
-// Returns whether there is a field of this name.
-pub(crate) fn has_field(fields: &[HttpField], name: &[u8]) -> bool
+/// Returns whether there is a field of this name, in either case.
+pub fn has_field(fields: &[HttpField], name: &[u8]) -> bool
     ensures { result ≡ nat_lt 0 (length (values_of name.now (pairs fields.now))) }
 {
     match find_next(fields, name) {

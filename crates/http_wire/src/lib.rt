@@ -10,13 +10,17 @@ mod connection;
 mod fields;
 mod framed_head;
 mod head_parser;
+mod keeping;
 mod laws;
 mod lengths;
 mod request;
 mod requests;
 mod responses;
 
+pub use connection::{lists_name, lists_word};
+pub use fields::{find_next, has_field};
 pub use head_parser::{ParsedHead, parse_head};
+pub use keeping::{KeepAll, KeepsBody};
 pub use laws::keep_messages;
 pub use lengths::{BodyLength, find_length, plan_body};
 pub use request::{HttpField, HttpFields, HttpRequest};

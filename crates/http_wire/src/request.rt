@@ -19,6 +19,9 @@ pub struct HttpRequest {
     pub fields: HttpFields,
     pub body: Bytes,
 
+    /// The minor version of HTTP/1.
+    pub minor: u8,
+
     /// The connection ends after the response.
     pub last: bool,
 }

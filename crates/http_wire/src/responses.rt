@@ -5,27 +5,23 @@ ghost use Rattle.std.specs.Io.KnownBytes.{Appends};
 ghost use Rattle.jm_edge.specs.Causes.{HasCause, Rose};
 ghost use Rattle.http_wire.specs.Responses.{reason_phrase, http_line, first_lines, challenge, closing, response_head, response_bytes, IsPrefixWritten, IsCutShort};
 
+use http::StatusCode;
 use http_parts::WireFault;
 use jm_base::NoMemory;
 use jm_edge::{Link, put_to_link};
 use std::alloc::Global;
 
 // Returns the reason phrase of a status.
+#[tactic(auto, unfolding(crate::specs::Responses::reason_phrase))]
 fn find_reason_phrase(status: u16) -> &'static str
     ensures { result.now ≡ reason_phrase status }
 {
-    match status {
-        200 => "OK",
-        201 => "Created",
-        400 => "Bad Request",
-        401 => "Unauthorized",
-        404 => "Not Found",
-        405 => "Method Not Allowed",
-        413 => "Content Too Large",
-        431 => "Request Header Fields Too Large",
-        500 => "Internal Server Error",
-        503 => "Service Unavailable",
-        _ => "",
+    let Ok(code) = StatusCode::from_u16(status) else {
+        return "";
+    };
+    match code.canonical_reason() {
+        Some(phrase) => phrase,
+        None => "",
     }
 }
 

@@ -1,7 +1,7 @@
 // How many bytes of a request a link gave before it ended. Empty lines before the request line are
 // not counted (docs/rules/http.md); what is counted is counted by hand.
 use http_parts::{Unread, WireFault};
-use http_wire::read_request;
+use http_wire::{KeepAll, read_request};
 use jm_edge::MemoryLink;
 use std::alloc::Global;
 use std::test::Fail;
@@ -20,7 +20,7 @@ const ENDS: &[(&[u8], WireFault)] = &[
 fn find_fault(alloc: Global, mut link: MemoryLink) -> Option<WireFault> {
     let mut room = [0u8; 64];
     let mut early = Unread::new(alloc);
-    match read_request(alloc, &mut link, &mut room, &mut early) {
+    match read_request(alloc, &mut link, &mut room, &mut early, &KeepAll) {
         Ok(_) => None,
         Err(fault) => Some(fault),
     }
