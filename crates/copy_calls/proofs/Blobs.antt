@@ -14,7 +14,7 @@ use Rattle.mail_view.specs.Records.{first_mentions}
 use Rattle.copy_calls.specs.BlobCopies.{BlobCopying, after_blob, after_blobs, after_bytes, blob_ids_in, blob_plan_by, delivered_for, no_blobs}
 use Rattle.mail_copies.specs.Carried.{Delivery, deliveries}
 use Rattle.mail_copies.specs.Copies.{first_delivery}
-use Rattle.mail_copies.proofs.Room.{few_with}
+use Rattle.email_creates.proofs.Room.{few_with}
 
 -- ---- one id more
 

@@ -12,7 +12,7 @@ use Rattle.jm_base.proofs.WrittenDates.{date_reads_back}
 use Rattle.jm_json.specs.Tree.{null, text}
 use Rattle.jm_json.specs.Find.{as_text}
 use Rattle.mail_records.specs.declared.records.Email.{Email}
-use Rattle.mail_import.specs.Properties.{date_of}
+use Rattle.email_creates.specs.Properties.{date_of}
 use Rattle.mail_view.specs.View.{has_date_text, received_tree}
 use Rattle.set_parts.specs.Names.{only_if}
 use Rattle.mail_copies.specs.Carried.{carried_date, kept_date}

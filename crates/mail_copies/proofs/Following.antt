@@ -1,39 +1,27 @@
--- A planner keeps in step with the course of copies.
-use Rattle.std.proofs.Common.{◌≡◌, ℕ, suc, zero, ◌+◌, ◌<◌, ◌≤◌, Bool, cond, List, [], ◌∷◌, ◌++◌, length, map, drop, get_or, Option, Some, None, refl, sym, ap, ap₂, ◌∙◌, arith, codes}
-use Rattle.std.specs.Option.{option_or}
+-- The steps of copies, by what the code knows of them.
+use Rattle.std.proofs.Common.{◌≡◌, ℕ, suc, zero, ◌+◌, ◌<◌, Bool, List, [], ◌∷◌, ◌++◌, length, map, drop, get_or, Option, Some, Result, Ok, Err, OnOk, refl, sym, ap, ap₂, ◌∙◌, arith, codes}
 use Rattle.std.proofs.lemmas.List.{drop_more}
-use Rattle.blob_store.specs.Blobs.{byte_count, has_room}
-use Rattle.blob_store.specs.declared.limits.TheConstants.{MAX_BLOB_BYTES_PER_ACCOUNT}
+use Rattle.blob_store.specs.Blobs.{has_room}
 use Rattle.jm_json.specs.Find.{find as find_member}
 use Rattle.jm_json.specs.Tree.{Tree}
 use Rattle.jm_json.specs.declared.invocation.Created.{Created}
 use Rattle.mail_records.specs.Contents.{Content, mailbox_number}
 use Rattle.mail_records.specs.declared.records.Mailbox.{Mailbox}
 use Rattle.set_parts.specs.Arguments.{Create}
-use Rattle.set_parts.specs.Creates.{Creating}
 use Rattle.set_parts.specs.Names.{mailboxes_in}
 use Rattle.set_parts.specs.Views.{create_of}
 use Rattle.set_parts.specs.declared.set_errors.SetError.{SetError}
-use Rattle.set_parts.specs.declared.set_errors.SetError.TheVariants.{OverQuota}
 use Rattle.set_parts.specs.declared.arguments.SentCreate.{SentCreate}
-use Rattle.mail_import.specs.Imports.{Progress, after_check, email_of, error_of}
-use Rattle.mail_import.specs.Properties.{NamedBlob, Sent}
-use Rattle.mail_import.specs.Views.{HasNumbersFor}
+use Rattle.email_creates.specs.Emails.{Progress, after_check, email_of, next_blob}
+use Rattle.email_creates.specs.Errors.{error_of, with_invalid}
+use Rattle.email_creates.specs.declared.properties.Sent.{Sent}
 use Rattle.mail_copies.specs.Carried.{Delivery, carried_date, carried_keywords}
-use Rattle.mail_copies.specs.Copies.{after_copies, after_copy, delivery_for, error_of_copy, first_delivery, keywords_or, next_blob, properties_in, received_or}
-use Rattle.mail_copies.specs.Views.{HasRoomFor}
-use Rattle.mail_copies.specs.declared.planner.Copier.{Copier}
-use Rattle.mail_copies.proofs.Room.{count-push}
+use Rattle.mail_copies.specs.Copies.{after_copies, after_copy, after_found, delivery_for, error_of_copy, first_delivery, keywords_or, properties_in, received_or}
 
--- ---- room for more
-
-pub room-created : (n : ℕ) (p q : Copier) (bytes : List ℕ) → HasNumbersFor n q.planner → q.planner.creates.blobs ≡ p.planner.creates.blobs ++ bytes ∷ [] → q.blob_bytes ≡ p.blob_bytes + length bytes
-    → p.blob_bytes + length bytes ≤ MAX_BLOB_BYTES_PER_ACCOUNT → HasRoomFor (n + 1) p → HasRoomFor n q
-room-created n p q bytes numbers blobs counts few h =
-    let counted = ap byte_count blobs ∙ count-push p.planner.creates.blobs bytes in
-    record { numbers = numbers; bytes = omega (arith, counted, counts, h.bytes); few = omega (arith, few, counts) }
-
--- ---- the steps of copies
+-- two clauses of a call make one
+pub on_ok_both : {T E : Type 0} (r : Result T E) (P Q R : Type 0) → (P → Q → R) → OnOk r P → OnOk r Q → OnOk r R
+on_ok_both (Ok v) P Q R f g h = f g h
+on_ok_both (Err e) P Q R f g h = h
 
 one_more : (i : ℕ) → suc (i + 1) ≡ suc i + 1
 one_more i = omega arith
@@ -44,28 +32,23 @@ drop_one zero (x ∷ xs) = refl
 drop_one {A} (suc i) [] = ap (λ n. let none : List A = [] in drop n none) (one_more i)
 drop_one {A} (suc i) (x ∷ xs) = drop_one i xs ∙ ap (λ n. let all : List A = x ∷ xs in drop n all) (one_more i)
 
--- one copy, by what the code knows of it
-abbrev properties_by : List Created → ℕ → List (List ℕ × Tree) → Tree → NamedBlob → List Mailbox → Sent
-properties_by made moment ms item m rows = record {
-  blob = Some m;
+-- the properties of a copy, by the mailboxes alone
+abbrev properties_by : List Created → ℕ → List (List ℕ × Tree) → Tree → List Mailbox → Sent
+properties_by made moment ms item rows = record {
   keywords = keywords_or (carried_keywords item) (find_member (codes "keywords") ms);
   mailboxes = mailboxes_in (map mailbox_number rows) made (find_member (codes "mailboxIds") ms);
   received = received_or (carried_date moment item) (find_member (codes "receivedAt") ms);
 }
 
-pub copy_step : (blobs : List (List ℕ)) (moment : ℕ) (s : Progress) (x : Create) (d : Delivery) (c : Content) (a : Sent) (m : NamedBlob) (n : ℕ) (room : Bool) (o : Option SetError) → s.creating.content.mailboxes ≡ c.mailboxes
-    → m ≡ next_blob (blobs ++ s.creating.blobs) d.bytes → a ≡ properties_in c s.creating.made moment x.members d.item m → length s.creating.content.emails ≡ n → room ≡ has_room (length d.bytes) (blobs ++ s.creating.blobs)
-    → option_or (error_of n a) (cond room None (Some OverQuota)) ≡ o → after_copy blobs moment s x (Some d) ≡ after_check s x.creation (email_of s moment a m) (Some m.bytes) o
-copy_step blobs moment s x d c a m n room o mailboxes message sent count roomy error =
-    let bs : List (List ℕ) = blobs ++ s.creating.blobs in
-    let p : Creating = s.creating in
-    let now : NamedBlob = next_blob bs d.bytes in
-    let is : properties_in p.content p.made moment x.members d.item now ≡ a =
-    ap (properties_by p.made moment x.members d.item now) mailboxes
-    ∙ (ap (properties_in c p.made moment x.members d.item) (sym message) ∙ sym sent) in
-    ap₂ (λ (b : Sent) (k : NamedBlob). after_check s x.creation (email_of s moment b k) (Some k.bytes) (error_of_copy (length p.content.emails) bs b (length d.bytes))) is (sym message)
-    ∙ ap (after_check s x.creation (email_of s moment a m) (Some m.bytes))
-    (ap₂ (λ (k : ℕ) (b : Bool). option_or (error_of k a) (cond b None (Some OverQuota))) count (sym roomy) ∙ error)
+pub copy_step : (blobs : List (List ℕ)) (moment : ℕ) (s : Progress) (x : Create) (d : Delivery) (c : Content) (a : Sent) (n : ℕ) (invalid : List (List ℕ)) (room : Bool) (o : Option SetError) → s.creating.content.mailboxes ≡ c.mailboxes
+    → a ≡ properties_in c s.creating.made moment x.members d.item → length s.creating.content.emails ≡ n → invalid ≡ with_invalid [] a → room ≡ has_room (length d.bytes) (blobs ++ s.creating.blobs)
+    → error_of invalid a n room ≡ o → after_copy blobs moment s x (Some d) ≡ after_check s x.creation (email_of s moment a (next_blob (blobs ++ s.creating.blobs) d.bytes)) (Some d.bytes) o
+copy_step blobs moment s x d c a n invalid room o mailboxes sent count names roomy error =
+    let is : properties_in s.creating.content s.creating.made moment x.members d.item ≡ a = ap (properties_by s.creating.made moment x.members d.item) mailboxes ∙ sym sent in
+    let all : List (List ℕ) = blobs ++ s.creating.blobs in
+    ap (λ (b : Sent). after_found blobs moment s x.creation b d.bytes) is
+    ∙ ap (after_check s x.creation (email_of s moment a (next_blob all d.bytes)) (Some d.bytes))
+    (ap₂ (λ (k : ℕ) (b : Bool). error_of_copy k b a) count (sym roomy) ∙ (ap (λ (xs : List (List ℕ)). error_of xs a n room) (sym names) ∙ error))
 
 pub copies_step : (blobs : List (List ℕ)) (moment : ℕ) (s : Progress) (xs : List SentCreate) (ds : List (Option Delivery)) (i : ℕ) (x : SentCreate) (d : Option Delivery) → i < length xs → x ≡ get_or xs i x
     → d ≡ first_delivery (drop i ds)

@@ -1,6 +1,5 @@
 pub mod Delivered
-pub mod Room
+pub mod Accepted
 pub mod Following
 pub mod Planning
-pub mod Accepted
 pub mod Promised

@@ -9,7 +9,7 @@ use Rattle.jm_json.specs.Tree.{Tree}
 use Rattle.jm_json.specs.Find.{as_text}
 use Rattle.method_args.specs.Arguments.{is_null}
 use Rattle.mail_counts.specs.Touched.{sorted_once}
-use Rattle.mail_import.specs.Properties.{date_named, date_of}
+use Rattle.email_creates.specs.Properties.{date_named, date_of}
 use Rattle.set_parts.specs.Names.{keyword_meant, only_if, set_in}
 use Rattle.set_parts.specs.Responses.{member_named}
 

@@ -1,20 +1,21 @@
 -- One copy: why it is rejected, and the email and the blob that it creates (RFC 8620, 5.4; RFC
--- 8621, 4.7). What it shares with an import is defined there.
-use Rattle.std.specs.Prelude.{ℕ, ◌+◌, List, [], ◌∷◌, ◌++◌, drop, length, map, Option, Some, None, option_and_then, if◌then◌else◌, codes}
-use Rattle.std.specs.Option.{option_or}
+-- 8621, 4.7). What it shares with other creates of emails is defined in `email_creates`.
+use Rattle.std.specs.Prelude.{ℕ, List, [], ◌∷◌, ◌++◌, drop, length, map, Bool, Option, Some, None, option_and_then, codes}
 use Rattle.jm_base.specs.declared.identifiers.UtcDate.{UtcDate}
 use Rattle.jm_json.specs.Tree.{Tree}
 use Rattle.jm_json.specs.Find.{find}
 use Rattle.jm_json.specs.declared.invocation.Created.{Created}
 use Rattle.blob_store.specs.Blobs.{has_room}
 use Rattle.mail_records.specs.Contents.{Content, mailbox_number}
-use Rattle.mail_import.specs.Imports.{Progress, after_check, after_rejected, email_of, error_of}
-use Rattle.mail_import.specs.Properties.{NamedBlob, Sent, received_in}
+use Rattle.email_creates.specs.Emails.{Progress, after_check, after_rejected, email_of, next_blob}
+use Rattle.email_creates.specs.Errors.{error_of, with_invalid}
+use Rattle.email_creates.specs.Properties.{received_in}
+use Rattle.email_creates.specs.declared.properties.Sent.{Sent}
 use Rattle.method_args.specs.Arguments.{text_in}
 use Rattle.set_parts.specs.Arguments.{Create}
 use Rattle.set_parts.specs.Names.{keywords_in, mailboxes_in}
 use Rattle.set_parts.specs.declared.set_errors.SetError.{SetError}
-use Rattle.set_parts.specs.declared.set_errors.SetError.TheVariants.{NotFound, OverQuota}
+use Rattle.set_parts.specs.declared.set_errors.SetError.TheVariants.{NotFound}
 use Rattle.mail_copies.specs.Carried.{Delivery, carried_date, carried_keywords}
 
 -- ---- the properties of the copy
@@ -31,46 +32,37 @@ received_or original (Some t) = received_in (Some t)
 
 -- The properties of the copy of an original with this item (RFC 8620, 5.4: the members of a create
 -- replace the original's; RFC 8621, 4.7: mailboxIds, keywords and receivedAt). Mailboxes must be
--- sent. Its message is a blob of its own. Members of other names are ignored.
-abbrev pub properties_in : Content → List Created → ℕ → List (List ℕ × Tree) → Tree → NamedBlob
-    → Sent
-properties_in c made moment ms item message = record {
-  blob = Some message;
+-- sent. Members of other names are ignored.
+abbrev pub properties_in : Content → List Created → ℕ → List (List ℕ × Tree) → Tree → Sent
+properties_in c made moment ms item = record {
   keywords = keywords_or (carried_keywords item) (find (codes "keywords") ms);
   mailboxes = mailboxes_in (map mailbox_number c.mailboxes) made (find (codes "mailboxIds") ms);
   received = received_or (carried_date moment item) (find (codes "receivedAt") ms);
 }
 
--- ---- errors
+-- ---- a copy after those before it: copies come as far as creates do, and bring blobs
 
 -- The error of the copy of an original that was found, with these properties, which would be one
--- more of so many emails, and whose blob one more of these: the first one in this order, which ends
--- in OverQuota (RFC 8620, 5.3 and 5.4). None if the copy is made.
-abbrev pub error_of_copy : ℕ → List (List ℕ) → Sent → ℕ → Option SetError
-error_of_copy emails blobs a size =
-    option_or (error_of emails a) (if has_room size blobs then None else Some OverQuota)
+-- more of so many emails, and for whose message there is room among the blobs or not: the first of
+-- `invalidProperties`, `tooManyKeywords`, `tooManyMailboxes` and `overQuota` (RFC 8620, 5.3 and
+-- 5.4). None if the copy is made.
+abbrev pub error_of_copy : ℕ → Bool → Sent → Option SetError
+error_of_copy emails room a = error_of (with_invalid [] a) a emails room
 
--- ---- a copy after those before it: copies come as far as imports do, and bring blobs
-
--- the blob that a message becomes, after these blobs
-abbrev pub next_blob : List (List ℕ) → List ℕ → NamedBlob
-next_blob blobs bytes = record { number = length blobs + 1; bytes = bytes }
-
--- After a copy of an original that was found, with these properties, whose message is this blob: it
--- is rejected, or its email is created and brings the message.
-abbrev pub after_found : List (List ℕ) → ℕ → Progress → List ℕ → Sent → NamedBlob → Progress
-after_found blobs moment s creation a message =
-    after_check s creation (email_of s moment a message) (Some message.bytes)
-    (error_of_copy (length s.creating.content.emails) (blobs ++ s.creating.blobs) a
-    (length message.bytes))
+-- After a copy of an original that was found, with these properties and this message: it is
+-- rejected, or its email is created and brings the message as a blob of its own.
+abbrev pub after_found : List (List ℕ) → ℕ → Progress → List ℕ → Sent → List ℕ → Progress
+after_found blobs moment s creation a bytes =
+    let all = blobs ++ s.creating.blobs in
+    after_check s creation (email_of s moment a (next_blob all bytes)) (Some bytes)
+    (error_of_copy (length s.creating.content.emails) (has_room (length bytes) all) a)
 
 -- After a copy into an account with these blobs, at this timestamp in Unix seconds.
 abbrev pub after_copy : List (List ℕ) → ℕ → Progress → Create → Option Delivery → Progress
 after_copy blobs moment s x None = after_rejected s x.creation NotFound
 after_copy blobs moment s x (Some d) =
-    let message = next_blob (blobs ++ s.creating.blobs) d.bytes in
     after_found blobs moment s x.creation
-    (properties_in s.creating.content s.creating.made moment x.members d.item message) message
+    (properties_in s.creating.content s.creating.made moment x.members d.item) d.bytes
 
 -- What is delivered for a create: nothing if its `id` is no string.
 abbrev pub delivery_for : Create → Option Delivery → Option Delivery

@@ -1,35 +1,20 @@
 -- The response to an Email/copy, its edits and the blobs that it brings (RFC 8620, 5.4; RFC 8621,
 -- 4.7).
-use Rattle.std.specs.Prelude.{ℕ, List, [], ◌∷◌, codes}
-use Rattle.jm_base.specs.Ids.{state_text}
+use Rattle.std.specs.Prelude.{ℕ, List, Some}
 use Rattle.jm_base.specs.declared.identifiers.Kind.TheVariants.{Email as OfEmail}
-use Rattle.jm_json.specs.Tree.{Tree, text, object, fields_of}
+use Rattle.jm_json.specs.Tree.{Tree}
 use Rattle.jm_json.specs.declared.invocation.Created.{Created}
 use Rattle.account_book.specs.declared.asks.Carried.{Carried}
 use Rattle.mail_records.specs.Contents.{Content}
 use Rattle.mail_records.specs.Histories.{History, blobs_of}
-use Rattle.mail_counts.specs.Plans.{Ground, ground_of_history, present_state, state_after}
-use Rattle.mail_import.specs.Imports.{Progress}
-use Rattle.mail_import.specs.Plans.{all_edits, beginning}
+use Rattle.mail_counts.specs.Plans.{Ground, ground_of_history, present_state}
 use Rattle.set_parts.specs.Arguments.{account_in, creates_in}
 use Rattle.set_parts.specs.Outcomes.{Outcome, Plan, outcome_by}
-use Rattle.method_args.specs.Wrapped.{object_or_null}
+use Rattle.email_creates.specs.Emails.{Progress}
+use Rattle.email_creates.specs.Plans.{beginning, plan_after}
 use Rattle.mail_copies.specs.Arguments.{count_copies, forms, from_account_in}
 use Rattle.mail_copies.specs.Carried.{deliveries}
 use Rattle.mail_copies.specs.Copies.{after_copies}
-
--- the arguments of the response: both accounts, the states before and after, what was created, and
--- what was not
-abbrev pub reply_members : List ℕ → List ℕ → ℕ → ℕ → List (List ℕ × Tree) → List (List ℕ × Tree)
-    → List (List ℕ × Tree)
-reply_members account from before after created not_created =
-    (codes "accountId", text account)
-    ∷ (codes "created", object_or_null created)
-    ∷ (codes "fromAccountId", text from)
-    ∷ (codes "newState", text (state_text after))
-    ∷ (codes "notCreated", object_or_null not_created)
-    ∷ (codes "oldState", text (state_text before))
-    ∷ []
 
 -- The copies of a call: its creates, in byte order of their creation ids, each with what is
 -- delivered for it.
@@ -39,22 +24,12 @@ copying_in c blobs carried made moment ms =
     after_copies blobs moment (beginning c made) (creates_in ms)
     (deliveries carried.emails carried.blobs)
 
--- The plan of copies from an account. The blobs are the messages of the emails that are created.
-abbrev pub plan_after : Ground → List ℕ → List ℕ → Progress → Plan
-plan_after g account from s = record {
-  reply = object (fields_of
-      (reply_members account from (present_state OfEmail g)
-      (state_after OfEmail g (all_edits g.content s)) s.creating.created s.creating.not_created));
-  edits = all_edits g.content s;
-  made = s.creating.fresh;
-  blobs = s.creating.blobs;
-}
-
--- the plan of copies that are not rejected as a whole
+-- The plan of copies that are not rejected as a whole. The blobs are the messages of the emails
+-- that are created.
 abbrev pub plan_in : Ground → List (List ℕ) → Carried → List Created → ℕ
     → List (List ℕ × Tree) → Plan
 plan_in g blobs carried made moment ms =
-    plan_after g (account_in ms) (from_account_in ms)
+    plan_after g (account_in ms) (Some (from_account_in ms))
     (copying_in g.content blobs carried made moment ms)
 
 -- The outcome of an Email/copy with these arguments and what is carried, in the account to which

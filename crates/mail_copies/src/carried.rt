@@ -6,16 +6,16 @@ ghost use Rattle.jm_json.specs.Find.{as_text};
 ghost use Rattle.mail_counts.specs.Touched.{sorted_once};
 ghost use Rattle.jm_json.specs.Json.{member_of, tree_of};
 ghost use Rattle.method_args.specs.Arguments.{is_null};
-ghost use Rattle.set_parts.specs.Names.{is_true, meanings};
+ghost use Rattle.set_parts.specs.Names.{meanings};
 ghost use Rattle.set_parts.specs.Responses.{member_named};
 ghost use Rattle.mail_copies.specs.Carried.{carried_date, carried_keywords, deliveries, kept_date, kept_keyword};
 ghost use Rattle.mail_copies.specs.Copies.{first_delivery};
 ghost use Rattle.mail_copies.specs.Views.{delivery_of};
 
-use crate::dates::read_date;
+use email_creates::read_date;
 use jm_base::{Bytes, NoMemory, Text, Texts, UtcDate, utc_text};
 use jm_json::{Json, Member};
-use set_parts::{read_keyword, sort_names};
+use set_parts::{is_true, read_keyword, sort_names};
 use std::alloc::Global;
 
 /// An original that is carried: its item, and the bytes of its blob.
@@ -31,15 +31,6 @@ fn is_null(value: &Json) -> bool
     match value {
         Json::Null => true,
         Json::Bool(_) | Json::Int(_) | Json::Text(_) | Json::List(_) | Json::Object(_) => false,
-    }
-}
-
-fn is_true(value: &Json) -> bool
-    ensures { result ≡ is_true (tree_of value.now) }
-{
-    match value {
-        Json::Bool(truth) => *truth,
-        Json::Null | Json::Int(_) | Json::Text(_) | Json::List(_) | Json::Object(_) => false,
     }
 }
 

@@ -8,14 +8,9 @@
 mod arguments;
 mod carried;
 mod copy;
-mod dates;
-mod errors;
 mod place;
-mod planner;
 mod properties;
-mod response;
 
 pub use arguments::{check_fetch, read_from_account};
 pub use carried::{Delivery, collect_deliveries, pick_delivery};
-pub use errors::has_room;
 pub use place::{place_emails, plan_place};

@@ -20,69 +20,24 @@ ghost use Rattle.set_parts.specs.Views.{create_of};
 ghost use Rattle.state_log.specs.Logs.{log_end};
 ghost use Rattle.mail_copies.specs.Arguments.{count_copies, forms};
 ghost use Rattle.mail_copies.specs.Copies.{after_copies};
-ghost use Rattle.mail_copies.specs.Plans.{place_in, place_outcome, plan_after, plan_in};
-ghost use Rattle.mail_import.specs.Imports.{Progress};
-ghost use Rattle.mail_import.specs.Plans.{beginning};
-ghost use Rattle.mail_import.specs.Views.{Follows};
+ghost use Rattle.mail_copies.specs.Plans.{place_in, place_outcome, plan_in};
+ghost use Rattle.email_creates.specs.Plans.{beginning};
+ghost use Rattle.email_creates.specs.Views.{Follows};
 ghost use Rattle.mail_copies.specs.Views.{delivery_of};
 
 use crate::arguments::{check_place, read_from_account};
 use crate::carried::{Delivery, collect_deliveries};
 use crate::copy::perform_copies;
-use crate::planner::{Copier, start_copier};
-use crate::response::{Accounts, build_response};
 use account_book::{Account, Carried};
 use blob_store::BlobList;
+use email_creates::{Accounts, Planner, Setting, finish_plan, start_planner};
 use jm_base::{Kind, NoMemory, Text};
 use jm_json::{Created, Json, Made, Members};
-use mail_counts::{SetFault, SetPlan, derived};
-use mail_import::{Planner, Setting};
+use mail_counts::{SetFault, SetPlan};
 use mail_records::Content;
-use set_parts::{Creates, SentCreate, find_new_state, read_account_id, read_creates};
+use set_parts::{SentCreate, read_account_id, read_creates};
 use state_log::Log;
 use std::alloc::Global;
-
-// Returns the plan that copies have come to, over an account with this content and log.
-fn finish_plan<'a>(
-    alloc: Global,
-    accounts: Accounts,
-    content: &Content,
-    log: &Log,
-    planner: Planner<'a>,
-) -> Result<SetPlan, NoMemory>
-    requires last { log_end log.now ≤ max_position }
-    ensures { IfOk result
-        (λ p. (s : Progress) → Follows content.now.content planner.entry s → plan_of p
-        ≡ plan_after (ground_of content.now.content log.now) accounts.entry.to.now
-        accounts.entry.from.now s) }
-{
-    let Planner {
-        next_email: _,
-        next_thread: _,
-        new_emails,
-        creates,
-    } = planner;
-    drop(new_emails);
-    let Creates {
-        ids: _ids,
-        fresh,
-        mut edits,
-        blobs,
-        created,
-        not_created,
-    } = creates;
-    let more = derived(alloc, content, edits.as_slice())?;
-    edits.append(more)?;
-    let before = log.state_of(Kind::Email);
-    let after = find_new_state(log, Kind::Email, edits.as_slice());
-    let reply = build_response(alloc, accounts, before, after, created, not_created)?;
-    Ok(SetPlan {
-        reply,
-        edits,
-        made: fresh,
-        blobs,
-    })
-}
 
 // Returns the planner after all copies.
 fn perform_all<'a>(
@@ -104,12 +59,8 @@ fn perform_all<'a>(
         (beginning setting.now.content.now.content made.now)
         (map create_of creates.now) (map (λ d. option_map delivery_of d) deliveries.now))) }
 {
-    let mut copier = start_copier(alloc, setting.content, made)?;
-    perform_copies(alloc, setting, &mut copier, creates, deliveries)?;
-    let Copier {
-        planner,
-        blob_bytes: _,
-    } = copier;
+    let mut planner = start_planner(alloc, setting.content, made)?;
+    perform_copies(alloc, setting, &mut planner, creates, deliveries)?;
     Ok(planner)
 }
 
@@ -154,7 +105,7 @@ fn plan_members<'a>(
     )?;
     let accounts = Accounts {
         to: read_account_id(members),
-        from: read_from_account(members),
+        from: Some(read_from_account(members)),
     };
     Ok(finish_plan(alloc, accounts, setting.content, log, planner)?)
 }

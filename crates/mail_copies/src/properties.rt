@@ -1,19 +1,16 @@
 // The properties of a copy (RFC 8620, section 5.4; RFC 8621, section 4.7).
-ghost use Rattle.std.specs.Prelude.{◌≡◌, ◌<◌, ◌^◌, IfOk, List, Some, codes};
+ghost use Rattle.std.specs.Prelude.{◌≡◌, ◌<◌, ◌^◌, IfOk, List, codes};
 ghost use Rattle.jm_json.specs.Find.{find};
 ghost use Rattle.jm_json.specs.Json.{tree_of};
 ghost use Rattle.jm_json.specs.declared.invocation.Created.{Created as TheCreated};
-ghost use Rattle.mail_import.specs.Properties.{received_in};
-ghost use Rattle.mail_import.specs.Views.{blob_of, sent_of};
 ghost use Rattle.set_parts.specs.Views.{HoldIds};
 ghost use Rattle.mail_copies.specs.Carried.{carried_keywords};
 ghost use Rattle.mail_copies.specs.Copies.{keywords_or, properties_in, received_or};
 
 use crate::carried::{read_carried_date, read_carried_keywords};
-use crate::dates::read_date;
+use email_creates::{Sent, read_received};
 use jm_base::{NoMemory, Texts, UtcDate};
 use jm_json::{Json, Members};
-use mail_import::{NamedBlob, Sent};
 use mail_records::Content;
 use set_parts::{CreatedIds, read_keywords, read_mailboxes};
 use std::alloc::Global;
@@ -33,44 +30,34 @@ fn read_keywords_or(
     }
 }
 
-fn parse_received(tree: &Json) -> Option<Option<UtcDate>>
-    ensures { result ≡ received_in (Some (tree_of tree.now)) }
-{
-    let date = read_date(tree.as_text()?.as_bytes())?;
-    Some(Some(date))
-}
-
 // Reads the date of receipt: the one that is sent, else that of the original.
 fn read_received_or(members: &Members, original: UtcDate) -> Option<Option<UtcDate>>
     ensures { result ≡ received_or original (find (codes "receivedAt") members.now) }
 {
     match members.get("receivedAt") {
-        Some(tree) => parse_received(tree),
+        Some(_) => read_received(members),
         None => Some(Some(original)),
     }
 }
 
 /// Reads the properties of the copy of an original with this item into an account with this
-/// content. Its message is a blob of its own.
+/// content.
 pub fn read_properties<'a>(
     alloc: Global,
     content: &Content,
     ids: &CreatedIds<'a>,
     moment: u64,
-    members: &'a Members,
-    item: &'a Json,
-    message: NamedBlob<'a>,
-) -> Result<Sent<'a>, NoMemory>
+    members: &Members,
+    item: &Json,
+) -> Result<Sent, NoMemory>
     requires { moment < 2 ^ 63 }
     ensures { IfOk result (λ a. (made : List TheCreated) → HoldIds ids.now made
-        → sent_of a ≡ properties_in content.now.content made moment members.now (tree_of item.now)
-        (blob_of message.entry)) }
+        → a ≡ properties_in content.now.content made moment members.now (tree_of item.now)) }
 {
     let keywords = read_keywords_or(alloc, members, item)?;
     let mailboxes = read_mailboxes(alloc, content, ids, members)?;
     let original = read_carried_date(alloc, item, moment)?;
     Ok(Sent {
-        blob: Some(message),
         keywords,
         mailboxes,
         received: read_received_or(members, original),

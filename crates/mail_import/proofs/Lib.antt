@@ -1,8 +1,4 @@
-pub mod Dates
-pub mod SentMembers
-pub mod Joining
-pub mod NewThreads
-pub mod Accepting
+pub mod NamedBlobs
 pub mod Following
 pub mod Planning
 pub mod Promising

@@ -2,5 +2,4 @@ pub mod Properties
 pub mod Imports
 pub mod Arguments
 pub mod Plans
-pub mod NewEmails
 pub mod Views

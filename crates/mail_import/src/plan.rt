@@ -16,64 +16,23 @@ ghost use Rattle.set_parts.specs.Outcomes.{ExplainsSet, ground_of, outcome_of_me
 ghost use Rattle.set_parts.specs.Responses.{HasNewState};
 ghost use Rattle.set_parts.specs.Views.{create_of};
 ghost use Rattle.mail_import.specs.Arguments.{count_imports, forms};
-ghost use Rattle.mail_import.specs.Imports.{Progress, after_imports};
-ghost use Rattle.mail_import.specs.Plans.{beginning, import_in, import_outcome, plan_after, plan_in};
-ghost use Rattle.mail_import.specs.Views.{Follows};
+ghost use Rattle.email_creates.specs.Plans.{beginning};
+ghost use Rattle.email_creates.specs.Views.{Follows};
+ghost use Rattle.mail_import.specs.Imports.{after_imports};
+ghost use Rattle.mail_import.specs.Plans.{import_in, import_outcome, plan_in};
 
 use crate::arguments::check_arguments;
 use crate::import::perform_imports;
-use crate::planner::{Planner, Setting, start_planner};
-use crate::response::build_response;
 use account_book::Account;
 use blob_store::BlobList;
+use email_creates::{Accounts, Planner, Setting, finish_plan, start_planner};
 use jm_base::{Kind, NoMemory, Text};
 use jm_json::{Created, Json, Made, Members};
-use mail_counts::{SetFault, SetPlan, derived};
+use mail_counts::{SetFault, SetPlan};
 use mail_records::Content;
-use set_parts::{Creates, SentCreate, find_new_state, read_account_id, read_creates};
+use set_parts::{SentCreate, read_account_id, read_creates};
 use state_log::Log;
 use std::alloc::Global;
-
-// Returns the plan that a planner has come to, over an account with this content and log.
-fn finish_plan<'a>(
-    alloc: Global,
-    account: &str,
-    content: &Content,
-    log: &Log,
-    planner: Planner<'a>,
-) -> Result<SetPlan, NoMemory>
-    requires last { log_end log.now ≤ max_position }
-    ensures { IfOk result
-        (λ p. (s : Progress) → Follows content.now.content planner.entry s → plan_of p
-        ≡ plan_after (ground_of content.now.content log.now) account.now s) }
-{
-    let Planner {
-        next_email: _,
-        next_thread: _,
-        new_emails,
-        creates,
-    } = planner;
-    drop(new_emails);
-    let Creates {
-        ids: _ids,
-        fresh,
-        mut edits,
-        blobs,
-        created,
-        not_created,
-    } = creates;
-    let more = derived(alloc, content, edits.as_slice())?;
-    edits.append(more)?;
-    let before = log.state_of(Kind::Email);
-    let after = find_new_state(log, Kind::Email, edits.as_slice());
-    let reply = build_response(alloc, account, before, after, created, not_created)?;
-    Ok(SetPlan {
-        reply,
-        edits,
-        made: fresh,
-        blobs,
-    })
-}
 
 // Returns the planner after all imports.
 fn perform_all<'a>(
@@ -125,13 +84,11 @@ fn plan_members<'a>(
     let imports = read_creates(alloc, members, "emails")?;
     check_arguments(alloc, members, imports.len(), log.state_of(Kind::Email))?;
     let planner = perform_all(alloc, setting, made.as_slice(), imports.as_slice())?;
-    Ok(finish_plan(
-        alloc,
-        read_account_id(members),
-        setting.content,
-        log,
-        planner,
-    )?)
+    let accounts = Accounts {
+        to: read_account_id(members),
+        from: None,
+    };
+    Ok(finish_plan(alloc, accounts, setting.content, log, planner)?)
 }
 
 /// Returns the plan of an Email/import as [`plan_import`] does, over a content and a log of one

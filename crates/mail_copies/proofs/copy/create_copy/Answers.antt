@@ -1,26 +1,32 @@
-use Rattle.std.proofs.Common.{◌+◌, ◌∙◌, ◌++◌, [], ◌∷◌, Some, List, ℕ, length, refl, ap, subst}
-use Rattle.mail_import.specs.Imports.{Progress, after_made, email_of}
-use Rattle.mail_import.specs.Views.{Follows, blob_of, sent_of}
-use Rattle.mail_copies.specs.declared.planner.Copier.{Copier}
-use Rattle.mail_copies.proofs.Following.{room-created}
+use Rattle.std.proofs.Common.{◌∙◌, ◌++◌, List, ℕ, length, ap, subst}
+use Rattle.blob_store.specs.Blobs.{has_room}
+use Rattle.email_creates.specs.Emails.{Progress, after_delivered}
+use Rattle.email_creates.specs.Views.{Follows}
+use Rattle.email_creates.proofs.Room.{bytes_left}
+use Rattle.set_parts.proofs.Parts.{on_ok}
+use Rattle.mail_copies.proofs.Following.{on_ok_both}
 use Rattle.mail_copies.proofs.copy.create_copy.Goals as goal
 
 pub returns-clause-follows : goal.returns-clause-follows
 returns-clause-follows c =
-    λ (s : Progress) (f : Follows c.args.setting.now.content.now.content c.args.copier.now.planner s).
-    let base = c.args.setting.now.content.now.content in
-    let e = email_of s c.args.setting.now.moment (sent_of c.args.sent) (blob_of c.args.message) in
-    subst (λ (b : List ℕ). Follows base c.create_email.new.planner (after_made s c.args.creation.now e (Some b))) c.in_ok-brought.ensures
-    (c.in_ok-create_email.ensures.follows s f)
+    on_ok c.deliver_email.result _ _
+    (λ k (s : Progress) (f : Follows c.args.setting.now.content.now.content c.args.planner.now s).
+    subst (λ (b : List ℕ). Follows c.args.setting.now.content.now.content c.deliver_email.new.planner (after_delivered c.args.setting.now.blobs.now.blobs c.args.setting.now.moment s c.args.creation.now c.args.sent b)) c.in_ok-message.ensures (k s f))
+    c.deliver_email.ensures.follows
+
+pub deliver_email-requires-clause-numbers : goal.deliver_email-requires-clause-numbers
+deliver_email-requires-clause-numbers c = c.requires.numbers.numbers
+
+pub deliver_email-requires-clause-counted : goal.deliver_email-requires-clause-counted
+deliver_email-requires-clause-counted c = c.requires.numbers.counted
+
+pub deliver_email-requires-clause-room : goal.deliver_email-requires-clause-room
+deliver_email-requires-clause-room c =
+    let blobs = c.args.setting.now.blobs.now.blobs in
+    let brought = c.args.planner.now.creates.blobs in
+    bytes_left c.args.planner.now.blob_bytes (length c.in_ok-message.message) blobs brought c.requires.numbers.counted.bytes
+    (ap (λ (b : List ℕ). has_room (length b) (blobs ++ brought)) c.in_ok-message.ensures ∙ c.requires.room)
 
 pub returns-clause-numbers : goal.returns-clause-numbers
 returns-clause-numbers c =
-    λ (n : ℕ) h.
-    let bytes = c.args.message.bytes.now in
-    let p : Copier = c.args.copier.now in
-    let q : Copier = record { planner = c.create_email.new.planner; blob_bytes = p.blob_bytes + length bytes } in
-    room-created n p q bytes (c.in_ok-create_email.ensures.numbers n h.numbers)
-    (c.in_ok-create_email.ensures.blobs ∙ ap (λ (b : List ℕ). p.planner.creates.blobs ++ b ∷ []) c.in_ok-brought.ensures) refl c.requires.room h
-
-pub create_email-requires-clause-numbers : goal.create_email-requires-clause-numbers
-create_email-requires-clause-numbers c = c.requires.numbers.numbers
+    on_ok_both c.deliver_email.result _ _ _ (λ more counted (n : ℕ) h. record { numbers = more n h.numbers; counted = counted }) c.deliver_email.ensures.numbers c.deliver_email.ensures.counted

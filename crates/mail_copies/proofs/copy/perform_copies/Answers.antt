@@ -2,8 +2,8 @@ use Rattle.std.proofs.Common.{◌≡◌, ◌+◌, ◌-◌, ◌∙◌, length, ma
 use Rattle.std.proofs.lemmas.List.{drop_all}
 use Rattle.set_parts.specs.Views.{create_of}
 use Rattle.mail_copies.specs.Carried.{Delivery}
-use Rattle.mail_import.specs.Imports.{Progress}
-use Rattle.mail_import.specs.Views.{Follows}
+use Rattle.email_creates.specs.Emails.{Progress}
+use Rattle.email_creates.specs.Views.{Follows}
 use Rattle.mail_copies.specs.Copies.{after_copies, after_copy, delivery_for}
 use Rattle.mail_copies.specs.Views.{HasRoomFor, delivery_of}
 use Rattle.mail_copies.proofs.Following.{copies_step}
@@ -20,7 +20,7 @@ loop-i-preserved c =
     let x = c.index-creates-i.result in
     let d : Option Delivery = option_map delivery_of c.pick_delivery-delivery.result in
     record {
-      numbers = c.in_ok-perform_copy.ensures.numbers (length creates - (c.loop-i.i + 1)) (subst (λ n. HasRoomFor n c.loop-i.copier) left c.loop-i.invariant.numbers);
+      numbers = c.in_ok-perform_copy.ensures.numbers (length creates - (c.loop-i.i + 1)) (subst (λ n. HasRoomFor n c.loop-i.planner) left c.loop-i.invariant.numbers);
       follows = λ (s : Progress) f.
           let was = c.loop-i.invariant.follows s f in (
             after_copy blobs moment was.0 (create_of x) (delivery_for (create_of x) d),
@@ -36,9 +36,9 @@ returns c =
     let moment = c.args.setting.now.moment in
     let creates = c.args.creates.now in
     let ds : List (Option Delivery) = map (λ d. option_map delivery_of d) c.args.deliveries.now in
-    λ (s : Progress) (f : Follows base c.args.copier.now.planner s).
+    λ (s : Progress) (f : Follows base c.args.planner.now s).
     let was = c.loop-i.invariant.follows s f in
     let over = c.loop-i-test.false in
-    subst (Follows base c.loop-i.copier.planner)
+    subst (Follows base c.loop-i.planner)
     (sym (ap (λ xs. after_copies blobs moment was.0 (map create_of xs) (drop c.loop-i.i ds)) (drop_all c.loop-i.i creates (omega (arith, over)))) ∙ was.2)
     was.1

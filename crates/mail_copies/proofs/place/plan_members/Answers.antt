@@ -1,4 +1,4 @@
-use Rattle.std.proofs.Common.{length, map, option_map, sym, ap, ap₂, ◌∙◌, arith}
+use Rattle.std.proofs.Common.{length, map, option_map, ap, ap₂, ◌∙◌, arith}
 use Rattle.std.proofs.lemmas.List.{length-map}
 use Rattle.set_parts.specs.Outcomes.{ground_of, plan_of}
 use Rattle.set_parts.specs.Views.{create_of}

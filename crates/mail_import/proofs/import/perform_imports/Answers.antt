@@ -1,7 +1,8 @@
 use Rattle.std.proofs.Common.{◌≡◌, ◌+◌, ◌-◌, ◌∙◌, length, sym, subst, arith}
-use Rattle.mail_import.specs.Imports.{Progress, after_import}
+use Rattle.email_creates.specs.Emails.{Progress}
+use Rattle.mail_import.specs.Imports.{after_import}
 use Rattle.set_parts.specs.Views.{create_of}
-use Rattle.mail_import.specs.Views.{HasNumbersFor}
+use Rattle.email_creates.specs.Views.{HasNumbersFor}
 use Rattle.mail_import.proofs.Following.{imports_step}
 use Rattle.mail_import.proofs.import.perform_imports.Goals as goal
 

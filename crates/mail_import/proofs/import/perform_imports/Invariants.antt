@@ -1,7 +1,8 @@
 use Rattle.std.proofs.Common.{◌≡◌, ◌-◌, map, length, drop}
-use Rattle.mail_import.specs.Imports.{Progress, after_imports}
+use Rattle.email_creates.specs.Emails.{Progress}
+use Rattle.mail_import.specs.Imports.{after_imports}
 use Rattle.set_parts.specs.Views.{create_of}
-use Rattle.mail_import.specs.Views.{Follows, HasNumbersFor}
+use Rattle.email_creates.specs.Views.{Follows, HasNumbersFor}
 use Rattle.mail_import.proofs.import.perform_imports.Given as goal
 
 abbrev pub invariant-loop-i : goal.invariant-loop-i
