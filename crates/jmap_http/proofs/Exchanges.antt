@@ -13,7 +13,7 @@ use Rattle.jmap_http.specs.Connections.{Stage, IsInterim, IsExchange, AreExchang
 use Rattle.jmap_http.specs.Endings.{IsUnavailablePut, ServesNext}
 use Rattle.jmap_http.specs.declared.limits.TheConstants.{MAX_REQUESTS_PER_CONNECTION}
 use Rattle.jmap_http.specs.declared.served.Served.{Served}
-use Rattle.jmap_http.specs.declared.served.Served.TheVariants.{End, CutOff, ReadFault, WriteFault, Limit, NoMemory, Refused}
+use Rattle.jmap_http.specs.declared.served.Served.TheVariants.{End, CutOff, ReadFault, WriteFault, Limit, NoMemory, Refused, Upgraded}
 
 abbrev pub more : {S : Type 0} → Stage S → List ℕ → Stage S
 more a t = record { state = a.state; times = a.times; bytes = a.bytes ++ t }
@@ -97,6 +97,7 @@ ending_since steps users ends NoMemory number left reads mid reads' puts low put
   written_is = e.written_is;
 })
 ending_since steps users ends (Refused status) number left reads mid reads' puts low puts' a b w r p e = e
+ending_since steps users ends (Upgraded user early) number left reads mid reads' puts low puts' a b w r p e = absurd e
 
 -- ---- the loop
 

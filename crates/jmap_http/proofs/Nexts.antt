@@ -1,5 +1,5 @@
 -- What serving the next request of a connection does, from what its parts did.
-use Rattle.std.proofs.Common.{◌≡◌, ◌≤◌, ◌+◌, ◌⊎◌, ℕ, Bool, true, false, ◌||◌, List, [], ◌++◌, length, take, Option, None, Some, Ok, Err, refl, sym, ap, ap₂, ◌∙◌, subst, arith, append-nil, inl, inr}
+use Rattle.std.proofs.Common.{◌≡◌, ◌≤◌, ◌+◌, ◌⊎◌, ℕ, Bool, true, false, not, is_none, ◌||◌, List, [], ◌++◌, length, take, Option, None, Some, Ok, Err, refl, sym, ap, ap₂, ◌∙◌, subst, arith, append-nil, inl, inr}
 use Rattle.std.specs.Io.KnownBytes.{Appends, Consumes}
 use Rattle.std.proofs.Math.Seq.{take-append-add}
 use Rattle.std.proofs.lemmas.Bool.{eqb-true}
@@ -8,6 +8,7 @@ use Rattle.jm_edge.specs.Causes.{Rose}
 use Rattle.jm_edge.specs.Clocks.{Shows}
 use Rattle.jm_edge.proofs.Known.{appends_on}
 use Rattle.http_parts.proofs.Stopped.{rose_before}
+use Rattle.http_parts.specs.Plans.{kept_bytes}
 use Rattle.http_parts.specs.declared.fault.WireFault.{WireFault}
 use Rattle.http_parts.specs.declared.fault.WireFault.TheVariants.{End as NoRequest, ReadFault as NotRead, WriteFault as NotWritten, BadHead, HeadTooLong, BodyTooLong, CutOff as IsCutOff, NoMemory as OutOfMemory}
 use Rattle.http_wire.specs.Fields.{pairs}
@@ -16,7 +17,8 @@ use Rattle.http_wire.specs.Requests.{Complete, IsMessage, requests, IsDue, names
 use Rattle.http_wire.specs.Responses.{continue_bytes}
 use Rattle.server_users.specs.declared.users.User.{User}
 use Rattle.jmap_http.specs.Steps.{UserSteps}
-use Rattle.jmap_http.specs.Responses.{AskedRequest, IsResponse, HasBegunRequest, blank_response}
+use Rattle.jmap_http.specs.Authorization.{is_known, user_of}
+use Rattle.jmap_http.specs.Responses.{AskedRequest, IsResponse, IsResponseBy, HasBegunBy, HasBegunRequest, blank_response}
 use Rattle.jmap_http.specs.Connections.{IsExchange, IsInterim, IsRefusedBy, asked_of, answer_bytes, asks_to_end, is_bodiless, sent_bytes, is_at_limit, refusal_of}
 use Rattle.jmap_http.specs.Endings.{ServesNext, IsSent, IsAnswered, IsUnavailablePut, IsRefusalSent, IsRefusedAs}
 use Rattle.jmap_http.specs.Views.{asked}
@@ -24,7 +26,7 @@ use Rattle.jmap_http.proofs.Exchanges.{unavailable_since}
 use Rattle.jmap_http.specs.declared.limits.TheConstants.{MAX_REQUESTS_PER_CONNECTION}
 use Rattle.jmap_http.specs.declared.response.Response.{Response}
 use Rattle.jmap_http.specs.declared.served.Served.{Served}
-use Rattle.jmap_http.specs.declared.served.Served.TheVariants.{End, CutOff, ReadFault, WriteFault, Limit, NoMemory, Refused}
+use Rattle.jmap_http.specs.declared.served.Served.TheVariants.{End, CutOff, ReadFault, WriteFault, Limit, NoMemory, Refused, Upgraded}
 
 -- the complete request was answered by this response, and this was sent
 exchange_of : {S : Type 0} (steps : UserSteps S) (users : List User) (number : ℕ) (s s' : S) (times times' : Option (List ℕ)) (early taken early' : List ℕ) (h : RequestHead) (body interim : List ℕ) (time : ℕ) (r : Response) (asks : Bool)
@@ -135,6 +137,7 @@ sent_next steps users number s s' times times' early taken early' left left' hel
 sent_next steps users number s s' times times' early taken early' left left' held hm held' reads reads' puts pm puts' h body interim time r (Some (CutOff count)) c k i a p sent = absurd sent
 sent_next steps users number s s' times times' early taken early' left left' held hm held' reads reads' puts pm puts' h body interim time r (Some ReadFault) c k i a p sent = absurd sent
 sent_next steps users number s s' times times' early taken early' left left' held hm held' reads reads' puts pm puts' h body interim time r (Some (Refused status)) c k i a p sent = absurd sent
+sent_next steps users number s s' times times' early taken early' left left' held hm held' reads reads' puts pm puts' h body interim time r (Some (Upgraded user upgraded_early)) c k i a p sent = absurd sent
 
 lost_next : {S : Type 0} (steps : UserSteps S) (users : List User) (number : ℕ) (s s' : S) (times times' : Option (List ℕ)) (early taken early' : List ℕ) (left left' held hm held' : Option (List ℕ)) (reads reads' puts pm puts' : ℕ)
     (h : RequestHead) (body interim : List ℕ) (time : ℕ) → Consumes left left' taken → Call steps users number s s' times times' early taken early' h body interim time
@@ -175,8 +178,27 @@ as_asked method target fields body = record { method = method; target = target; 
 asked_same : (m m' t t' : List ℕ) (f f' : List (List ℕ × List ℕ)) (b b' : List ℕ) → m ≡ m' → t ≡ t' → f ≡ f' → b ≡ b' → as_asked m t f b ≡ as_asked m' t' f' b'
 asked_same m m' t t' f f' b b' p q r s = ap₂ (λ (x y : List ℕ). as_asked x y f b) p q ∙ ap₂ (λ (x : List (List ℕ × List ℕ)) (y : List ℕ). as_asked m' t' x y) r s
 
+-- a request without the token of a user is answered the same whatever its body is
+response_by : {S : Type 0} (steps : UserSteps S) (users : List User) (s s' : S) (time : ℕ) (h : RequestHead) (body : List ℕ) (r : Response) (o : Option ℕ)
+    → IsResponseBy steps users s s' time (asked_of h (kept_bytes (not (is_none o)) body)) o r → IsResponseBy steps users s s' time (asked_of h body) o r
+response_by steps users s s' time h body r None w = w
+response_by steps users s s' time h body r (Some index) w = w
+
+response_to_all : {S : Type 0} (steps : UserSteps S) (users : List User) (s s' : S) (time : ℕ) (h : RequestHead) (body : List ℕ) (r : Response)
+    → IsResponse steps users s s' time (asked_of h (kept_bytes (is_known users (names_and_values h.fields)) body)) r → IsResponse steps users s s' time (asked_of h body) r
+response_to_all steps users s s' time h body r w = response_by steps users s s' time h body r (user_of users (names_and_values h.fields)) w
+
+begun_by : {S : Type 0} (steps : UserSteps S) (users : List User) (s s' : S) (time : ℕ) (h : RequestHead) (body : List ℕ) (o : Option ℕ)
+    → HasBegunBy steps users s s' time (asked_of h (kept_bytes (not (is_none o)) body)) o → HasBegunBy steps users s s' time (asked_of h body) o
+begun_by steps users s s' time h body None w = w
+begun_by steps users s s' time h body (Some index) w = w
+
+begun_for_all : {S : Type 0} (steps : UserSteps S) (users : List User) (s s' : S) (time : ℕ) (h : RequestHead) (body : List ℕ)
+    → HasBegunRequest steps users s s' time (asked_of h (kept_bytes (is_known users (names_and_values h.fields)) body)) → HasBegunRequest steps users s s' time (asked_of h body)
+begun_for_all steps users s s' time h body w = begun_by steps users s s' time h body (user_of users (names_and_values h.fields)) w
+
 pub answered_next : {S : Type 0} (steps : UserSteps S) (users : List User) (number : ℕ) (s s' : S) (times times' : Option (List ℕ)) (early early' : List ℕ) (left left' held hm held' : Option (List ℕ)) (reads reads' puts pm puts' : ℕ)
-    (x : HttpRequest) (served : Option Served) → ReadsRequestFrom early early' left left' held hm reads reads' puts pm (Ok x)
+    (x : HttpRequest) (served : Option Served) → ReadsRequestFrom (is_known users) early early' left left' held hm reads reads' puts pm (Ok x)
     → IsAnswered steps users s s' times times' (asked x) x.last (is_at_limit number) hm held' pm puts' served → puts ≤ pm
     → ServesNext steps users asks_to_end number s s' times times' early early' left left' held held' reads reads' puts puts' served
 answered_next steps users number s s' times times' early early' left left' held hm held' reads reads' puts pm puts' x served r a p = by a.2
@@ -187,8 +209,11 @@ answered_next steps users number s s' times times' early early' left left' held 
     body : List ℕ
     body = r.outcome.1
 
-    same : asked x ≡ asked_of h body
-    same = asked_same x.method h.method x.target h.target (pairs x.fields) (names_and_values h.fields) x.body body r.outcome.2.method r.outcome.2.target r.outcome.2.fields r.outcome.2.body_is
+    kept : List ℕ
+    kept = kept_bytes (is_known users (names_and_values h.fields)) body
+
+    same : asked x ≡ asked_of h kept
+    same = asked_same x.method h.method x.target h.target (pairs x.fields) (names_and_values h.fields) x.body kept r.outcome.2.method r.outcome.2.target r.outcome.2.fields r.outcome.2.body_is
 
     i : (interim : List ℕ) × IsInterim (early ++ r.taken) interim × Appends held hm interim
     i = interim_of (early ++ r.taken) held hm r.continued
@@ -201,13 +226,13 @@ answered_next steps users number s s' times times' early early' left left' held 
         → ServesNext steps users asks_to_end number s s' times times' early early' left left' held held' reads reads' puts puts' served
     by (inl done) =
         sent_next steps users number s s' times times' early r.taken early' left left' held hm held' reads reads' puts pm puts' h body i.0 a.0 done.0 served r.consumed k i.2
-        (subst (λ q. IsResponse steps users s s' a.0 q done.0) same done.1) p
+        (response_to_all steps users s s' a.0 h body done.0 (subst (λ q. IsResponse steps users s s' a.0 q done.0) same done.1)) p
         (subst (λ b. IsSent (is_bodiless h.method) b (is_at_limit number) done.0 hm held' pm puts' served) r.outcome.2.last
         (subst (λ q. IsSent (is_bodiless q.method) x.last (is_at_limit number) done.0 hm held' pm puts' served) same done.2))
     by (inr lost) =
         subst (λ o. ServesNext steps users asks_to_end number s s' times times' early early' left left' held held' reads reads' puts puts' o) (sym lost.1)
         (lost_next steps users number s s' times times' early r.taken early' left left' held hm held' reads reads' puts pm puts' h body i.0 a.0 r.consumed k i.2
-        (subst (λ q. HasBegunRequest steps users s s' a.0 q) same lost.0) p lost.2)
+        (begun_for_all steps users s s' a.0 h body (subst (λ q. HasBegunRequest steps users s s' a.0 q) same lost.0)) p lost.2)
 
 -- ---- no request was read
 
@@ -263,6 +288,7 @@ refusal_next steps users number status s times early taken early' left left' hel
 refusal_next steps users number status s times early taken early' left left' held hm held' reads reads' puts pm puts' interim response (CutOff count) c by is k i p sent = absurd sent
 refusal_next steps users number status s times early taken early' left left' held hm held' reads reads' puts pm puts' interim response ReadFault c by is k i p sent = absurd sent
 refusal_next steps users number status s times early taken early' left left' held hm held' reads reads' puts pm puts' interim response Limit c by is k i p sent = absurd sent
+refusal_next steps users number status s times early taken early' left left' held hm held' reads reads' puts pm puts' interim response (Upgraded user upgraded_early) c by is k i p sent = absurd sent
 
 -- memory ran out before all of the request was read
 unread_next : {S : Type 0} (steps : UserSteps S) (users : List User) (number : ℕ) (s : S) (times : Option (List ℕ)) (early taken early' : List ℕ) (left left' held hm held' : Option (List ℕ)) (reads reads' puts pm puts' : ℕ)
@@ -286,7 +312,7 @@ unread_next steps users number s times early taken early' left left' held hm hel
 }
 
 pub refused_next : {S : Type 0} (steps : UserSteps S) (users : List User) (number : ℕ) (s : S) (times : Option (List ℕ)) (early early' : List ℕ) (left left' held hm held' : Option (List ℕ)) (reads reads' puts pm puts' : ℕ)
-    (e : WireFault) (served : Served) → ReadsRequestFrom early early' left left' held hm reads reads' puts pm (Err e) → IsRefusedAs e hm held' pm puts' served → puts ≤ pm → pm ≤ puts'
+    (e : WireFault) (served : Served) → ReadsRequestFrom (is_known users) early early' left left' held hm reads reads' puts pm (Err e) → IsRefusedAs e hm held' pm puts' served → puts ≤ pm → pm ≤ puts'
     → ServesNext steps users asks_to_end number s s times times early early' left left' held held' reads reads' puts puts' (Some served)
 refused_next steps users number s times early early' left left' held hm held' reads reads' puts pm puts' NoRequest served r a p q =
     let i = interim_of (early ++ r.taken) held hm r.continued in
@@ -347,7 +373,7 @@ refused_next steps users number s times early early' left left' held hm held' re
 -- ---- what serving the next request does, by the links in between
 
 pub answered_after : {S : Type 0} (steps : UserSteps S) (users : List User) (number : ℕ) (s s' : S) (times times' : Option (List ℕ)) (early early' : List ℕ) (left lm left' held hm held' : Option (List ℕ)) (reads rm reads' puts pm puts' : ℕ)
-    (x : HttpRequest) (served : Option Served) → left' ≡ lm → reads' ≡ rm → ReadsRequestFrom early early' left lm held hm reads rm puts pm (Ok x)
+    (x : HttpRequest) (served : Option Served) → left' ≡ lm → reads' ≡ rm → ReadsRequestFrom (is_known users) early early' left lm held hm reads rm puts pm (Ok x)
     → IsAnswered steps users s s' times times' (asked x) x.last (is_at_limit number) hm held' pm puts' served → puts ≤ pm
     → ServesNext steps users asks_to_end number s s' times times' early early' left left' held held' reads reads' puts puts' served
 answered_after steps users number s s' times times' early early' left lm left' held hm held' reads rm reads' puts pm puts' x served e f r a p =
@@ -356,7 +382,7 @@ answered_after steps users number s s' times times' early early' left lm left' h
     (answered_next steps users number s s' times times' early early' left lm held hm held' reads rm puts pm puts' x served r a p))
 
 pub refused_after : {S : Type 0} (steps : UserSteps S) (users : List User) (number : ℕ) (s : S) (times : Option (List ℕ)) (early early' : List ℕ) (left lm left' held hm held' : Option (List ℕ)) (reads rm reads' puts pm puts' : ℕ)
-    (e : WireFault) (served : Served) → left' ≡ lm → reads' ≡ rm → ReadsRequestFrom early early' left lm held hm reads rm puts pm (Err e) → IsRefusedAs e hm held' pm puts' served → puts ≤ pm → pm ≤ puts'
+    (e : WireFault) (served : Served) → left' ≡ lm → reads' ≡ rm → ReadsRequestFrom (is_known users) early early' left lm held hm reads rm puts pm (Err e) → IsRefusedAs e hm held' pm puts' served → puts ≤ pm → pm ≤ puts'
     → ServesNext steps users asks_to_end number s s times times early early' left left' held held' reads reads' puts puts' (Some served)
 refused_after steps users number s times early early' left lm left' held hm held' reads rm reads' puts pm puts' e served f g r a p q =
     subst (λ z. ServesNext steps users asks_to_end number s s times times early early' left z held held' reads reads' puts puts' (Some served)) (sym f)

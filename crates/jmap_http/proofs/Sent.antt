@@ -11,7 +11,7 @@ use Rattle.jmap_http.specs.Connections.{answer_bytes, sent_bytes}
 use Rattle.jmap_http.specs.Endings.{IsUnavailablePut, IsUnsent, IsSent, IsRefusalSent, end_of}
 use Rattle.jmap_http.specs.declared.response.Response.{Response}
 use Rattle.jmap_http.specs.declared.served.Served.{Served}
-use Rattle.jmap_http.specs.declared.served.Served.TheVariants.{End, CutOff, ReadFault, WriteFault, Limit, NoMemory, Refused}
+use Rattle.jmap_http.specs.declared.served.Served.TheVariants.{End, CutOff, ReadFault, WriteFault, Limit, NoMemory, Refused, Upgraded}
 
 pub unsent : (e : WireFault) (bytes : List ℕ) (old mid new : Option (List ℕ)) (p q r : ℕ) (served : Served) → IsCutShort e old mid bytes → (e ≡ NotWritten → Rose p q)
     → (e ≡ NotWritten → (served ≡ WriteFault) × (new ≡ mid)) → (e ≡ OutOfMemory → (served ≡ NoMemory) × IsUnavailablePut mid new q r) → p ≤ q → q ≤ r → IsUnsent bytes old new p r served
@@ -36,6 +36,7 @@ unsent_response bodiless asks at_limit r old new puts puts' (CutOff count) h = a
 unsent_response bodiless asks at_limit r old new puts puts' ReadFault h = absurd h
 unsent_response bodiless asks at_limit r old new puts puts' Limit h = absurd h
 unsent_response bodiless asks at_limit r old new puts puts' (Refused status) h = absurd h
+unsent_response bodiless asks at_limit r old new puts puts' (Upgraded user early) h = absurd h
 
 pub unsent_refusal : (r : Response) (status : ℕ) (old new : Option (List ℕ)) (puts puts' : ℕ) (served : Served) → IsUnsent (sent_bytes r true) old new puts puts' served → IsRefusalSent r status old new puts puts' served
 unsent_refusal r status old new puts puts' WriteFault h = h
@@ -45,3 +46,4 @@ unsent_refusal r status old new puts puts' (CutOff count) h = absurd h
 unsent_refusal r status old new puts puts' ReadFault h = absurd h
 unsent_refusal r status old new puts puts' Limit h = absurd h
 unsent_refusal r status old new puts puts' (Refused s) h = absurd h
+unsent_refusal r status old new puts puts' (Upgraded user early) h = absurd h

@@ -1,5 +1,5 @@
 -- Whose request it is (RFC 6750, 2.1).
-use Rattle.std.specs.Prelude.{ℕ, ◌==◌, ◌&&◌, nat_le, Bool, List, [], ◌∷◌, length, take, drop, codes, Option, None, Some, option_and_then, if◌then◌else◌}
+use Rattle.std.specs.Prelude.{ℕ, ◌==◌, ◌&&◌, not, nat_le, Bool, List, [], ◌∷◌, length, take, drop, codes, Option, None, Some, option_and_then, is_none, if◌then◌else◌}
 use Rattle.std.specs.Str.{str_eq_ignore_ascii_case}
 use Rattle.http_wire.specs.Fields.{values_of}
 use Rattle.server_users.specs.declared.users.User.{User}
@@ -37,3 +37,7 @@ abbrev pub user_of : List User → List (List ℕ × List ℕ) → Option ℕ
 user_of users fields =
     option_and_then (λ token. user_with token users)
     (option_and_then token_in (field_value (codes "Authorization") fields))
+
+-- a request has the token of a user
+abbrev pub is_known : List User → List (List ℕ × List ℕ) → Bool
+is_known users fields = not (is_none (user_of users fields))

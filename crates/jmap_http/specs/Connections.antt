@@ -15,7 +15,7 @@ use Rattle.jmap_http.specs.Responses.{AskedRequest, IsResponse, HasBegunRequest,
 use Rattle.jmap_http.specs.declared.limits.TheConstants.{MAX_REQUESTS_PER_CONNECTION}
 use Rattle.jmap_http.specs.declared.response.Response.{Response}
 use Rattle.jmap_http.specs.declared.served.Served.{Served}
-use Rattle.jmap_http.specs.declared.served.Served.TheVariants.{End, CutOff, ReadFault, WriteFault, Limit, NoMemory, Refused}
+use Rattle.jmap_http.specs.declared.served.Served.TheVariants.{End, CutOff, ReadFault, WriteFault, Limit, NoMemory, Refused, Upgraded}
 
 -- ---- one request
 
@@ -197,7 +197,7 @@ IsCutShort steps users ends number before after written =
     ⊎ ((status : ℕ) × IsRefusal before after status whole)))
 
 -- How the connection ends, after the requests before this number: what is written then, and where
--- it leaves the connection.
+-- it leaves the connection. No request is answered by a switch to WebSocket.
 abbrev pub IsEnding : {S : Type 0} → UserSteps S → List User → (RequestHead → Bool) → Served → ℕ
     → LinkSeen → Stage S → Stage S → List ℕ → Type 0
 IsEnding steps users ends End number link before after written =
@@ -218,6 +218,7 @@ IsEnding steps users ends NoMemory number link before after written =
     ⊎ IsLost steps users link.puts link.puts_after before after written
 IsEnding steps users ends (Refused status) number link before after written =
     IsRefusal before after status written
+IsEnding steps users ends (Upgraded user early) number link before after written = ⊥
 
 -- ---- the whole connection
 

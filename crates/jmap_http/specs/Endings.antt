@@ -12,7 +12,7 @@ use Rattle.jmap_http.specs.Responses.{AskedRequest, IsResponse, HasBegunRequest,
 use Rattle.jmap_http.specs.Connections.{answer_bytes, is_bodiless, sent_bytes, SaysUnavailable, refusal_of, is_at_limit, IsExchange, IsEnding, seen_of}
 use Rattle.jmap_http.specs.declared.response.Response.{Response}
 use Rattle.jmap_http.specs.declared.served.Served.{Served}
-use Rattle.jmap_http.specs.declared.served.Served.TheVariants.{End, CutOff, ReadFault, WriteFault, Limit, NoMemory, Refused}
+use Rattle.jmap_http.specs.declared.served.Served.TheVariants.{End, CutOff, ReadFault, WriteFault, Limit, NoMemory, Refused, Upgraded}
 
 -- a prefix of these bytes was written
 abbrev pub IsPrefixPut : Option (List ℕ) → Option (List ℕ) → List ℕ → Type 0
@@ -33,6 +33,7 @@ IsUnsent bytes old new puts puts' (CutOff count) = ⊥
 IsUnsent bytes old new puts puts' ReadFault = ⊥
 IsUnsent bytes old new puts puts' Limit = ⊥
 IsUnsent bytes old new puts puts' (Refused status) = ⊥
+IsUnsent bytes old new puts puts' (Upgraded user early) = ⊥
 
 -- how the connection ends after a response, if it does: because the request asks for that, or
 -- because it is the last one
@@ -56,6 +57,7 @@ IsSent bodiless asks at_limit r old new puts puts' (Some NoMemory) =
 IsSent bodiless asks at_limit r old new puts puts' (Some (CutOff count)) = ⊥
 IsSent bodiless asks at_limit r old new puts puts' (Some ReadFault) = ⊥
 IsSent bodiless asks at_limit r old new puts puts' (Some (Refused status)) = ⊥
+IsSent bodiless asks at_limit r old new puts puts' (Some (Upgraded user early)) = ⊥
 
 -- the response that refuses a message was sent
 abbrev pub IsRefusalSent : Response → ℕ → (old new : Option (List ℕ)) → (puts puts' : ℕ) → Served
@@ -69,6 +71,7 @@ IsRefusalSent r status old new puts puts' End = ⊥
 IsRefusalSent r status old new puts puts' (CutOff count) = ⊥
 IsRefusalSent r status old new puts puts' ReadFault = ⊥
 IsRefusalSent r status old new puts puts' Limit = ⊥
+IsRefusalSent r status old new puts puts' (Upgraded user early) = ⊥
 
 -- how the connection ends where no request was read, and what is written then
 abbrev pub IsRefusedAs : WireFault → (old new : Option (List ℕ)) → (puts puts' : ℕ) → Served

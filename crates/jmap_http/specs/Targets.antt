@@ -1,5 +1,5 @@
 -- What a request's target names (RFC 8620, 2, 3.1, 6.1 and 6.2; the paths are our own).
-use Rattle.std.specs.Prelude.{ℕ, Bool, false, ◌&&◌, List, [], ◌∷◌, codes, bytes_eq, Option, None, Some, option_and_then, is_none, unwrap_or, if◌then◌else◌}
+use Rattle.std.specs.Prelude.{ℕ, Bool, false, ◌&&◌, List, [], codes, bytes_eq, Option, None, Some, option_and_then, is_none, unwrap_or, if◌then◌else◌}
 use Rattle.httparse.specs.Grammar.{is_token}
 use Rattle.percent_encoding.specs.Percent.{percent_decode}
 use Rattle.server_users.specs.Lookups.{account_with}

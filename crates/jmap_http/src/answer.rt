@@ -12,10 +12,11 @@ ghost use Rattle.jmap_http.specs.Views.{asked, resource_as};
 
 use crate::authorization::{find_field, find_user};
 use crate::media::write_media;
-use crate::port::{Stored, UserPort};
+use crate::port::Stored;
 use crate::response::{Response, write_api, write_blank, write_json, write_limit};
 use crate::session::show_session;
 use crate::targets::{Resource, find_resource, is_refused};
+use crate::user_port::UserPort;
 use blob_ids::{BlobId, write_blob_id};
 use http_wire::{HttpField, HttpRequest};
 use jm_base::{Bytes, NoMemory, Text};
@@ -121,14 +122,11 @@ fn answer_api<P: UserPort>(
     body: &[u8],
 ) -> Result<Response, NoMemory>
     requires { origin.time ≤ LAST_TIMESTAMP }
-    ensures ok { IfOk result (λ r. IsBegun (steps_of P.answers P.stops P.begins P.uploads
-        P.upload_stops P.reads P.read_stops) port.old origin.index origin.time (λ m. IsApiResponse
-        (steps_of P.answers P.stops P.begins P.uploads P.upload_stops P.reads P.read_stops)
-        m port.new body.now r)) }
-    ensures err { OnErr result (IsBegun (steps_of P.answers P.stops P.begins P.uploads
-        P.upload_stops P.reads P.read_stops) port.old origin.index origin.time (λ m. HasBegunApi
-        (steps_of P.answers P.stops P.begins P.uploads P.upload_stops P.reads P.read_stops)
-        m port.new body.now)) }
+    ensures ok { IfOk result (λ r. IsBegun (steps_of P.answers P.stops P.steps) port.old
+        origin.index origin.time (λ m. IsApiResponse (steps_of P.answers P.stops P.steps) m
+        port.new body.now r)) }
+    ensures err { OnErr result (IsBegun (steps_of P.answers P.stops P.steps) port.old origin.index
+        origin.time (λ m. HasBegunApi (steps_of P.answers P.stops P.steps) m port.new body.now)) }
 {
     port.begin(origin.index, origin.time);
     match perform_request(alloc, port, body) {
@@ -147,14 +145,12 @@ fn answer_upload<P: UserPort>(
     body: Bytes,
 ) -> Result<Response, NoMemory>
     requires { origin.time ≤ LAST_TIMESTAMP }
-    ensures ok { IfOk result (λ r. IsBegun (steps_of P.answers P.stops P.begins P.uploads
-        P.upload_stops P.reads P.read_stops) port.old origin.index origin.time
-        (λ m. IsUploadResponse (steps_of P.answers P.stops P.begins P.uploads P.upload_stops
-        P.reads P.read_stops) m port.new account.now (pairs fields.now) body r)) }
+    ensures ok { IfOk result (λ r. IsBegun (steps_of P.answers P.stops P.steps) port.old
+        origin.index origin.time (λ m. IsUploadResponse (steps_of P.answers P.stops P.steps) m
+        port.new account.now (pairs fields.now) body r)) }
     ensures err { OnErr result ((port.new ≡ port.old) ⊎ IsBegun (steps_of P.answers P.stops
-        P.begins P.uploads P.upload_stops P.reads P.read_stops) port.old origin.index
-        origin.time (λ m. HasBegunUpload (steps_of P.answers P.stops P.begins P.uploads
-        P.upload_stops P.reads P.read_stops) m port.new account.now body)) }
+        P.steps) port.old origin.index origin.time (λ m. HasBegunUpload (steps_of P.answers P.stops
+        P.steps) m port.new account.now body)) }
 {
     let size = body.len();
     let media = write_field(alloc, fields, b"Content-Type", b"application/octet-stream")?;
@@ -175,14 +171,12 @@ fn answer_download<P: UserPort>(
     accept: &[u8],
 ) -> Result<Response, NoMemory>
     requires { origin.time ≤ LAST_TIMESTAMP }
-    ensures ok { IfOk result (λ r. IsBegun (steps_of P.answers P.stops P.begins P.uploads
-        P.upload_stops P.reads P.read_stops) port.old origin.index origin.time (λ m. IsBlobResponse
-        (steps_of P.answers P.stops P.begins P.uploads P.upload_stops P.reads P.read_stops)
-        m port.new account.now blob.now accept.now r)) }
-    ensures err { OnErr result (IsBegun (steps_of P.answers P.stops P.begins P.uploads
-        P.upload_stops P.reads P.read_stops) port.old origin.index origin.time (λ m. HasBegunBlob
-        (steps_of P.answers P.stops P.begins P.uploads P.upload_stops P.reads P.read_stops)
-        m port.new account.now blob.now)) }
+    ensures ok { IfOk result (λ r. IsBegun (steps_of P.answers P.stops P.steps) port.old
+        origin.index origin.time (λ m. IsBlobResponse (steps_of P.answers P.stops P.steps) m
+        port.new account.now blob.now accept.now r)) }
+    ensures err { OnErr result (IsBegun (steps_of P.answers P.stops P.steps) port.old origin.index
+        origin.time (λ m. HasBegunBlob (steps_of P.answers P.stops P.steps) m port.new account.now
+        blob.now)) }
 {
     port.begin(origin.index, origin.time);
     match port.read_blob(alloc, account.number, blob) {
@@ -202,12 +196,11 @@ fn answer_resource<P: UserPort>(
     body: Bytes,
 ) -> Result<Response, NoMemory>
     requires { origin.time ≤ LAST_TIMESTAMP }
-    ensures ok { IfOk result (λ r. IsResourceResponse (steps_of P.answers P.stops P.begins
-        P.uploads P.upload_stops P.reads P.read_stops) port.old port.new origin.index origin.time
-        user.now (pairs fields.now) body (resource_as resource.entry) r) }
-    ensures err { OnErr result (HasBegunResource (steps_of P.answers P.stops P.begins P.uploads
-        P.upload_stops P.reads P.read_stops) port.old port.new origin.index origin.time body
-        (resource_as resource.entry)) }
+    ensures ok { IfOk result (λ r. IsResourceResponse (steps_of P.answers P.stops P.steps) port.old
+        port.new origin.index origin.time user.now (pairs fields.now) body (resource_as
+        resource.entry) r) }
+    ensures err { OnErr result (HasBegunResource (steps_of P.answers P.stops P.steps) port.old
+        port.new origin.index origin.time body (resource_as resource.entry)) }
 {
     match resource {
         Resource::Missing => write_blank(alloc, 404),
@@ -231,12 +224,11 @@ fn answer_user<P: UserPort>(
     request: HttpRequest,
 ) -> Result<Response, NoMemory>
     requires { origin.time ≤ LAST_TIMESTAMP }
-    ensures ok { IfOk result (λ r. IsResponseOf (steps_of P.answers P.stops P.begins P.uploads
-        P.upload_stops P.reads P.read_stops) port.old port.new origin.index origin.time user.now
-        (asked request) (resource_of user.now.accounts request.target) r) }
-    ensures err { OnErr result (HasBegunOf (steps_of P.answers P.stops P.begins P.uploads
-        P.upload_stops P.reads P.read_stops) port.old port.new origin.index origin.time
-        (asked request) (resource_of user.now.accounts request.target)) }
+    ensures ok { IfOk result (λ r. IsResponseOf (steps_of P.answers P.stops P.steps) port.old
+        port.new origin.index origin.time user.now (asked request) (resource_of user.now.accounts
+        request.target) r) }
+    ensures err { OnErr result (HasBegunOf (steps_of P.answers P.stops P.steps) port.old port.new
+        origin.index origin.time (asked request) (resource_of user.now.accounts request.target)) }
 {
     let HttpRequest {
         method,
@@ -268,12 +260,10 @@ pub fn respond<P: UserPort>(
     time: u64,
 ) -> Result<Response, NoMemory>
     requires { time ≤ LAST_TIMESTAMP }
-    ensures ok { IfOk result (λ r. IsResponse (steps_of P.answers P.stops P.begins P.uploads
-        P.upload_stops P.reads P.read_stops) users.now.users port.old port.new time
-        (asked request) r) }
-    ensures err { OnErr result (HasBegunRequest (steps_of P.answers P.stops P.begins P.uploads
-        P.upload_stops P.reads P.read_stops) users.now.users port.old port.new time
-        (asked request)) }
+    ensures ok { IfOk result (λ r. IsResponse (steps_of P.answers P.stops P.steps) users.now.users
+        port.old port.new time (asked request) r) }
+    ensures err { OnErr result (HasBegunRequest (steps_of P.answers P.stops P.steps)
+        users.now.users port.old port.new time (asked request)) }
 {
     let Some(index) = find_user(users, request.fields.as_slice()) else {
         return write_blank(alloc, 401);

@@ -3,7 +3,7 @@ ghost use Rattle.std.specs.Prelude.{◌≡◌, option_map};
 ghost use Rattle.http_wire.specs.Fields.{pairs};
 ghost use Rattle.jmap_http.specs.Authorization.{after_spaces, field_value, token_in, user_of, without_spaces};
 
-use http_wire::HttpField;
+use http_wire::{HttpField, KeepsBody};
 use server_users::Users;
 
 /// Finds the value of the first field of a name.
@@ -72,5 +72,24 @@ pub(crate) fn find_user(users: &Users, fields: &[HttpField]) -> Option<usize>
             None => None,
         },
         None => None,
+    }
+}
+
+/// Keeps the bodies of requests that have the token of a user, and no others.
+#[derive(Clone, Copy)]
+pub(crate) struct KnownUsers<'a> {
+    pub users: &'a Users,
+}
+
+impl<'a> KeepsBody for KnownUsers<'a> {
+    ghost use Rattle.jmap_http.specs.Authorization.{is_known};
+
+    ghost is_kept = { λ k fields. is_known k.users.now.users fields };
+
+    fn keeps_body(&self, fields: &[HttpField]) -> bool {
+        match find_user(self.users, fields) {
+            Some(_) => true,
+            None => false,
+        }
     }
 }

@@ -6,10 +6,11 @@ ghost use Rattle.jmap_http.specs.Steps.{steps_of};
 ghost use Rattle.jmap_http.specs.Views.{asked};
 
 use crate::answer::respond;
+use crate::authorization::KnownUsers;
 use crate::limits::MAX_REQUESTS_PER_CONNECTION;
-use crate::port::UserPort;
 use crate::refusals::{end_without_memory, refuse, send};
 use crate::served::Served;
+use crate::user_port::UserPort;
 use http_parts::Unread;
 use http_wire::{HttpRequest, read_request};
 use jm_base::READ_BUFFER_BYTES;
@@ -34,10 +35,9 @@ fn answer_whole<L: Link, P: UserPort, C: Clock>(
     request: HttpRequest,
     at_limit: bool,
 ) -> Option<Served>
-    ensures answered { IsAnswered (steps_of P.answers P.stops P.begins P.uploads P.upload_stops
-        P.reads P.read_stops) users.now.users port.old port.new (C.times clock.old)
-        (C.times clock.new) (asked request) request.last at_limit (L.held link.old)
-        (L.held link.new) (L.put_faults link.old) (L.put_faults link.new) result }
+    ensures answered { IsAnswered (steps_of P.answers P.stops P.steps) users.now.users port.old
+        port.new (C.times clock.old) (C.times clock.new) (asked request) request.last at_limit
+        (L.held link.old) (L.held link.new) (L.put_faults link.old) (L.put_faults link.new) result }
     ensures left { L.left link.new ≡ L.left link.old }
     ensures read_faults { L.read_faults link.new ≡ L.read_faults link.old }
     ensures later { L.put_faults link.old ≤ L.put_faults link.new }
@@ -63,17 +63,17 @@ fn serve_next<L: Link, P: UserPort, C: Clock>(
     number: u64,
 ) -> Option<Served>
     requires { 0 < length room.old }
-    ensures served { ServesNext (steps_of P.answers P.stops P.begins P.uploads P.upload_stops
-        P.reads P.read_stops) users.now.users asks_to_end number port.old port.new
-        (C.times clock.old) (C.times clock.new) early.old early.new (L.left link.old)
-        (L.left link.new) (L.held link.old) (L.held link.new) (L.read_faults link.old)
-        (L.read_faults link.new) (L.put_faults link.old) (L.put_faults link.new) result }
+    ensures served { ServesNext (steps_of P.answers P.stops P.steps) users.now.users asks_to_end
+        number port.old port.new (C.times clock.old) (C.times clock.new) early.old early.new
+        (L.left link.old) (L.left link.new) (L.held link.old) (L.held link.new) (L.read_faults
+        link.old) (L.read_faults link.new) (L.put_faults link.old) (L.put_faults link.new) result }
     ensures room { length room.new ≡ length room.old }
     ensures reads_later { L.read_faults link.old ≤ L.read_faults link.new }
     ensures puts_later { L.put_faults link.old ≤ L.put_faults link.new }
 {
     let at_limit = number == MAX_REQUESTS_PER_CONNECTION;
-    match read_request(alloc, link, room, early) {
+    let known = KnownUsers { users };
+    match read_request(alloc, link, room, early, &known) {
         Ok(request) => { answer_whole(alloc, users, port, link, clock, request, at_limit) }
         Err(fault) => Some(refuse(alloc, link, fault)),
     }
@@ -90,10 +90,9 @@ fn serve_all<L: Link, P: UserPort, C: Clock, G: Gate>(
     room: &mut [u8],
 ) -> Served
     requires { 0 < length room.old }
-    ensures { Serves (steps_of P.answers P.stops P.begins P.uploads P.upload_stops P.reads
-        P.read_stops) users.now.users asks_to_end port.old port.new (C.times clock.old)
-        (C.times clock.new) (L.left link.old) (L.left link.new) (L.held link.old)
-        (L.held link.new) (L.read_faults link.old) (L.read_faults link.new)
+    ensures { Serves (steps_of P.answers P.stops P.steps) users.now.users asks_to_end port.old
+        port.new (C.times clock.old) (C.times clock.new) (L.left link.old) (L.left link.new)
+        (L.held link.old) (L.held link.new) (L.read_faults link.old) (L.read_faults link.new)
         (L.put_faults link.old) (L.put_faults link.new) result }
 {
     let mut early = Unread::new(alloc);
@@ -111,7 +110,7 @@ fn serve_all<L: Link, P: UserPort, C: Clock, G: Gate>(
 /// Serves the requests of a connection in order, at most [`MAX_REQUESTS_PER_CONNECTION`], over a
 /// port that answers for the users. Each response is written before the next request is read. The
 /// clock is read once for each complete request, and the gate is passed before each request with
-/// its number, from 1.
+/// its number, from 1. Of a request without the token of a user no body is kept.
 ///
 /// What is written is a function of the bytes that are read, of what the port answers and of what
 /// the clock shows, however the bytes come in pieces.
@@ -123,10 +122,9 @@ pub fn serve_requests<L: Link, P: UserPort, C: Clock, G: Gate>(
     clock: &mut C,
     gate: &G,
 ) -> Served
-    ensures { Serves (steps_of P.answers P.stops P.begins P.uploads P.upload_stops P.reads
-        P.read_stops) users.now.users asks_to_end port.old port.new (C.times clock.old)
-        (C.times clock.new) (L.left link.old) (L.left link.new) (L.held link.old)
-        (L.held link.new) (L.read_faults link.old) (L.read_faults link.new)
+    ensures { Serves (steps_of P.answers P.stops P.steps) users.now.users asks_to_end port.old
+        port.new (C.times clock.old) (C.times clock.new) (L.left link.old) (L.left link.new)
+        (L.held link.old) (L.held link.new) (L.read_faults link.old) (L.read_faults link.new)
         (L.put_faults link.old) (L.put_faults link.new) result }
 {
     match vec![in alloc; 0u8; READ_BUFFER_BYTES] {

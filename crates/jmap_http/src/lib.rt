@@ -13,10 +13,12 @@ mod response;
 mod served;
 mod session;
 mod targets;
+mod user_port;
 
 pub use answer::respond;
 pub use connection::serve_requests;
 pub use limits::MAX_REQUESTS_PER_CONNECTION;
-pub use port::{Stored, UserPort};
+pub use port::{AccountStates, Stored};
 pub use response::Response;
 pub use served::Served;
+pub use user_port::UserPort;

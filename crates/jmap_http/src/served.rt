@@ -1,7 +1,8 @@
 // How a connection ended.
+use jm_base::Bytes;
 
 /// How a connection ended.
-#[derive(Clone, Copy, Debug, PartialEq, Eq)]
+#[derive(Debug, Drop)]
 pub enum Served {
     /// The bytes ended between two requests, or a request that asks for the end was answered.
     End,
@@ -23,4 +24,8 @@ pub enum Served {
 
     /// A message was refused with this status: 400, 413 or 431.
     Refused(u16),
+
+    /// A request of the user with this index was answered by the switch to WebSocket (RFC 6455,
+    /// section 4.2.2). The early bytes were read past it.
+    Upgraded { user: u64, early: Bytes },
 }

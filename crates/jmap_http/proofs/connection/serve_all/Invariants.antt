@@ -7,7 +7,7 @@ use Rattle.jmap_http.proofs.connection.serve_all.Given as goal
 
 abbrev pub invariant-request : goal.invariant-request
 invariant-request g l = record {
-  goes : Goes (steps_of g.P.Port.answers g.P.Port.stops g.P.UserPort.begins g.P.UserPort.uploads g.P.UserPort.upload_stops g.P.UserPort.reads g.P.UserPort.read_stops) l.fn.users.users asks_to_end l.fn.port l.port (g.C.Clock.times l.fn.clock) (g.C.Clock.times l.clock)
+  goes : Goes (steps_of g.P.Port.answers g.P.Port.stops g.P.UserPort.steps) l.fn.users.users asks_to_end l.fn.port l.port (g.C.Clock.times l.fn.clock) (g.C.Clock.times l.clock)
       (g.L.Link.left l.fn.link) (g.L.Link.left l.link) (g.L.Link.held l.fn.link) (g.L.Link.held l.link) (g.L.Link.read_faults l.fn.link) (g.L.Link.read_faults l.link) (g.L.Link.put_faults l.fn.link) (g.L.Link.put_faults l.link) l.number l.early;
   within : l.number < MAX_REQUESTS_PER_CONNECTION;
   sized : length l.room ≡ length l.fn.room;
