@@ -7,13 +7,12 @@ use std::fmt::{Display, Formatter};
 use std::io::Write;
 
 // How a connection ended.
-#[derive(Clone, Copy)]
-struct End {
-    served: Served,
+struct End<'a> {
+    served: &'a Served,
     too_slow: bool,
 }
 
-impl Display for End {
+impl Display for End<'_> {
     fn fmt<W: fmt::Write>(&self, f: &mut Formatter<W>) -> fmt::Result {
         if self.too_slow {
             return f.write_str("was too slow");
@@ -26,6 +25,7 @@ impl Display for End {
             Served::Limit => f.write_str("had its last request"),
             Served::NoMemory => f.write_str("found no memory"),
             Served::Refused(status) => write!(f, "was refused with {status}"),
+            Served::Upgraded { .. } => f.write_str("was upgraded"),
         }
     }
 }
@@ -36,7 +36,7 @@ impl Display for End {
 pub(crate) fn say_finished(rt: &HostRuntime, finished: &Finished<TcpLink>) {
     let carried = finished.line.carried();
     let end = End {
-        served: finished.served,
+        served: &finished.served,
         too_slow: carried.too_slow,
     };
     let _ = writeln!(

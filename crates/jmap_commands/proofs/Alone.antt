@@ -204,11 +204,11 @@ module _ {K R : Type 0} (book : BookView K R) (root k : PassFacts) (none_left : 
   ended_is = ap (λ (xs : List Ended). xs ++ the_ended ∷ k.ended) none_left ∙ ap (λ (xs : List Ended). the_ended ∷ xs) none_joined
 
   own_is : under k.name (entries_of book) ≡ k.own
-  own_is = closed.ended 0 the_ended (ap (λ (xs : List Ended). get_elem? xs 0) ended_is)
+  own_is = closed.entries_are.ended 0 the_ended (ap (λ (xs : List Ended). get_elem? xs 0) ended_is)
 
   no_others : (n : ℕ) → n ≢ k.name → under n (entries_of book) ≡ []
   no_others n apart =
-      closed.names n (λ i e there same. apart (sym same ∙ ap (λ (x : Ended). x.name) (one_ended the_ended e i (subst (λ (xs : List Ended). get_elem? xs i ≡ some e) ended_is there))))
+      closed.entries_are.names n (λ i e there same. apart (sym same ∙ ap (λ (x : Ended). x.name) (one_ended the_ended e i (subst (λ (xs : List Ended). get_elem? xs i ≡ some e) ended_is there))))
 
   all_own : entries_of book ≡ k.own
   all_own = sym (all_under k.name (entries_of book) no_others) ∙ own_is

@@ -1,6 +1,5 @@
 pub mod Told
 pub mod Unmoved
-pub mod Leaving
 pub mod Openings
 pub mod Served
 pub mod Workers

@@ -18,9 +18,9 @@ use Rattle.account_hall.specs.declared.named_account.Named.{Named}
 use Rattle.jmap_server.specs.declared.fault.ServeFault.{ServeFault}
 use Rattle.jmap_server.specs.declared.fault.ServeFault.TheVariants.{BadConfig, KeeperFault, Damaged, DeskFault, NoMemory}
 use Rattle.jmap_server.specs.Deeds.{Lent, account_of}
-use Rattle.jmap_server.specs.Fronts.{AreEntriesOf, KnowsSessions}
-use Rattle.jmap_server.proofs.Leaving.{entries_known}
-use Rattle.jmap_server.specs.Openings.{AreAsBefore, AreClosed, AreOpenings, AreTakenOut, Closing, IsKeptBy, IsOpening, IsTakenOut, Opening, keepers_back, keepers_of, lent_back, lent_of, opened_by, opening_of, openings_of}
+use Rattle.account_hall.specs.Closing.{AreEntriesOf, KnowsSessions, opened_by}
+use Rattle.account_hall.proofs.Closing.{entries_known}
+use Rattle.jmap_server.specs.Openings.{AreAsBefore, AreClosed, AreOpenings, AreTakenOut, Closing, IsKeptBy, IsOpening, IsTakenOut, Opening, keepers_back, keepers_of, lent_back, lent_of, opening_of, openings_of}
 use Rattle.jmap_server.specs.Serving.{IsStartRefused, name_in, names_in}
 
 cons_first : {A : Type 0} {x y : A} {xs ys : List A} → x ∷ xs ≡ y ∷ ys → x ≡ y
@@ -149,7 +149,7 @@ module _ {K : Type 0} (kept : K → Option Kept) (append_faults : K → ℕ) whe
       let opening : k'.opening ≡ a.book.opened = cons_first same ∙ ap opened_by built.1 in
       let here : KnowsSessions n k' sessions = subst (λ (m : ℕ). KnowsSessions m k' sessions) (omega arith) (knows 0 k' refl) in (
         h.0.name_is ∙ built.0,
-        subst (λ (o : History). AreEntriesOf n o c.entries sessions) opening (entries_known n k' c.entries sessions h.0.seen h.0.ended h.0.names here),
+        subst (λ (o : History). AreEntriesOf n o c.entries sessions) opening (entries_known n k' c.entries sessions h.0.entries_are here),
         subst (λ (o : History). IsKeptBy kept append_faults o c.entries c.keeper) opening h.0.kept_by,
         closed_by sessions (n + 1) accounts rooms roots roots' closings built.2 (cons_rest same) (λ i root there. subst (λ (m : ℕ). KnowsSessions m root sessions) (omega arith) (knows (suc i) root there)) h.1,
       )
@@ -167,10 +167,7 @@ module _ {K : Type 0} (kept : K → Option Kept) (append_faults : K → ℕ) whe
       → IsTakenOut kept append_faults room root (record { name = a.name; keeper = a.book.keeper; entries = entries_of a.book })
   taken_out room root a name closed keeps = record {
     name_is = name;
-    seen = closed.seen;
-    ended = closed.ended;
-    all = closed.all;
-    names = closed.names;
+    entries_are = closed.entries_are;
     kept_by = subst (λ (o : History). IsKeptBy kept append_faults o (entries_of a.book) a.book.keeper) closed.opening keeps;
   }
 

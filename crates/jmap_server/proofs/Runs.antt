@@ -18,8 +18,8 @@ use Rattle.server_users.specs.declared.fault.ConfigFault.TheVariants as config
 use Rattle.jmap_server.specs.declared.fault.ServeFault.{ServeFault}
 use Rattle.std.specs.List.{AllByRecursion}
 use Rattle.account_hall.specs.Sessions.{SessionView}
-use Rattle.jmap_server.specs.Fronts.{KnowsSessions}
-use Rattle.jmap_server.proofs.Leaving.{none_known}
+use Rattle.account_hall.specs.Closing.{KnowsSessions}
+use Rattle.account_hall.proofs.Closing.{none_known}
 use Rattle.jmap_server.specs.Deeds.{Deed, Lent, Listened, ReadText, account_of}
 use Rattle.jmap_server.specs.Lines.{HasServedLines, Plans, Sight}
 use Rattle.jmap_server.specs.Serving.{HasOpenedAll, HasRun, HasServed, HasServedHall, HasServedOrNot, HasServedPort, HasServedUsers, IsBadConfig, IsCaused, IsOutside, IsRefusedBy, config_fault_of, end_of, fault_of, name_in, name_of, names_in}

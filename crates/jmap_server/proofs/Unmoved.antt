@@ -24,7 +24,7 @@ use Rattle.read_replies.specs.Targets.{accounts_of, source_of, target_of}
 use Rattle.hall_port.specs.Views.{PortView}
 use Rattle.hall_port.proofs.Through.{IsKeptBySteps, by_cond, through}
 use Rattle.hall_port.proofs.ThroughCopies.{through_begun, through_copy}
-use Rattle.jmap_server.specs.Openings.{opened_by}
+use Rattle.account_hall.specs.Closing.{opened_by}
 
 -- the accounts of the two sessions opened with the same
 abbrev pub AreSameOpenings : SessionView → SessionView → Type 0

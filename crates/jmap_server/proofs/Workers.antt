@@ -14,7 +14,7 @@ use Rattle.jmap_server.specs.declared.finished.Finished.{Finished}
 use Rattle.jmap_server.specs.declared.served_line.ServedLine.{ServedLine}
 use Rattle.mail_records.specs.Histories.{History}
 use Rattle.jmap_server.specs.Deeds.{GotLine}
-use Rattle.jmap_server.specs.Openings.{opened_by}
+use Rattle.account_hall.specs.Closing.{opened_by}
 use Rattle.jmap_server.proofs.Unmoved.{openings_stay}
 use Rattle.jmap_server.specs.Lines.{Goes, IsLineServed, Plans, Sight, Taken, taken_of, taking}
 use Rattle.jmap_server.specs.Workers.{IsHandedOver, IsJoined, IsServedLine, IsWorker, LineWorker, taken_by}

@@ -1,5 +1,4 @@
 pub mod Deeds
-pub mod Fronts
 pub mod Openings
 pub mod Lines
 pub mod Workers

@@ -6,13 +6,12 @@ use Rattle.account_book.specs.Books.{refusals_in}
 use Rattle.account_book.specs.Keeping.{KnowsHistory}
 use Rattle.account_book.specs.Opening.{IsAsBefore, IsOpened}
 use Rattle.account_book.specs.Passes.{named_since}
-use Rattle.account_lock.specs.Entries.{StartsWith}
-use Rattle.account_lock.specs.Passes.{HasEndedAll, HasNoOthers, KeepsEnded}
 use Rattle.account_lock.specs.Views.{PassFacts}
 use Rattle.account_hall.specs.Halls.{RoomView}
 use Rattle.account_hall.specs.declared.named_account.Named.{Named}
 use Rattle.account_hall.specs.Sessions.{SessionView}
-use Rattle.jmap_server.specs.Fronts.{AreEntriesOf}
+use Rattle.account_hall.specs.Building.{AreClosedBy}
+use Rattle.account_hall.specs.Closing.{AreEntriesOf}
 use Rattle.jmap_server.specs.Deeds.{Lent, lent_for}
 
 -- ---- opened
@@ -102,19 +101,12 @@ AreClosed _ _ _ _ _ _ = ⊥
 
 -- ---- taken out of a hall
 
--- what an account opened with, as a pass of its lock knows it
-abbrev pub opened_by : PassFacts → History
-opened_by k = k.opening
-
 -- The account of a room was taken out, whose root was this one. Its entries begin with those that
 -- the root had seen, and are those of the sessions that left.
 pub record IsTakenOut {K : Type 0} (kept : K → Option Kept) (append_faults : K → ℕ)
     (room : RoomView) (root : PassFacts) (c : Closing K) : Type 0 where
   pub name_is : c.name ≡ room.name
-  pub seen : StartsWith c.entries root.seen
-  pub ended : KeepsEnded root c.entries
-  pub all : HasEndedAll root
-  pub names : HasNoOthers root c.entries
+  pub entries_are : AreClosedBy root c.entries
   pub kept_by : IsKeptBy kept append_faults root.opening c.entries c.keeper
 
 -- each account of a hall was taken out

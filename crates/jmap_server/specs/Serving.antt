@@ -20,8 +20,8 @@ use Rattle.server_users.specs.Lookups.{IsConfigurationOf, places_of}
 use Rattle.jmap_server.specs.declared.fault.ServeFault.{ServeFault}
 use Rattle.jmap_server.specs.declared.fault.ServeFault.TheVariants.{BadConfig, KeeperFault, Damaged, DeskFault, NoMemory}
 use Rattle.jmap_server.specs.Deeds.{Deed, GaveKeeper, GotKeeper, IsTold, Lent, Listened, ReadText, account_of, gave, lent_for}
-use Rattle.jmap_server.specs.Openings.{AreAsBefore, AreClosed, AreOpenings, AreTakenOut, Closing, IsOpening, Opening, keepers_back, keepers_of, opened_by, opening_of}
-use Rattle.jmap_server.specs.Fronts.{FrontGoes}
+use Rattle.account_hall.specs.Closing.{FrontGoes, opened_by}
+use Rattle.jmap_server.specs.Openings.{AreAsBefore, AreClosed, AreOpenings, AreTakenOut, Closing, IsOpening, Opening, keepers_back, keepers_of, opening_of}
 use Rattle.jmap_server.specs.Lines.{AreLinesServed, HasServedLines, Plans, Sight}
 
 -- ---- faults

@@ -6,7 +6,7 @@ use Rattle.account_hall.specs.Halls.{AreOf, RoomView}
 use Rattle.account_hall.specs.Sessions.{SessionView}
 use Rattle.hall_port.specs.Serving.{ServesHall}
 use Rattle.hall_port.specs.Steps.{calls_by}
-use Rattle.jmap_server.specs.Openings.{opened_by}
+use Rattle.account_hall.specs.Closing.{opened_by}
 use Rattle.jmap_server.specs.Lines.{IsLineServed, Plans, Sight, Taken, taken_of}
 use Rattle.jmap_server.specs.declared.finished.Finished.{Finished}
 use Rattle.jmap_server.specs.declared.served_line.ServedLine.{ServedLine}

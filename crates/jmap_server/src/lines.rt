@@ -7,9 +7,8 @@ ghost use Rattle.account_lock.specs.declared.limits.TheConstants.{MAX_NAMES as T
 ghost use Rattle.jm_edge.specs.Causes.{IsCounted};
 ghost use Rattle.jmap_server.specs.Deeds.{Deed, IsTold};
 ghost use Rattle.account_hall.specs.Sessions.{SessionView};
-ghost use Rattle.jmap_server.specs.Fronts.{FrontGoes};
+ghost use Rattle.account_hall.specs.Closing.{FrontGoes, opened_by};
 ghost use Rattle.jmap_server.specs.Lines.{Goes, HasServedLines, HasTakenNext, HaveGone, sight_of};
-ghost use Rattle.jmap_server.specs.Openings.{opened_by};
 ghost use Rattle.jmap_server.specs.Workers.{IsHandedOver, IsWorker, taken_by};
 
 use crate::ends::Ends;

@@ -2,15 +2,14 @@
 ghost use Rattle.std.specs.Prelude.{◌≡◌, ◌-◌, ◌≤◌, [], ◌∷◌, length, map};
 ghost use Rattle.account_hall.specs.Halls.{AreOf};
 ghost use Rattle.account_hall.specs.Sessions.{IsSession};
-ghost use Rattle.jmap_server.specs.Fronts.{FrontGoes};
+ghost use Rattle.account_hall.specs.Closing.{FrontGoes, opened_by};
 ghost use Rattle.jmap_server.specs.Lines.{IsUnread, sight_of};
-ghost use Rattle.jmap_server.specs.Openings.{opened_by};
 ghost use Rattle.jmap_server.specs.Workers;
 
 use crate::finished::Finished;
 use account_book::Rules;
 use account_hall::{Front, Hall, Passes};
-use hall_port::serve_hall;
+use hall_port::serve_connection;
 use jm_base::Sequence;
 use jm_edge::{Clock, Gate, Link};
 use jmap_http::Served;
@@ -47,7 +46,9 @@ pub(crate) fn serve_by_session<H: Wait, K: Keeper, R: Rules, L: Link, C: Clock, 
 {
     let mut line = line;
     let mut clock = clock;
-    let (served, passes) = serve_hall(rt, alloc, hall, users, passes, &mut line, &mut clock, &gate);
+    let (served, passes) = serve_connection(
+        rt, alloc, hall, users, passes, &mut line, &mut clock, &gate,
+    );
     line.finish();
     ServedLine {
         line,

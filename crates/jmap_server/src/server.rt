@@ -7,9 +7,9 @@ ghost use Rattle.account_lock.specs.declared.limits.TheConstants.{MAX_NAMES as T
 ghost use Rattle.jm_edge.specs.Causes.{IsCounted};
 ghost use Rattle.jmap_server.specs.Deeds.{Deed, IsTold};
 ghost use Rattle.account_hall.specs.Sessions.{SessionView};
-ghost use Rattle.jmap_server.specs.Fronts.{FrontGoes};
+ghost use Rattle.account_hall.specs.Closing.{FrontGoes, opened_by};
 ghost use Rattle.jmap_server.specs.Lines.{sight_of};
-ghost use Rattle.jmap_server.specs.Openings.{opened_by, openings_of};
+ghost use Rattle.jmap_server.specs.Openings.{openings_of};
 ghost use Rattle.jmap_server.specs.Serving.{HasRun, HasServedHall, HasServedOrNot, HasServedPort, HasServedUsers, IsCaused, config_fault_of, end_of, names_in};
 
 use crate::accounts::{build_world_fault, close_accounts, close_hall, open_accounts};
@@ -170,7 +170,7 @@ fn serve_users<H: Threads + Wait + Sync, W: World, F: RulesSource>(
 ///
 /// If an account is refused, each keeper that comes back keeps what it kept. Otherwise it keeps
 /// what its account opened with, which is what it loaded, and the entries that the sessions of the
-/// lines gave it (`specs/Openings.antt`, `specs/Fronts.antt`).
+/// lines gave it (`specs/Openings.antt`).
 ///
 /// Fails with `BadConfig` if and only if the bytes of the configuration are not of the form, and
 /// with `Damaged` if and only if what a keeper loaded is no valid account, as [`Book::start`] says.

@@ -1,6 +1,6 @@
 use Rattle.std.proofs.Common.{refl, [], ◌∷◌, ◌∙◌}
 use Rattle.jmap_server.specs.Lines.{sight_of}
-use Rattle.jmap_server.proofs.Leaving.{front_still}
+use Rattle.account_hall.proofs.Closing.{front_still}
 use Rattle.jmap_server.proofs.Workers.{let_out_served}
 use Rattle.jmap_server.proofs.lines.hand_over.Goals as goal
 

@@ -1,6 +1,6 @@
 use Rattle.std.specs.List.{AllByRecursion}
 use Rattle.mail_records.specs.Histories.{History}
-use Rattle.jmap_server.proofs.Leaving.{front_on, front_still}
+use Rattle.account_hall.proofs.Closing.{front_on, front_still}
 use Rattle.std.proofs.Common.{refl, sym, subst, List, [], ◌++◌, ◌∙◌, map}
 use Rattle.jmap_server.specs.Lines.{sight_of}
 use Rattle.jmap_server.specs.Workers.{IsWorker, taken_by}

@@ -1,7 +1,7 @@
 use Rattle.std.proofs.Common.{[], ◌∷◌, map}
 use Rattle.jmap_server.specs.Deeds.{GotLine}
 use Rattle.jmap_server.specs.Lines.{sight_of}
-use Rattle.jmap_server.specs.Openings.{opened_by}
+use Rattle.account_hall.specs.Closing.{opened_by}
 use Rattle.jmap_server.proofs.Workers.{joined_all, joined_back, joined_hall, joined_same}
 use Rattle.jmap_server.proofs.lines.return_one.Goals as goal
 

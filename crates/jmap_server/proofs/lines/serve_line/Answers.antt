@@ -2,9 +2,9 @@ use Rattle.std.proofs.Common.{ap, inl, map, refl, subst, sym, [], ◌∙◌, Lis
 use Rattle.mail_records.specs.Histories.{History}
 use Rattle.account_hall.specs.Halls.{FrontView}
 use Rattle.jmap_server.specs.Lines.{sight_of}
-use Rattle.jmap_server.specs.Openings.{opened_by}
+use Rattle.account_hall.specs.Closing.{opened_by}
 use Rattle.jmap_server.specs.Workers.{IsHandedOver}
-use Rattle.jmap_server.proofs.Leaving.{front_given, front_still}
+use Rattle.account_hall.proofs.Closing.{front_given, front_still}
 use Rattle.jmap_server.proofs.Openings.{given_openings, split_openings}
 use Rattle.jmap_server.proofs.lines.serve_line.Goals as goal
 

@@ -1,4 +1,4 @@
-use Rattle.jmap_server.proofs.Leaving.{front_on, front_still}
+use Rattle.account_hall.proofs.Closing.{front_on, front_still}
 use Rattle.std.proofs.Common.{refl, [], ◌++◌, ◌∙◌, map, arith, ap, Ok, Err}
 use Rattle.jmap_server.specs.Lines.{sight_of}
 use Rattle.jmap_server.specs.Workers.{taken_by}

@@ -1,6 +1,6 @@
 use Rattle.std.proofs.Common.{[], ◌∷◌, ◌++◌, map, refl, None, Some, arith}
-use Rattle.jmap_server.specs.Openings.{opened_by}
-use Rattle.jmap_server.proofs.Leaving.{front_still}
+use Rattle.account_hall.specs.Closing.{opened_by}
+use Rattle.account_hall.proofs.Closing.{front_still}
 use Rattle.jmap_server.specs.Deeds.{GotLine}
 use Rattle.jmap_server.specs.Lines.{sight_of, taken_of, taking}
 use Rattle.jmap_server.proofs.Told.{told_on, told_taking}

@@ -2,10 +2,9 @@ use Rattle.std.proofs.Common.{◌-◌, ◌≡◌, ◌+◌, ◌≤◌, List, map,
 use Rattle.std.specs.List.{AllByRecursion}
 use Rattle.account_hall.specs.Halls.{AreOf}
 use Rattle.account_hall.specs.Sessions.{SessionView}
-use Rattle.jmap_server.specs.Fronts.{FrontGoes}
+use Rattle.account_hall.specs.Closing.{FrontGoes, opened_by}
 use Rattle.jmap_server.specs.Deeds.{Deed, IsTold}
 use Rattle.jmap_server.specs.Lines.{Goes, sight_of}
-use Rattle.jmap_server.specs.Openings.{opened_by}
 use Rattle.jmap_server.specs.Workers.{IsWorker, taken_by}
 use Rattle.jmap_server.proofs.lines.take_lines.Given as goal
 

@@ -1,5 +1,5 @@
 use Rattle.std.proofs.Common.{refl, inl, [], ◌∷◌}
-use Rattle.jmap_server.proofs.Leaving.{front_still}
+use Rattle.account_hall.proofs.Closing.{front_still}
 use Rattle.jmap_server.specs.Deeds.{Listened}
 use Rattle.jmap_server.specs.Lines.{sight_of}
 use Rattle.jmap_server.proofs.Told.{told_on}
