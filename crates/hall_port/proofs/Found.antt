@@ -3,7 +3,7 @@ use Rattle.std.proofs.Common.{◌≡◌, ◌≢◌, ℕ, Bool, true, false, cond
 use Rattle.std.specs.List.{AllByRecursion}
 use Rattle.jm_json.specs.Call.{Call}
 use Rattle.server_users.specs.declared.users.UserAccount.{UserAccount}
-use Rattle.jmap_http.specs.Targets.{account_with}
+use Rattle.server_users.specs.Lookups.{account_with}
 use Rattle.hall_port.specs.Lines.{first_changeable}
 use Rattle.read_replies.specs.Targets.{argument_in, from_found, from_named, is_change, is_copy, source_of, target_of, to_found, to_named}
 

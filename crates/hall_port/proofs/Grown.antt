@@ -1,116 +1,68 @@
 -- After each step of a port the session has all that it had.
-use Rattle.std.proofs.Common.{◌≡◌, ◌⊎◌, inl, inr, ℕ, zero, suc, List, [], ◌∷◌, ◌++◌, Option, None, Some, Result, Ok, Err, slice_get, IsUtf8, refl, sym, ap, ◌∙◌, subst, append_assoc}
-use Rattle.std.proofs.Math.ListN.{set}
-use Rattle.std.proofs.lemmas.List.{append-nil}
+use Rattle.std.proofs.Common.{◌≡◌, ◌⊎◌, inl, inr, ℕ, List, Option, None, Some, Result, Ok, Err, IsUtf8, sym, ap, subst}
 use Rattle.jm_json.specs.Call.{Call as Invocation}
 use Rattle.jm_json.specs.declared.invocation.Created.{Created}
 use Rattle.jm_json.specs.declared.invocation.Replied.{Replied}
-use Rattle.mail_records.specs.Histories.{Entry, History}
+use Rattle.mail_records.specs.Histories.{History}
 use Rattle.account_book.specs.declared.asks.Call.{Call}
 use Rattle.account_book.specs.declared.plans.Out.{Out}
 use Rattle.account_book.specs.declared.plans.Plan.{Plan}
-use Rattle.account_book.specs.declared.plans.Point.{Point}
-use Rattle.account_lock.specs.Entries.{StartsWith}
-use Rattle.account_lock.specs.Views.{PassFacts}
+use Rattle.account_hall.proofs.Growing.{grown_called, grown_looked, grown_on, grown_same}
+use Rattle.account_hall.specs.Growing.{HasGrown}
 use Rattle.account_hall.specs.Halls.{RoomView}
 use Rattle.account_hall.specs.Copies.{HasBegunCopy, HasTaken, IsCopy, IsNextCall, copy_steps}
-use Rattle.account_hall.specs.Sessions.{IsCall, IsLook, SessionView}
+use Rattle.account_hall.specs.Sessions.{SessionView}
 use Rattle.account_hall.specs.declared.copies.CopyCall.{CopyCall}
 use Rattle.batch_lines.specs.Input.{Seen}
 use Rattle.batch_lines.specs.declared.fault.LinesFault.{LinesFault}
 use Rattle.batch_lines.specs.declared.upload.Uploaded.{Uploaded}
 use Rattle.jmap_http.specs.Connections.{asks_to_end}
+use Rattle.jmap_http.specs.declared.port.AccountStates.{AccountStates}
 use Rattle.jmap_http.specs.declared.port.Stored.{Stored}
 use Rattle.jmap_http.specs.declared.served.Served.{Served}
 use Rattle.server_users.specs.Configuration.{Configuration}
 use Rattle.server_users.specs.declared.users.UserAccount.{UserAccount}
 use Rattle.copy_calls.specs.Originals.{originals_call}
-use Rattle.hall_port.specs.Growing.{HasGrown}
 use Rattle.hall_port.specs.Lines.{AnswersLines, HaltsAt, UploadsTo, first_changeable, line_halts, line_uploads}
 use Rattle.hall_port.specs.Serving.{ServesHall, hall_steps, port_over}
-use Rattle.hall_port.specs.Steps.{AnswersBy, AnswersFrom, HasBegunTo, HasStopped, IsAsked, IsRead, IsUploaded, StopsBy, StopsFrom, begins, calls_by, has_account, hall_answers, hall_halts, hall_reads, hall_stops, hall_uploads}
+use Rattle.hall_port.specs.Steps.{AnswersBy, AnswersFrom, HasBegunTo, HasReadStates, HasStopped, IsAsked, IsRead, IsUploaded, StopsBy, StopsFrom, begins, calls_by, has_account, hall_answers, hall_halts, hall_looks, hall_reads, hall_stops, hall_uploads}
 use Rattle.read_replies.specs.Targets.{accounts_of, source_of, target_of}
 use Rattle.hall_port.specs.Views.{PortView}
 use Rattle.hall_port.proofs.ThroughLines.{IsKeptByLines, through_lines}
 use Rattle.hall_port.proofs.Through.{IsKeptBySteps, by_cond, through}
 use Rattle.hall_port.proofs.ThroughCopies.{through_begun, through_copy}
 
-starts_with_itself : (es : List Entry) → StartsWith es es
-starts_with_itself es = ([], sym (append-nil es))
-
--- of each account in these passes, the same or more was seen
-abbrev AreSeen : List PassFacts → List PassFacts → Type 0
-AreSeen ks ks' = (account : ℕ) (k : PassFacts) → slice_get ks account ≡ Some k → (k' : PassFacts) × (slice_get ks' account ≡ Some k') × StartsWith k'.seen k.seen
-
-kept_there : (ks : List PassFacts) (i : ℕ) (k k' : PassFacts) → slice_get ks i ≡ Some k → StartsWith k'.seen k.seen → AreSeen ks (set ks i k')
-kept_there [] i k k' there more j x here = absurd (cc there)
-kept_there (z ∷ zs) zero k k' there more zero x here = let e : k ≡ x = cc (there, here) in (k', refl, subst (λ (y : PassFacts). StartsWith k'.seen y.seen) e more)
-kept_there (z ∷ zs) zero k k' there more (suc j) x here = (x, here, starts_with_itself x.seen)
-kept_there (z ∷ zs) (suc i) k k' there more zero x here = (x, here, starts_with_itself x.seen)
-kept_there (z ∷ zs) (suc i) k k' there more (suc j) x here = kept_there zs i k k' there more j x here
-
-unchanged : (s : SessionView) → HasGrown s s
-unchanged s = record {
-  added = [];
-  trail = sym (append-nil s.trail);
-  seen = λ account k there. (k, there, starts_with_itself k.seen);
-}
-
 same : (s s' : SessionView) → s' ≡ s → HasGrown s s'
-same s s' is = subst (HasGrown s) (sym is) (unchanged s)
+same s s' is = subst (HasGrown s) (sym is) (grown_same s)
 
 same_port : (s s' : PortView) → s' ≡ s → HasGrown s.session s'.session
 same_port s s' is = same s.session s'.session (ap (λ (p : PortView). p.session) is)
 
-called : (plan : History → Call → ℕ → Plan) (account : ℕ) (call : Call) (time : ℕ) (s s' : SessionView) (out : Out) → IsCall plan account call time s s' out → HasGrown s s'
-called plan account call time s s' out c = record {
-  added = c.point ∷ [];
-  trail = c.trail;
-  seen = subst (AreSeen s.passes) (sym c.passes) (kept_there s.passes account c.pass c.pass' c.there c.seen);
-}
-
-looked : (account : ℕ) (s s' : SessionView) → IsLook account s s' → HasGrown s s'
-looked account s s' l = record {
-  added = [];
-  trail = let e = l.trail in subst (λ t. t ≡ s.trail ++ []) (sym e) (sym (append-nil s.trail));
-  seen = subst (AreSeen s.passes) (sym l.passes) (kept_there s.passes account l.pass l.pass' l.there l.looked.seen);
-}
-
 asked : {R : Type 0} (plan_of : R → History → Call → ℕ → Plan) (s s' : PortView) (account : ℕ) (call : Call) (out : Out) → IsAsked (calls_by plan_of) s account call out s' → HasGrown s.session s'.session
-asked plan_of s s' account call out a = called (plan_of a.next.0) account call s.time s.session s'.session out a.next.1
+asked plan_of s s' account call out a = grown_called (plan_of a.next.0) account call s.time s.session s'.session out a.next.1
 
 stopped : (account : ℕ) (s s' : PortView) → HasStopped account s s' → HasGrown s.session s'.session
 stopped account s s' (inl is) = same_port s s' is
-stopped account s s' (inr (look, rest)) = looked account s.session s'.session look
-
-seen_further : (log seen more : List Entry) → StartsWith more log → StartsWith log seen → StartsWith more seen
-seen_further log seen more (rest, is) (others, was) = (others ++ rest, is ∙ (ap (λ (es : List Entry). es ++ rest) was ∙ append_assoc seen others rest))
-
-further : (s m s' : SessionView) → HasGrown s m → HasGrown m s' → HasGrown s s'
-further s m s' one two = record {
-  added = one.added ++ two.added;
-  trail = two.trail ∙ (ap (λ (ps : List Point). ps ++ two.added) one.trail ∙ append_assoc s.trail one.added two.added);
-  seen = λ account k there. let first = one.seen account k there in let second = two.seen account first.0 first.1 in (second.0, second.1, seen_further first.0.seen k.seen second.0.seen second.2 first.2);
-}
+stopped account s s' (inr (look, rest)) = grown_looked account s.session s'.session look
 
 -- ---- copies
 
 taken : (from to : ℕ) (s s' : SessionView) → HasTaken from to s s' → HasGrown s s'
-taken from to s s' w = further s w.between s' (looked from s w.between w.first) (looked to w.between s' w.second)
+taken from to s s' w = grown_on s w.between s' (grown_looked from s w.between w.first) (grown_looked to w.between s' w.second)
 
 next : {R : Type 0} (plan_of : R → History → Call → ℕ → Plan) (account : ℕ) (call : Call) (time : ℕ) (s s' : SessionView) (out : Out) → (rules : R) × IsNextCall (plan_of rules) account call time s s' out → HasGrown s s'
-next plan_of account call time s s' out (rules, w) = called (plan_of rules) account call time s s' out w.call_is
+next plan_of account call time s s' out (rules, w) = grown_called (plan_of rules) account call time s s' out w.call_is
 
 copied : {R : Type 0} (plan_of : R → History → Call → ℕ → Plan) (set_of : Invocation → Invocation → Option Invocation) (copy : CopyCall) (time : ℕ) (s s' : SessionView) (out : Out) → IsCopy plan_of set_of copy time s s' out → HasGrown s s'
 copied plan_of set_of copy time s s' out w =
-    further s w.taken s' (taken copy.from copy.to s w.taken w.took)
-    (through_copy (copy_steps plan_of set_of copy time) HasGrown unchanged further
+    grown_on s w.taken s' (taken copy.from copy.to s w.taken w.took)
+    (through_copy (copy_steps plan_of set_of copy time) HasGrown grown_same grown_on
     (λ call m m' o did. next plan_of copy.from call time m m' o did) (λ call m m' o did. next plan_of copy.to call time m m' o did) w.taken s' out w.copied)
 
 begun : {R : Type 0} (plan_of : R → History → Call → ℕ → Plan) (set_of : Invocation → Invocation → Option Invocation) (copy : CopyCall) (time : ℕ) (s s' : SessionView) → HasBegunCopy plan_of set_of copy time s s' → HasGrown s s'
 begun plan_of set_of copy time s s' w =
-    further s w.taken s' (taken copy.from copy.to s w.taken w.took)
-    (through_begun (copy_steps plan_of set_of copy time) HasGrown unchanged further
+    grown_on s w.taken s' (taken copy.from copy.to s w.taken w.took)
+    (through_begun (copy_steps plan_of set_of copy time) HasGrown grown_same grown_on
     (λ call m m' o did. next plan_of copy.from call time m m' o did) (λ call m m' o did. next plan_of copy.to call time m m' o did) w.taken s' w.begun)
 
 -- ---- a step of the port
@@ -157,6 +109,9 @@ grown_uploaded plan_of s s' account bytes stored did = by_cond (has_account s ac
 pub grown_read : {R : Type 0} (plan_of : R → History → Call → ℕ → Plan) (s s' : PortView) (account : ℕ) (blob : List ℕ) (bytes : Option (List ℕ)) → hall_reads (calls_by plan_of) s account blob bytes s' → HasGrown s.session s'.session
 grown_read plan_of s s' account blob bytes did = by_cond (has_account s account) _ _ _ (read plan_of s s' account blob bytes) (λ u. same_port s s' u.0) did
 
+pub grown_told : {R : Type 0} (plan_of : R → History → Call → ℕ → Plan) (s s' : PortView) (account : ℕ) (states : Option AccountStates) → hall_looks (calls_by plan_of) s account states s' → HasGrown s.session s'.session
+grown_told plan_of s s' account states did = by_cond (has_account s account) _ _ _ (λ (u : HasReadStates (calls_by plan_of) s account states s'). asked plan_of s s' _ _ _ u.asked) (λ u. same_port s s' u.0) did
+
 pub grown_halted : (s s' : PortView) (account : ℕ) → hall_halts s account s' → HasGrown s.session s'.session
 grown_halted s s' account did = by_cond (has_account s account) _ _ _ (stopped account s s') (same_port s s') did
 
@@ -165,8 +120,8 @@ HasGrownPort s s' = HasGrown s.session s'.session
 
 grows : {R : Type 0} (plan_of : R → History → Call → ℕ → Plan) → IsKeptBySteps (hall_steps (calls_by plan_of)) HasGrownPort
 grows plan_of = record {
-  stay = λ s. unchanged s.session;
-  go = λ s m s' one two. further s.session m.session s'.session one two;
+  stay = λ s. grown_same s.session;
+  go = λ s m s' one two. grown_on s.session m.session s'.session one two;
   begins = λ s user time s' is. grown_begun s s' user time is;
   answers = λ s c made r s' did. grown_answered plan_of s s' c made r did;
   stops = λ s c made s' did. grown_stopped plan_of s s' c made did;

@@ -5,3 +5,4 @@ pub mod ThroughCopies
 pub mod LinesDone
 pub mod Rooms
 pub mod Grown
+pub mod ReadSingly

@@ -23,7 +23,7 @@ use Rattle.jmap_http.specs.Targets.{ApiResource, BlobResource, Missing, Resource
 use Rattle.jmap_http.specs.declared.port.Stored.{Stored}
 use Rattle.jmap_http.specs.declared.response.Response.{Response}
 use Rattle.jmap_http.specs.declared.served.Served.{Served}
-use Rattle.jmap_http.specs.declared.served.Served.TheVariants.{CutOff, End, Limit, NoMemory, ReadFault, Refused, WriteFault}
+use Rattle.jmap_http.specs.declared.served.Served.TheVariants.{CutOff, End, Limit, NoMemory, ReadFault, Refused, Upgraded, WriteFault}
 use Rattle.server_users.specs.declared.users.User.{User}
 use Rattle.server_users.specs.declared.users.UserAccount.{UserAccount}
 
@@ -175,6 +175,7 @@ module _ {S : Type 0} (steps : UserSteps S) (K : S → S → Type 0) (kept : IsK
   ending users ends NoMemory n link x y written (inl w) = same_stage x y w.same
   ending users ends NoMemory n link x y written (inr w) = lost users x y w.time (asked_of w.head w.body) w.begun
   ending users ends (Refused status) n link x y written w = same_stage x y w.same
+  ending users ends (Upgraded user early) n link x y written w = absurd w
 
   pub through : (users : List User) (ends : RequestHead → Bool) (s s' : S) (times times' left left' held held' : Option (List ℕ)) (reads reads' puts puts' : ℕ) (served : Served)
       → Serves steps users ends s s' times times' left left' held held' reads reads' puts puts' served → K s s'

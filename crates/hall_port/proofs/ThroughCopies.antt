@@ -1,5 +1,5 @@
 -- What each call of a copy keeps, the whole copy keeps.
-use Rattle.std.proofs.Common.{◌≡◌, ◌⊎◌, inl, inr, Option, Some, None, Result, Ok, Err, sym, subst}
+use Rattle.std.proofs.Common.{◌≡◌, inl, inr, Option, Some, None, Result, Ok, Err, sym, subst}
 use Rattle.jm_json.specs.Call.{Call as Invocation}
 use Rattle.jm_json.specs.declared.invocation.Replied.{Replied}
 use Rattle.account_book.specs.declared.asks.Call.{Call}

@@ -3,23 +3,15 @@ use Rattle.std.specs.Prelude.{◌≡◌, ℕ, List, Option}
 use Rattle.account_hall.specs.Halls.{RoomView}
 use Rattle.account_hall.specs.Sessions.{SessionView}
 use Rattle.jmap_http.specs.Connections.{Serves, asks_to_end}
-use Rattle.jmap_http.specs.Steps.{UserSteps}
+use Rattle.jmap_http.specs.Steps.{UserSteps, steps_of}
 use Rattle.jmap_http.specs.declared.served.Served.{Served}
 use Rattle.server_users.specs.Configuration.{Configuration}
-use Rattle.hall_port.specs.Steps.{Calls, begins, hall_answers, hall_halts, hall_reads, hall_stops, hall_uploads}
+use Rattle.hall_port.specs.Steps.{Calls, hall_answers, hall_own, hall_stops}
 use Rattle.hall_port.specs.Views.{PortView}
 
 -- the steps of a port whose session makes these calls
 abbrev pub hall_steps : Calls → UserSteps PortView
-hall_steps calls = record {
-  begins = begins;
-  answers = hall_answers calls;
-  stops = hall_stops calls;
-  uploads = hall_uploads calls;
-  upload_stops = λ s account bytes s'. hall_halts s account s';
-  reads = hall_reads calls;
-  read_stops = λ s account blob s'. hall_halts s account s';
-}
+hall_steps calls = steps_of (hall_answers calls) (hall_stops calls) (hall_own calls)
 
 -- a port of these users over a hall, with a session, before the first request
 abbrev pub port_over : List RoomView → Configuration → SessionView → PortView

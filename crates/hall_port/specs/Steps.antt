@@ -1,5 +1,5 @@
 -- The steps of a port over a hall: how it goes from a state to another.
-use Rattle.std.specs.Prelude.{◌≡◌, ℕ, nat_lt, ◌⊎◌, refl, length, List, [], ◌∷◌, Bool, false, Option, None, Some, Result, Ok, Err, cond, IsUtf8}
+use Rattle.std.specs.Prelude.{◌≡◌, ℕ, nat_lt, ◌⊎◌, refl, length, List, [], Bool, false, Option, None, Some, Result, Ok, Err, cond, IsUtf8}
 use Rattle.std.proofs.Common.{inl}
 use Rattle.jm_json.specs.Call.{Call as Invocation}
 use Rattle.jm_json.specs.Invocations.{call_of}
@@ -7,7 +7,7 @@ use Rattle.jm_json.specs.declared.invocation.Invocation.{Invocation as TheInvoca
 use Rattle.jm_json.specs.declared.invocation.Created.{Created}
 use Rattle.jm_json.specs.declared.invocation.Replied.{Replied}
 use Rattle.mail_records.specs.Histories.{History}
-use Rattle.account_book.specs.declared.asks.Ask.TheVariants.{Upload, Blob}
+use Rattle.account_book.specs.declared.asks.Ask.TheVariants.{Upload, Blob, States}
 use Rattle.account_book.specs.declared.asks.Call.{Call}
 use Rattle.account_book.specs.declared.plans.Out.{Out}
 use Rattle.account_book.specs.declared.plans.Out.TheVariants as out
@@ -16,6 +16,8 @@ use Rattle.account_hall.specs.Copies.{HasBegunCopy, IsCopy}
 use Rattle.account_hall.specs.Sessions.{IsCall, IsLook, SessionView}
 use Rattle.account_hall.specs.declared.copies.CopyCall.{CopyCall}
 use Rattle.copy_calls.specs.Originals.{originals_call}
+use Rattle.jmap_http.specs.Steps.{OwnSteps}
+use Rattle.jmap_http.specs.declared.port.AccountStates.{AccountStates}
 use Rattle.jmap_http.specs.declared.port.Stored.{Stored}
 use Rattle.jmap_http.specs.declared.port.Stored.TheVariants.{Kept, Full, Failed}
 use Rattle.server_users.specs.declared.users.UserAccount.{UserAccount}
@@ -216,6 +218,44 @@ hall_reads calls s account blob bytes s' =
     ⊎ (¬ IsUtf8 blob × (s' ≡ s) × (bytes ≡ None)))
     ((s' ≡ s) × (bytes ≡ None))
 
+-- ---- states
+
+-- the states that an account's answer tells
+abbrev pub states_of : Out → Option AccountStates
+states_of (out.States mailbox email thread) =
+    Some (record { mailbox = mailbox; email = email; thread = thread })
+states_of _ = None
+
+-- the call on an account that the reading of its states is
+abbrev pub states_call : Call
+states_call = record { ask = States; made = []; read_only = false }
+
+-- the states of the account were read, and these are the answer
+pub record HasReadStates (calls : Calls) (s : PortView) (account : ℕ)
+    (states : Option AccountStates) (s' : PortView) : Type 0 where
+  pub answer : Out
+  pub asked : IsAsked calls s account states_call answer s'
+  pub shown : states ≡ states_of answer
+
+-- The states of the account with that number are read, if there is one.
+abbrev pub hall_looks : Calls → PortView → ℕ → Option AccountStates → PortView → Type 0
+hall_looks calls s account states s' =
+    cond (has_account s account) (HasReadStates calls s account states s')
+    ((s' ≡ s) × (states ≡ None))
+
 -- an upload or a reading that ends out of memory
 abbrev pub hall_halts : PortView → ℕ → PortView → Type 0
 hall_halts s account s' = cond (has_account s account) (HasStopped account s s') (s' ≡ s)
+
+-- ---- all beside the calls
+
+abbrev pub hall_own : Calls → OwnSteps PortView
+hall_own calls = record {
+  begins = begins;
+  uploads = hall_uploads calls;
+  upload_stops = λ s account bytes s'. hall_halts s account s';
+  reads = hall_reads calls;
+  read_stops = λ s account blob s'. hall_halts s account s';
+  looks = hall_looks calls;
+  look_stops = hall_halts;
+}

@@ -2,12 +2,12 @@
 ghost use Rattle.std.specs.Prelude.{◌≡◌, ◌≢◌, ◌⊎◌, ◌<◌, ◌≤◌, ◌∷◌, [], IfOk, OnErr, length};
 ghost use Rattle.jm_json.specs.Invocations.{call_of};
 ghost use Rattle.account_hall.specs.Halls.{AreOf};
-ghost use Rattle.hall_port.specs.Steps.{HasBegunTo, HasStopped, IsAsked, IsCopied, IsPerformed, IsRead, IsUploaded};
+ghost use Rattle.hall_port.specs.Steps.{HasBegunTo, HasReadStates, HasStopped, IsAsked, IsCopied, IsPerformed, IsRead, IsUploaded};
 
 use crate::asking::Asks;
 use crate::lines::{build_uploaded, find_changeable};
 use crate::replies::{
-    build_error_reply, copy_made, copy_text, take_bytes, take_replied, take_stored,
+    build_error_reply, copy_made, copy_text, take_bytes, take_replied, take_states, take_stored,
 };
 use crate::targets::{find_accounts, find_source, find_target};
 use account_book::{Ask, Call, Out};
@@ -15,7 +15,7 @@ use account_hall::{CopyCall, Passes};
 use batch_lines::{UploadPort, Uploaded};
 use jm_base::{Bytes, NoMemory, Text};
 use jm_json::{Invocation, Made, Replied};
-use jmap_http::{Stored, UserPort};
+use jmap_http::{AccountStates, Stored, UserPort};
 use method_batch::Port;
 use server_users::{UserAccount, Users};
 use std::alloc::Global;
@@ -24,7 +24,7 @@ use std::marker::Model;
 /// Answers for the users of a server over a hall of accounts, with one session of the hall. The
 /// number of an account in the configuration is its index in the hall. Contracts see the accounts
 /// of the hall, the users, the session, and the user and the timestamp of the request that began
-/// last. What performs the calls is a value ([`Asks`]): see [`crate::serve_hall`].
+/// last. What performs the calls is a value ([`Asks`]): see [`crate::serve_connection`].
 #[derive(Drop)]
 pub struct HallPort<'a, A: Asks> {
     asker: A,
@@ -194,6 +194,23 @@ impl<'a, A: Asks> HallPort<'a, A> {
             Err(refused) => Err(refused),
         }
     }
+
+    // Reads the states of an account.
+    fn look(&mut self, alloc: Global, account: u64) -> Result<Option<AccountStates>, NoMemory>
+        requires account { account < length self.old.users.account_ids }
+        ensures looked { IfOk result (λ o. HasReadStates A.calls self.old account o self.new) }
+        ensures stopped { OnErr result (HasStopped account self.old self.new) }
+    {
+        let call = Call {
+            ask: Ask::States,
+            made: Made::new(alloc),
+            read_only: false,
+        };
+        match self.ask(alloc, account, &call) {
+            Ok(out) => Ok(take_states(out)),
+            Err(refused) => Err(refused),
+        }
+    }
 }
 
 impl<'a, A: Asks> Port for HallPort<'a, A> {
@@ -222,17 +239,9 @@ impl<'a, A: Asks> Port for HallPort<'a, A> {
 }
 
 impl<'a, A: Asks> UserPort for HallPort<'a, A> {
-    ghost use Rattle.hall_port.specs.Steps.{begins, hall_halts, hall_reads, hall_uploads};
+    ghost use Rattle.hall_port.specs.Steps.{hall_own};
 
-    ghost begins = { begins };
-
-    ghost uploads = { hall_uploads A.calls };
-
-    ghost upload_stops = { λ s account bytes s'. hall_halts s account s' };
-
-    ghost reads = { hall_reads A.calls };
-
-    ghost read_stops = { λ s account blob s'. hall_halts s account s' };
+    ghost steps = { hall_own A.calls };
 
     fn begin(&mut self, user: u64, time: u64) {
         self.user = user;
@@ -259,6 +268,17 @@ impl<'a, A: Asks> UserPort for HallPort<'a, A> {
             Some(blob) => self.look_up(alloc, account, blob),
             None => Ok(None),
         }
+    }
+
+    fn read_states(
+        &mut self,
+        alloc: Global,
+        account: u64,
+    ) -> Result<Option<AccountStates>, NoMemory> {
+        if account < self.users.account_ids().len() as u64 {
+            return self.look(alloc, account);
+        }
+        Ok(None)
     }
 }
 

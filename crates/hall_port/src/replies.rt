@@ -2,12 +2,12 @@
 ghost use Rattle.std.specs.Prelude.{◌≡◌, ◌∷◌, [], IfOk, MatchOption, IsUtf8};
 ghost use Rattle.jm_json.specs.Call.{error_of};
 ghost use Rattle.read_replies.specs.Replies.{replied_of};
-ghost use Rattle.hall_port.specs.Steps.{bytes_of, stored_of};
+ghost use Rattle.hall_port.specs.Steps.{bytes_of, states_of, stored_of};
 
 use account_book::Out;
 use jm_base::{Bytes, NoMemory, Sequence, Text};
 use jm_json::{Created, Invocation, Invocations, Made, Replied};
-use jmap_http::Stored;
+use jmap_http::{AccountStates, Stored};
 use std::alloc::Global;
 
 /// Returns the reply that is one error of this type.
@@ -70,6 +70,29 @@ pub(crate) fn take_bytes(out: Out) -> Option<Bytes>
         | Out::Failed
         | Out::Carried(_)
         | Out::States { .. } => None,
+    }
+}
+
+/// Returns what is answered where the states of an account are asked.
+pub(crate) fn take_states(out: Out) -> Option<AccountStates>
+    ensures { result ≡ states_of out }
+{
+    match out {
+        Out::States {
+            mailbox,
+            email,
+            thread,
+        } => Some(AccountStates {
+            mailbox,
+            email,
+            thread,
+        }),
+        Out::Replies(_)
+        | Out::Uploaded(_)
+        | Out::Full
+        | Out::Failed
+        | Out::Blob(_)
+        | Out::Carried(_) => None,
     }
 }
 

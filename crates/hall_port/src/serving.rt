@@ -48,7 +48,7 @@ fn serve_by<A: Asks, L: Link, C: Clock, G: Gate>(
 /// Serves the requests of a connection in order, as `serve_requests` does, over a hall that has
 /// each account of the server, with a session of the hall. It may wait for other sessions that use
 /// an account. Returns how the connection ended, and the session.
-pub fn serve_hall<W: Wait, K: Keeper, R: Rules, L: Link, C: Clock, G: Gate>(
+pub fn serve_connection<W: Wait, K: Keeper, R: Rules, L: Link, C: Clock, G: Gate>(
     rt: &W,
     alloc: Global,
     hall: &Hall<K, R>,

@@ -3,13 +3,12 @@ ghost use Rattle.std.specs.Prelude.{◌≡◌, ◌<◌, IfErr, IfOk, Ok as TheOk
 ghost use Rattle.std.specs.List.{AllByRecursion};
 ghost use Rattle.jm_json.specs.Json.{tree_of};
 ghost use Rattle.jm_json.specs.Invocations.{call_of};
-ghost use Rattle.jmap_http.specs.Targets.{account_with};
 ghost use Rattle.server_users.specs.Configuration.{IsNumbered};
 ghost use Rattle.read_replies.specs.Targets.{accounts_of, argument_in, from_named, is_change, is_copy, source_of, target_of, to_found, to_named};
 
 use jm_json::{Invocation, Json};
 use method_args::read_text;
-use server_users::{UserAccount, Users};
+use server_users::{UserAccount, Users, find_account};
 
 /// Returns the accounts of the user with an index, or none if there is no such user.
 pub(crate) fn find_accounts(users: &Users, user: u64) -> &[UserAccount]
@@ -20,20 +19,6 @@ pub(crate) fn find_accounts(users: &Users, user: u64) -> &[UserAccount]
         Some(user) => user.accounts.as_slice(),
         None => &[],
     }
-}
-
-// Finds the account with an identifier.
-fn find_account<'a>(accounts: &'a [UserAccount], id: &str) -> Option<&'a UserAccount>
-    ensures { option_map (λ a. a.now) result ≡ account_with id.now accounts.now }
-{
-    let mut rest = accounts;
-    'account: while let Some((account, more)) = rest.split_first() {
-        if account.id.as_str() == id {
-            return Some(account);
-        }
-        rest = more;
-    }
-    None
 }
 
 // Returns the string of an argument of a call, if it is one.
@@ -75,7 +60,7 @@ fn check_from<'a>(
 {
     match from {
         None => Err("invalidArguments"),
-        Some(id) => match find_account(accounts, id) {
+        Some(id) => match find_account(accounts, id.as_bytes()) {
             None => Err("fromAccountNotFound"),
             Some(from) => {
                 if from.number == to.number {
@@ -135,7 +120,13 @@ fn check_named<'a>(
             if copies && from.is_none() {
                 return Err("invalidArguments");
             }
-            check_found(accounts, copies, changes, from, find_account(accounts, id))
+            check_found(
+                accounts,
+                copies,
+                changes,
+                from,
+                find_account(accounts, id.as_bytes()),
+            )
         }
     }
 }
@@ -166,7 +157,7 @@ pub(crate) fn find_source<'a>(
         return None;
     }
     match read_argument(&call.args, "fromAccountId") {
-        Some(id) => find_account(accounts, id),
+        Some(id) => find_account(accounts, id.as_bytes()),
         None => None,
     }
 }

@@ -1,4 +1,4 @@
-use Rattle.hall_port.proofs.Grown.{grown_answered, grown_begun, grown_by_lines, grown_halted, grown_read, grown_served, grown_stopped, grown_uploaded}
+use Rattle.hall_port.proofs.Grown.{grown_answered, grown_begun, grown_by_lines, grown_halted, grown_read, grown_served, grown_stopped, grown_told, grown_uploaded}
 use Rattle.hall_port.proofs.laws.sessions_only_grow.Goals as goal
 
 pub returns-clause-begins : goal.returns-clause-begins
@@ -15,6 +15,9 @@ returns-clause-uploads g c = grown_uploaded g.R.Rules.plan_of
 
 pub returns-clause-reads : goal.returns-clause-reads
 returns-clause-reads g c = grown_read g.R.Rules.plan_of
+
+pub returns-clause-states : goal.returns-clause-states
+returns-clause-states g c = grown_told g.R.Rules.plan_of
 
 pub returns-clause-halts : goal.returns-clause-halts
 returns-clause-halts g c = grown_halted
