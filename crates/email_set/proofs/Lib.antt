@@ -8,6 +8,7 @@ pub mod PathParts
 pub mod Stepping
 pub mod Planning
 pub mod Promising
+pub mod EarlierEdits
 pub mod Results
 pub mod Answering
 pub mod EmailSteps

@@ -126,11 +126,11 @@ flags_append : (es more : List Edit) (c : Content) → AreCountsFlagsRight c es 
 flags_append [] more c first rest = rest
 flags_append (e ∷ es) more c first rest = (first.0, flags_append es more (after_edit c e) first.1 rest)
 
-kept_append : (es more : List Edit) (c : Content) → AllKeepMessages c es → AllKeepMessages (after_edits c es) more → AllKeepMessages c (es ++ more)
+pub kept_append : (es more : List Edit) (c : Content) → AllKeepMessages c es → AllKeepMessages (after_edits c es) more → AllKeepMessages c (es ++ more)
 kept_append [] more c first rest = rest
 kept_append (e ∷ es) more c first rest = (first.0, kept_append es more (after_edit c e) first.1 rest)
 
-tidy_append : (es more : List Edit) (c : Content) → KeepTidyBut c es → KeepTidyBut (after_edits c es) more → KeepTidyBut c (es ++ more)
+pub tidy_append : (es more : List Edit) (c : Content) → KeepTidyBut c es → KeepTidyBut (after_edits c es) more → KeepTidyBut c (es ++ more)
 tidy_append [] more c first rest = rest
 tidy_append (e ∷ es) more c first rest = (first.0, tidy_append es more (after_edit c e) first.1 rest)
 

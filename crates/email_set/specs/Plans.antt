@@ -1,5 +1,5 @@
 -- What an Email/set does (RFC 8620, 5.3; RFC 8621, 4.6).
-use Rattle.std.specs.Prelude.{ℕ, List, [], ◌∷◌, Option, ⊤}
+use Rattle.std.specs.Prelude.{ℕ, List, [], ◌∷◌, ◌++◌, Option, ⊤}
 use Rattle.jm_base.specs.declared.identifiers.Kind.TheVariants.{Email as OfEmail}
 use Rattle.jm_json.specs.Find.{as_object}
 use Rattle.jm_json.specs.Tree.{Tree}
@@ -7,7 +7,7 @@ use Rattle.jm_json.specs.declared.invocation.Created.{Created}
 use Rattle.mail_counts.specs.Plans.{Ground, present_state}
 use Rattle.mail_counts.specs.TidyBut.{IsTidyButThreadsAndCounts}
 use Rattle.mail_records.specs.Contents.{Content}
-use Rattle.mail_records.specs.Edits.{after_edit}
+use Rattle.mail_records.specs.Edits.{after_edit, after_edits}
 use Rattle.mail_records.specs.declared.edits.Edit.{Edit}
 use Rattle.set_parts.specs.Arguments.{Create, account_in, count_objects, creates_in, destroys_in, set_forms, updates_in}
 use Rattle.set_parts.specs.Creates.{Creating, after_creates, before_creates}
@@ -30,6 +30,15 @@ creates_of c made ms = after_creates create_email (before_creates c made) (creat
 -- the updates and destroys of a set with these arguments
 abbrev pub steps_of : Content → List Created → List (List ℕ × Tree) → Progress
 steps_of c made ms = after_steps (before_steps c) made (updates_in ms) (destroys_in ms)
+
+-- edits that were made before those of updates and destroys
+abbrev pub put_before : List Edit → Progress → Progress
+put_before first s = record s { edits = first ++ s.edits }
+
+-- The updates and destroys of a set with these arguments after these edits of emails, as its
+-- creates make them: over the content that the edits leave, with the edits before their own.
+abbrev pub steps_after : Content → List Edit → List Created → List (List ℕ × Tree) → Progress
+steps_after c first made ms = put_before first (steps_of (after_edits c first) made ms)
 
 -- the plan of creates, and of the updates and destroys after them
 abbrev pub plan_from : Ground → List (List ℕ × Tree) → Creating → Plan

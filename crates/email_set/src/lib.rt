@@ -20,6 +20,6 @@ pub use filing::{Filing, Refiled};
 pub use filings::read_filing;
 pub use laws::{show_that_written_filings_are_read, show_what_is_said_of_one_update};
 pub use patches::{build_filing_tree, refile};
-pub use plan::{plan_email_set, plan_steps};
+pub use plan::{plan_email_set, plan_steps, plan_steps_after};
 pub use planner::{Planner, enter_edits, start_planner};
 pub use steps::{Setting, Steps, perform_steps};

@@ -1,11 +1,13 @@
 // The plan of an Email/set (RFC 8620, section 5.3; RFC 8621, section 4.6).
 ghost use Rattle.std.specs.Prelude.{◌≡◌, ◌≤◌, ℕ, IfErr, IfOk, List, MatchResult, None, Some, map};
+ghost use Rattle.std.specs.List.{AllByRecursion};
 ghost use Rattle.jm_json.specs.Json.{tree_of};
+ghost use Rattle.jm_json.specs.declared.invocation.Created.{Created as TheCreated};
 ghost use Rattle.mail_counts.specs.CountsFlag.{AreCountsFlagsRight};
 ghost use Rattle.mail_counts.specs.Tidy.{IsTidy};
 ghost use Rattle.mail_counts.specs.TidyBut.{IsTidyButThreadsAndCounts};
 ghost use Rattle.mail_records.specs.Contents.{AreTables, Content as TheContent};
-ghost use Rattle.mail_records.specs.Edits.{AllFit};
+ghost use Rattle.mail_records.specs.Edits.{AllFit, after_edits};
 ghost use Rattle.mail_records.specs.Histories.{max_position};
 ghost use Rattle.mail_records.specs.declared.records.Summary.{Summary};
 ghost use Rattle.plan_promises.specs.Planned.{AllKeepMessages, IsPlanned};
@@ -14,21 +16,21 @@ ghost use Rattle.set_parts.specs.Creates.{after_creates, before_creates};
 ghost use Rattle.set_parts.specs.CreatesViews.{KeepUp};
 ghost use Rattle.set_parts.specs.Outcomes.{ExplainsSet, ground_of, plan_of, planned};
 ghost use Rattle.set_parts.specs.Responses.{HasNewState};
-ghost use Rattle.set_parts.specs.Views.{create_of};
+ghost use Rattle.set_parts.specs.Views.{AreMade, create_of};
 ghost use Rattle.state_log.specs.Logs.{log_end};
-ghost use Rattle.email_set.specs.Plans.{KeepTidyBut, create_email, email_set_outcome, outcome_in, plan_in, steps_of};
-ghost use Rattle.email_set.specs.Views.{IsStepsOf};
+ghost use Rattle.email_set.specs.Plans.{KeepTidyBut, create_email, email_set_outcome, outcome_in, plan_in, steps_after, steps_of};
+ghost use Rattle.email_set.specs.Views.{IsOfEmail, IsStepsOf};
 
-use crate::planner::start_planner;
+use crate::planner::{enter_edits, start_planner};
 use crate::steps::{Setting, Steps, perform_steps};
 use jm_base::{Kind, NoMemory, Text};
 use jm_json::{Created, Json, Made, Members};
 use mail_counts::{SetFault, SetPlan};
-use mail_records::Content;
+use mail_records::{Content, Edits};
 use set_parts::{
-    CreateStep, Creates, SentCreate, SetError, check_set, collect_created, collect_destroyed,
-    count_objects, enter_create, finish_plan, read_account_id, read_creates, read_destroys,
-    read_updates, start_creates,
+    CreateStep, CreatedRecords, Creates, SentCreate, SetError, check_set, collect_created,
+    collect_destroyed, count_objects, enter_create, finish_plan, read_account_id, read_creates,
+    read_destroys, read_updates, start_creates,
 };
 use state_log::Log;
 use std::alloc::Global;
@@ -69,6 +71,64 @@ fn perform_all<'a>(
     };
     let planner = start_planner(alloc, content);
     perform_steps(alloc, &setting, planner, read_updates(members), destroys)
+}
+
+// Performs the updates and destroys of a set after these edits of emails.
+fn perform_after<'a>(
+    alloc: Global,
+    content: &'a Content,
+    first: Edits,
+    created: CreatedRecords<'a>,
+    members: &'a Members,
+    destroys: &[&'a str],
+) -> Result<Steps, NoMemory>
+    requires destroys { map (λ d. d.now) destroys.now ≡ destroys_in members.now }
+    requires first { AllByRecursion IsOfEmail first }
+    ensures { IfOk result (λ p. (made : List TheCreated) → AreMade created.entry made
+        → IsStepsOf p (steps_after content.now.content first made members.now)) }
+{
+    let destroyed = collect_destroyed(alloc, &created.texts, destroys)?;
+    let setting = Setting {
+        content,
+        created,
+        destroyed,
+    };
+    let mut planner = start_planner(alloc, content);
+    enter_edits(&mut planner, first)?;
+    perform_steps(alloc, &setting, planner, read_updates(members), destroys)
+}
+
+/// Returns the updates and destroys of a set with these arguments, of which these are the destroys,
+/// after edits of emails that were made before them, as the creates of the set make them. `created`
+/// is what the request has created, with the creates of the set.
+///
+/// The edits that were made come first in the result; they are moved. Where these fit, keep
+/// tidiness but for threads and counts, or keep messages, all edits do, over a content that they
+/// leave tidy but for threads and counts. A call costs what it updates and destroys, and what was
+/// edited: the emails of the account are not copied.
+pub fn plan_steps_after<'a>(
+    alloc: Global,
+    content: &'a Content,
+    first: Edits,
+    created: CreatedRecords<'a>,
+    members: &'a Members,
+    destroys: &[&'a str],
+) -> Result<Steps, NoMemory>
+    requires destroys { map (λ d. d.now) destroys.now ≡ destroys_in members.now }
+    requires first { AllByRecursion IsOfEmail first }
+    ensures steps { IfOk result (λ p. (made : List TheCreated) → AreMade created.entry made
+        → IsStepsOf p (steps_after content.now.content first made members.now)) }
+    ensures fits { IfOk result (λ p. (made : List TheCreated) → AreMade created.entry made
+        → IsTidyButThreadsAndCounts (after_edits content.now.content first)
+        → AllFit content.now.content first → AllFit content.now.content p.edits) }
+    ensures tidy { IfOk result (λ p. (made : List TheCreated) → AreMade created.entry made
+        → IsTidyButThreadsAndCounts (after_edits content.now.content first)
+        → KeepTidyBut content.now.content first → KeepTidyBut content.now.content p.edits) }
+    ensures kept { IfOk result (λ p. (made : List TheCreated) → AreMade created.entry made
+        → IsTidyButThreadsAndCounts (after_edits content.now.content first)
+        → AllKeepMessages content.now.content first → AllKeepMessages content.now.content p.edits) }
+{
+    perform_after(alloc, content, first, created, members, destroys)
 }
 
 /// Returns the updates and destroys of a set with these arguments, of which these are the destroys.
