@@ -1,1 +1,3 @@
+pub mod AskedIds
 pub mod Objects
+pub mod ReadBack

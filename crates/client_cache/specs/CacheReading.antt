@@ -1,12 +1,15 @@
 -- What the tree of a cache's file says. A value that is not of its form counts for nothing:
 -- `CacheForms` says where one is.
-use Rattle.std.specs.Prelude.{◌≡◌, ℕ, List, [], map, Bool, false, Option, None, option_and_then, unwrap_or, codes}
+use Rattle.std.specs.Prelude.{◌≡◌, ℕ, List, [], map, Bool, false, Option, Some, None, option_and_then, unwrap_or, codes, ⊤}
+use Rattle.std.specs.List.{AllByRecursion}
+use Rattle.jm_base.specs.Ids.{IsState}
 use Rattle.jm_base.specs.declared.identifiers.Kind.TheVariants.{Email as OfEmail}
 use Rattle.jm_json.specs.Find.{as_list, as_object, as_text, find}
 use Rattle.jm_json.specs.Reading.{reading_of, whole}
 use Rattle.jm_json.specs.Tree.{Tree, null}
 use Rattle.method_args.specs.Arguments.{flag_in}
 use Rattle.method_args.specs.Ids.{ids_in, state_in}
+use Rattle.method_args.specs.WrittenIds.{AreIds}
 use Rattle.client_cache.specs.Caches.{Cached, KindView, ListView}
 use Rattle.client_cache.specs.CacheForms.{cache_places}
 
@@ -78,3 +81,21 @@ pub record IsTextOf (bytes : List ℕ) (c : Cached) : Type 0 where
   pub read : reading_of bytes ≡ whole tree
   pub form : cache_places tree ≡ []
   pub says : c ≡ cache_in tree
+
+-- ---- what can be written so that it is read
+
+-- the state is one that a text has
+abbrev pub StateFits : Option ℕ → Type 0
+StateFits None = ⊤
+StateFits (Some position) = IsState position
+
+pub record ListFits (l : ListView) : Type 0 where
+  pub ids : AreIds OfEmail l.ids
+  pub state : StateFits l.state
+
+-- The states, and the numbers of emails in lists, are ones that have texts.
+pub record NumbersFit (c : Cached) : Type 0 where
+  pub mailboxes : StateFits c.mailboxes.state
+  pub emails : StateFits c.emails.state
+  pub threads : StateFits c.threads.state
+  pub lists : AllByRecursion ListFits c.lists

@@ -5,3 +5,6 @@ pub mod Codes
 pub mod Faults
 pub mod RecordParts
 pub mod Views
+pub mod Requests
+pub mod RoundViews
+pub mod Rounds

@@ -34,7 +34,8 @@ fn build_newest_first(alloc: Global) -> Result<Json, NoMemory>
     Ok(Json::List(comparators))
 }
 
-fn build_all(alloc: Global) -> Result<CachedList, NoMemory>
+/// Returns the list `all`: each thread by its newest email, with no filter.
+pub(crate) fn build_all(alloc: Global) -> Result<CachedList, NoMemory>
     ensures { IfOk result (λ l. list_view l ≡ all_list) }
 {
     Ok(CachedList {

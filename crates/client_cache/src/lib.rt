@@ -3,6 +3,9 @@
 //!
 //! [`read_cache`] reads a cache from the text of its file, and [`cache_bytes`] writes it. The form
 //! of the file is in `specs/Caches.antt` and `specs/CacheForms.antt`.
+//!
+//! A round brings a cache up to date: [`begin`] begins it, and [`next_request`] and [`path`] say
+//! what is asked next.
 #![tactic(auto)]
 
 mod cache;
@@ -16,11 +19,15 @@ mod list_places;
 mod lists;
 mod reading;
 mod record_places;
+mod requests;
+mod rounds;
 mod writing;
 
 pub use cache::Cache;
 pub use creation::new_cache;
 pub use fault::CacheFault;
-pub use limits::{MAX_LISTS, MAX_TERM_BYTES, MAX_TERM_DEPTH};
+pub use limits::{MAX_CHANGES, MAX_IDS, MAX_LISTS, MAX_RESULTS, MAX_TERM_BYTES, MAX_TERM_DEPTH};
 pub use reading::read_cache;
+pub use requests::next_request;
+pub use rounds::{Round, begin, path};
 pub use writing::cache_bytes;

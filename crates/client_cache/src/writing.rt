@@ -1,9 +1,15 @@
 // Writes the text of a cache's file.
-ghost use Rattle.std.specs.Prelude.{◌≡◌, ◌∷◌, ◌++◌, IfOk, OnOk, codes, map};
+ghost use Rattle.std.specs.Prelude.{◌≡◌, ◌≤◌, [], None, ◌∷◌, ◌++◌, IfOk, OnOk, codes, map};
 ghost use Rattle.jm_json.specs.Json.{tree_of, member_of};
 ghost use Rattle.jm_json.specs.Order.{KeysRise, put};
 ghost use Rattle.jm_json.specs.Tree.{boolean, list, text, trees_of};
 ghost use Rattle.method_args.specs.Ids.{id_trees};
+ghost use Rattle.serde_json.specs.Data.{depth};
+ghost use Rattle.serde_json.specs.Read.{max_depth};
+ghost use Rattle.jm_json.specs.Integers.{first_invalid};
+ghost use Rattle.jm_json.specs.JsonValues.{data_of};
+ghost use Rattle.client_cache.specs.CacheForms.{cache_places};
+ghost use Rattle.client_cache.specs.CacheReading.{IsTextOf, NumbersFit};
 ghost use Rattle.jm_base.specs.declared.identifiers.Kind.TheVariants.{Email as OfEmail};
 ghost use Rattle.client_cache.specs.Caches.{cache_text, cache_tree, kind_tree, list_tree, state_tree, text_or_null};
 ghost use Rattle.client_cache.specs.Views.{kind_view, list_view};
@@ -131,9 +137,14 @@ fn build_cache(alloc: Global, cache: &Cache) -> Result<Json, NoMemory>
     Ok(Json::Object(members))
 }
 
-/// Returns the text of a cache's file.
+/// Returns the text of a cache's file. It is read as the same cache if it is of the form, nests at
+/// most as deep as `jm_json` reads, and its numbers are integers below 2^53 and above -2^53.
 pub fn cache_bytes(alloc: Global, cache: &Cache) -> Result<Bytes, NoMemory>
-    ensures { IfOk result (λ b. b ≡ cache_text cache.now) }
+    ensures text { IfOk result (λ b. b ≡ cache_text cache.now) }
+    ensures reads_back { IfOk result (λ b. NumbersFit cache.now
+        → cache_places (cache_tree cache.now) ≡ []
+        → depth (data_of (cache_tree cache.now)) ≤ max_depth
+        → first_invalid (data_of (cache_tree cache.now)) ≡ None → IsTextOf b cache.now) }
 {
     let tree = build_cache(alloc, cache)?;
     write(alloc, &tree)
