@@ -1,6 +1,6 @@
 -- What the tree of a cache's file says. A value that is not of its form counts for nothing:
 -- `CacheForms` says where one is.
-use Rattle.std.specs.Prelude.{◌≡◌, ℕ, List, [], map, Bool, false, Option, Some, None, option_and_then, unwrap_or, codes, ⊤}
+use Rattle.std.specs.Prelude.{◌≡◌, ℕ, List, [], map, false, Option, Some, None, option_and_then, unwrap_or, codes, ⊤}
 use Rattle.std.specs.List.{AllByRecursion}
 use Rattle.jm_base.specs.Ids.{IsState}
 use Rattle.jm_base.specs.declared.identifiers.Kind.TheVariants.{Email as OfEmail}

@@ -1,8 +1,7 @@
 -- The request of each step of a round: one call with the identifier `0` (RFC 8620, 3.3).
-use Rattle.std.specs.Prelude.{ℕ, List, [], ◌∷◌, Bool, map, take, length, Option, Some, None, codes, slice_get, unwrap_or}
+use Rattle.std.specs.Prelude.{ℕ, List, [], ◌∷◌, map, take, length, Option, Some, None, codes, slice_get, unwrap_or}
 use Rattle.serde_json.specs.Written.{compact_text}
 use Rattle.jm_base.specs.Ids.{id_text, state_text}
-use Rattle.jm_base.specs.declared.identifiers.Id.{Id}
 use Rattle.jm_base.specs.declared.identifiers.Kind.{Kind}
 use Rattle.jm_base.specs.declared.identifiers.Kind.TheVariants.{Mailbox as OfMailbox, Email as OfEmail, Thread as OfThread}
 use Rattle.jm_json.specs.Call.{Call}

@@ -1,4 +1,4 @@
-use Rattle.std.proofs.Common.{◌≡◌, ◌∙◌, map, length, option_map, slice_get, Option, Some, None, refl, sym, ap}
+use Rattle.std.proofs.Common.{◌≡◌, ◌∙◌, map, length, option_map, slice_get, Some, None, refl, sym, ap}
 use Rattle.std.proofs.lemmas.Option.{slice_get-map, slice_get_past, slice_get_read}
 use Rattle.client_cache.specs.Views.{list_view}
 use Rattle.client_cache.proofs.requests.lend_list.Goals as goal
