@@ -7,6 +7,7 @@ use std::fmt::{Display, Formatter};
 use std::io::Write;
 
 // How a connection ended.
+#[derive(Drop)]
 struct End<'a> {
     served: &'a Served,
     too_slow: bool,
