@@ -225,7 +225,7 @@ alone_by root k proot s account new_roots none only last closed heard session =
     record {
       pass = k;
       only = only;
-      seen = further (taken_in root k).seen k.seen (entries_of account.book) here.seen heard.1;
+      seen = further (taken_in root k).seen k.seen (entries_of account.book) here.entries_are.seen heard.1;
       own = all_own account.book root k none free.ended here;
       in_order = session;
     }
