@@ -4,8 +4,8 @@
 
    FILE has requests, each a line with its length in decimal, and then its bytes. They are dealt out to the connections in order, the same
    number to each; a connection sends its own in turn. REQUESTS is how many are sent in all. A connection that the server closes is opened
-   again. Prints the nanoseconds of the whole, of the middle request and of the one at 99 of 100, and the least and the greatest length of a
-   body. Ends with status 1 if an answer has another status than 200 or 201, or no Content-Length. */
+   again, as part of the next request. Prints the nanoseconds of the whole, of the middle request and of the one at 99 of 100, and the least
+   and the greatest length of a body. Ends with status 1 if an answer has another status than 200 or 201, or no Content-Length. */
 #include <arpa/inet.h>
 #include <errno.h>
 #include <netinet/in.h>
@@ -87,15 +87,6 @@ static void open_connection(struct connection *one)
     one->closes = 0;
 }
 
-static void ask(struct connection *one)
-{
-    one->asked = &requests[one->first + one->next];
-    one->next = (one->next + 1) % one->count;
-    one->left--;
-    one->sent = one->held = one->wanted = 0;
-    one->begin = now();
-}
-
 /* Sends what the socket takes. */
 static void send_more(struct connection *one)
 {
@@ -103,6 +94,19 @@ static void send_more(struct connection *one)
     if (sent < 0 && errno != EAGAIN)
         fail("send");
     one->sent += sent > 0 ? sent : 0;
+}
+
+/* Begins the next request, on a new connection where there is none. */
+static void ask(struct connection *one)
+{
+    one->begin = now();
+    if (one->socket < 0)
+        open_connection(one);
+    one->asked = &requests[one->first + one->next];
+    one->next = (one->next + 1) % one->count;
+    one->left--;
+    one->sent = one->held = one->wanted = 0;
+    send_more(one);
 }
 
 /* Looks for the end of the head, and finds out how long the answer is and whether the server closes the connection. */
@@ -136,12 +140,8 @@ static void end_answer(struct connection *one)
         close(one->socket);
         one->socket = -1;
     }
-    if (one->left) {
-        if (one->socket < 0)
-            open_connection(one);
+    if (one->left)
         ask(one);
-        send_more(one);
-    }
 }
 
 static void receive(struct connection *one)
@@ -184,9 +184,8 @@ int main(int argc, char **argv)
         one->count = count / lines;
         one->first = n * one->count;
         one->left = all / lines + (n < all % lines);
-        open_connection(one);
+        one->socket = -1;
         ask(one);
-        send_more(one);
     }
     while (answered < all) {
         struct pollfd waits[MOST_CONNECTIONS];

@@ -82,13 +82,13 @@ class Ours(Running):
         config.write_text(json.dumps(CONFIG))
         super().__init__(program, "serve", config, folder, self.port, 1000000)
 
-    def request(self, path, body):
-        """The bytes of a request."""
-        head = f"POST {path} HTTP/1.1\r\nHost: 127.0.0.1:{self.port}\r\nAuthorization: Bearer t\r\nContent-Length: {len(body)}\r\n\r\n"
+    def request(self, path, body, more=""):
+        """The bytes of a request, with more header fields, each with its line end."""
+        head = f"POST {path} HTTP/1.1\r\nHost: 127.0.0.1:{self.port}\r\nAuthorization: Bearer t\r\nContent-Length: {len(body)}\r\n{more}\r\n"
         return head.encode() + body
 
-    def calls(self, *calls):
-        return self.request("/jmap/api", shapes.request(*calls))
+    def calls(self, *calls, more=""):
+        return self.request("/jmap/api", shapes.request(*calls), more)
 
     def ask(self, client, path, body):
         client.request("POST", path, body=body, headers={"Authorization": "Bearer t"})
