@@ -1,5 +1,5 @@
 // Writes the Response of a request (RFC 8620, section 3.4), with no tree of it in between.
-ghost use Rattle.std.specs.Prelude.{◌≡◌, ◌++◌, OnOk, OnErr, map};
+ghost use Rattle.std.specs.Prelude.{◌≡◌, ◌++◌, IfOk, OnOk, OnErr, map};
 ghost use Rattle.json.specs.Tree.{json_tokens};
 ghost use Rattle.serde_json.specs.Written.{compact_text, outline};
 ghost use Rattle.jm_json.specs.JsonValues.{data_of};
@@ -9,7 +9,7 @@ ghost use Rattle.jm_json.specs.Responses.{call_tree, responses_tree};
 ghost use Rattle.jm_json.specs.RoundTrips.{IsReadBack};
 
 use crate::invocation::Invocation;
-use crate::writer::{give_back, put_tree, take_writer};
+use crate::writer::{INITIAL_TEXT_BYTES, give_back, put_tree, take_writer};
 use jm_base::{Bytes, NoMemory};
 use json::Writer;
 use std::alloc::Global;
@@ -18,6 +18,34 @@ use std::alloc::Global;
 /// responses to calls and this state of the session. If an allocation fails, the bytes are
 /// unchanged.
 pub fn write_responses(
+    alloc: Global,
+    out: &mut Bytes,
+    responses: &[Invocation],
+    state: &str,
+) -> Result<(), NoMemory>
+    ensures ok { OnOk result (out.new ≡ out.old
+        ++ compact_text (data_of (responses_tree (map call_of responses.now) state.now))) }
+    ensures err { OnErr result (out.new ≡ out.old) }
+{
+    if out.is_empty() {
+        return write_responses_in_place(alloc, out, responses, state);
+    }
+    let text = write_alone(alloc, responses, state)?;
+    out.append(text.as_slice())
+}
+
+// Returns the compact text of a Response without `createdIds`.
+fn write_alone(alloc: Global, responses: &[Invocation], state: &str) -> Result<Bytes, NoMemory>
+    ensures { IfOk result (λ b. b
+        ≡ compact_text (data_of (responses_tree (map call_of responses.now) state.now))) }
+{
+    let mut text = Bytes::from_vec(Vec::with_capacity(alloc, INITIAL_TEXT_BYTES)?);
+    write_responses_in_place(alloc, &mut text, responses, state)?;
+    Ok(text)
+}
+
+// Adds the compact text of a Response, with no copy of it.
+fn write_responses_in_place(
     alloc: Global,
     out: &mut Bytes,
     responses: &[Invocation],

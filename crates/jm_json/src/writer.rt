@@ -39,7 +39,22 @@ pub fn write(alloc: Global, tree: &Json) -> Result<Bytes, NoMemory>
 
 /// Adds the compact text of a tree after what is there. If an allocation fails, the bytes are
 /// unchanged.
+///
+/// A text after others is written by itself and then copied: behind many bytes a writer clears some
+/// thousands ahead, and for a short text that would cost more than the text.
 pub fn write_after(alloc: Global, out: &mut Bytes, tree: &Json) -> Result<(), NoMemory>
+    ensures ok { OnOk result (out.new ≡ out.old ++ compact_text (data_of (tree_of tree.now))) }
+    ensures err { OnErr result (out.new ≡ out.old) }
+{
+    if out.is_empty() {
+        return write_in_place(alloc, out, tree);
+    }
+    let text = write(alloc, tree)?;
+    out.append(text.as_slice())
+}
+
+// Adds the compact text of a tree, with no copy of it.
+fn write_in_place(alloc: Global, out: &mut Bytes, tree: &Json) -> Result<(), NoMemory>
     ensures ok { OnOk result (out.new ≡ out.old ++ compact_text (data_of (tree_of tree.now))) }
     ensures err { OnErr result (out.new ≡ out.old) }
 {

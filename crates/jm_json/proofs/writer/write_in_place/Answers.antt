@@ -2,7 +2,7 @@ use Rattle.std.proofs.Common.{length, sym, ap, ◌∙◌}
 use Rattle.jm_json.specs.Json.{tree_of}
 use Rattle.jm_json.specs.JsonValues.{data_of}
 use Rattle.jm_json.proofs.Writings.{given_if_ok, given_if_err}
-use Rattle.jm_json.proofs.writer.write_after.Goals as goal
+use Rattle.jm_json.proofs.writer.write_in_place.Goals as goal
 
 pub give_back-requires : goal.give_back-requires
 give_back-requires c = c.len-before.ensures ∙ ap length (sym (c.put_tree-written.ensures.before ∙ c.take_writer-writer.ensures.before))

@@ -3,7 +3,7 @@ use Rattle.jm_json.specs.Invocations.{call_of}
 use Rattle.jm_json.specs.Responses.{responses_tree}
 use Rattle.jm_json.specs.JsonValues.{data_of}
 use Rattle.jm_json.proofs.Writings.{given_if_ok, given_if_err}
-use Rattle.jm_json.proofs.responses.write_responses.Goals as goal
+use Rattle.jm_json.proofs.responses.write_responses_in_place.Goals as goal
 
 pub give_back-requires : goal.give_back-requires
 give_back-requires c = c.len-before.ensures ∙ ap length (sym (c.put_responses-written.ensures.before ∙ c.take_writer-writer.ensures.before))
