@@ -2,6 +2,7 @@
 import dataclasses
 import http.client
 import json
+import os
 import pathlib
 import socket
 import sqlite3
@@ -130,6 +131,44 @@ class Fixed(Running):
         source = folder / "fixed"
         source.write_bytes(answer)
         super().__init__(sys.executable, "-c", PEER, self.port, source)
+
+
+NGINX = """
+worker_processes 1;
+daemon off;
+pid {folder}/nginx.pid;
+error_log {folder}/nginx.log;
+{user}
+events {{}}
+http {{
+    access_log off;
+    keepalive_requests 1000000;
+    {folders}
+    server {{
+        listen 127.0.0.1:{port};
+        default_type application/json;
+        location / {{ return 200 '{body}'; }}
+    }}
+}}
+"""
+
+
+class Nginx(Running):
+    """nginx with one worker that answers this text."""
+
+    def __init__(self, folder, body):
+        self.port = free_port()
+        temporary = ("client_body", "proxy", "fastcgi", "uwsgi", "scgi")
+        text = NGINX.format(
+            folder=folder,
+            user="user root;" if os.geteuid() == 0 else "",
+            folders=" ".join(f"{name}_temp_path {folder}/{name};" for name in temporary),
+            port=self.port,
+            body=body,
+        )
+        source = folder / "fixed.conf"
+        source.write_text(text)
+        super().__init__("nginx", "-p", folder, "-c", source)
 
 
 @dataclasses.dataclass

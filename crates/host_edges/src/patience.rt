@@ -1,5 +1,6 @@
 // How long a connection is waited for.
-ghost use Rattle.std.specs.Prelude.{◌≡◌};
+ghost use Rattle.std.specs.Prelude.{◌≡◌, ◌+◌, ◌-◌, ◌^◌, ◌/◌, true, false, min};
+ghost use Rattle.std.specs.Time.{instant_nanos};
 ghost use Rattle.host_edges.specs.Waiting.{is_final, is_rejection, is_renewal, seconds_left};
 
 use std::time::Instant;
@@ -52,7 +53,9 @@ pub(crate) struct Patience {
 
 impl Patience {
     /// Returns the wait that begins now, for a request.
-    pub(crate) fn begin(now: Instant) -> Patience {
+    pub(crate) fn begin(now: Instant) -> Patience
+        ensures { (result.since ≡ now) × (result.bytes ≡ 0) × (result.answered ≡ false) }
+    {
         Patience {
             since: now,
             bytes: 0,
@@ -61,14 +64,22 @@ impl Patience {
     }
 
     /// Begins the wait for a request, if the last one was one of a known user and was answered.
-    pub(crate) fn expect_request(&mut self, now: Instant) {
+    pub(crate) fn expect_request(&mut self, now: Instant)
+        ensures anew { self.old.answered ≡ true → (self.new.since ≡ now) × (self.new.bytes ≡ 0)
+            × (self.new.answered ≡ false) }
+        ensures same { self.old.answered ≡ false → self.new ≡ self.old }
+    {
         if self.answered {
             *self = Patience::begin(now);
         }
     }
 
     /// Begins the wait until a response is taken, if these bytes begin one to a known user.
-    pub(crate) fn expect_taking(&mut self, now: Instant, piece: &[u8]) {
+    pub(crate) fn expect_taking(&mut self, now: Instant, piece: &[u8])
+        ensures anew { is_renewal piece.now ≡ true → (self.new.since ≡ now)
+            × (self.new.bytes ≡ 0) × (self.new.answered ≡ true) }
+        ensures same { is_renewal piece.now ≡ false → self.new ≡ self.old }
+    {
         if is_renewal(piece) {
             *self = Patience {
                 since: now,
@@ -79,12 +90,18 @@ impl Patience {
     }
 
     /// Counts bytes that came or were taken.
-    pub(crate) fn add(&mut self, count: usize) {
+    pub(crate) fn add(&mut self, count: usize)
+        ensures { (self.new.bytes ≡ min (self.old.bytes + count) (2 ^ 64 - 1))
+            × (self.new.since ≡ self.old.since) × (self.new.answered ≡ self.old.answered) }
+    {
         self.bytes = self.bytes.saturating_add(count as u64);
     }
 
     /// Returns how many seconds are left, at most `MAX_WAIT_SECONDS`. It is 0 if the wait is over.
-    pub(crate) fn seconds_left(&self, now: Instant) -> u64 {
+    pub(crate) fn seconds_left(&self, now: Instant) -> u64
+        ensures { result ≡ seconds_left self.now.bytes
+            ((instant_nanos now - instant_nanos self.now.since) / 10 ^ 9) }
+    {
         count_seconds_left(self.bytes, now.duration_since(self.since).as_secs())
     }
 }

@@ -49,6 +49,8 @@ struct Waited {
     carried: Carried,
     // Whether the last response was one to a request that was rejected.
     rejected: bool,
+    // Whether only a part of the last piece was taken, so that the next one goes on with it.
+    partly_sent: bool,
 }
 
 /// A TCP connection, with its faults counted. A write that takes nothing of a piece that is not
@@ -96,6 +98,7 @@ impl Waited {
             begin,
             carried: Carried::NOTHING,
             rejected: false,
+            partly_sent: false,
         })
     }
 
@@ -138,9 +141,10 @@ impl Waited {
         Ok(())
     }
 
-    // Begins to write a piece, which may begin a response.
+    // Begins to write a piece, which may begin a response. The rest of a piece begins none,
+    // whatever its bytes are.
     fn begin_piece(&mut self, piece: &[u8]) -> Result<(), Failed> {
-        if is_final(piece) {
+        if !self.partly_sent && is_final(piece) {
             let now = read_clock(&self.rt)?;
             self.carried.responses = self.carried.responses.saturating_add(1);
             self.rejected = is_rejection(piece);
@@ -197,6 +201,7 @@ impl Waited {
                         return Err(Failed);
                     }
                     self.add_out(count);
+                    self.partly_sent = count < piece.len();
                     return Ok(count);
                 }
                 Err(error) => {

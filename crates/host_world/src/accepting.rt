@@ -33,6 +33,15 @@ fn accept_next(rt: &HostRuntime, listener: &TcpListener) -> io::Result<Option<Tc
     }
 }
 
+// Says at which address no connection is accepted, and why. It is no fault if that fails.
+fn say_why(rt: &HostRuntime, listener: &TcpListener, error: &io::Error) {
+    let mut err = rt.stderr();
+    let _ = match listener.local_addr() {
+        Ok(address) => writeln!(err, "cannot accept a connection on {address}: {error}"),
+        Err(_) => writeln!(err, "cannot accept a connection: {error}"),
+    };
+}
+
 // Tries once to accept a connection. Of a fault that is not the connection's it says why, if it is
 // the first one, and waits a little.
 fn try_accept(rt: &HostRuntime, listener: &TcpListener, said: &mut bool) -> Option<TcpLink> {
@@ -41,7 +50,7 @@ fn try_accept(rt: &HostRuntime, listener: &TcpListener, said: &mut bool) -> Opti
         Err(error) => {
             if !is_of_connection(&error) {
                 if !*said {
-                    let _ = writeln!(rt.stderr(), "cannot accept a connection: {error}");
+                    say_why(rt, listener, &error);
                 }
                 *said = true;
                 thread::sleep(rt, Duration::from_millis(PAUSE_MILLISECONDS));

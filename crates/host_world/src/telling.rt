@@ -26,7 +26,7 @@ impl Display for End<'_> {
             Served::Limit => f.write_str("had its last request"),
             Served::NoMemory => f.write_str("found no memory"),
             Served::Refused(status) => write!(f, "was refused with {status}"),
-            Served::Upgraded { .. } => f.write_str("was upgraded"),
+            Served::Upgraded { .. } => f.write_str("switched to WebSocket"),
         }
     }
 }
