@@ -1,5 +1,5 @@
 -- What a keeper's content is to a history after each answer of `append`.
-use Rattle.std.proofs.Common.{◌≡◌, ◌↔◌, ◌⊎◌, inl, inr, ⊎_elim, ℕ, not, List, [], ◌∷◌, ◌++◌, filter, Option, Some, None, refl, sym, ap, ◌∙◌, subst}
+use Rattle.std.proofs.Common.{◌≡◌, ◌↔◌, ◌⊎◌, inl, inr, ⊎_elim, ℕ, zero, suc, ◌+◌, ◌<◌, arith, not, List, [], ◌∷◌, ◌++◌, filter, Option, Some, None, refl, sym, ap, ◌∙◌, subst}
 use Rattle.std.proofs.lemmas.List.{append-nil}
 use Rattle.std.proofs.lemmas.Grind.{flat_map-append}
 use Rattle.std.proofs.lemmas.List.Elements.{filter-append}
@@ -10,7 +10,7 @@ use Rattle.mail_records.specs.declared.edits.Commit.{Commit}
 use Rattle.mail_records.specs.declared.edits.Stamp.{Stamp}
 use Rattle.record_codec.specs.Offsets.{IsEncodingOf}
 use Rattle.account_book.specs.Accounts.{without_refusals}
-use Rattle.account_book.specs.Keeping.{AreEncodings, IsBaseOf, IsOneMore, KeepsHistory, KnowsHistory, LeavesHistory}
+use Rattle.account_book.specs.Keeping.{AreEncodings, IsBaseOf, IsLeftAfter, IsLeftBy, IsOneAsked, IsOneMore, KeepsHistory, KnowsHistory, LeavesHistory}
 use Rattle.account_book.proofs.Rows.{AreEncodings-push}
 
 pub commits_in-grown : (h : History) (e : Entry) → commits_in (grown h e).entries ≡ commits_in h.entries ++ entry_commits e
@@ -22,6 +22,10 @@ commits_in-refused h s = commits_in-grown h (Refused s) ∙ append-nil (commits_
 base_grown : (base : Option (List ℕ)) (h : History) (e : Entry) → IsBaseOf base h → IsBaseOf base (grown h e)
 base_grown None h e is = is
 base_grown (Some b) h e is = absurd is
+
+base_back : (base : Option (List ℕ)) (h : History) (e : Entry) → IsBaseOf base (grown h e) → IsBaseOf base h
+base_back None h e is = is
+base_back (Some b) h e is = absurd is
 
 -- a row more keeps a commit more
 pub KeepsHistory-committed : (k : Kept) (h : History) (row : List ℕ) (c : Commit) → KeepsHistory k h → IsEncodingOf row c → KeepsHistory (with_row row k) (grown h (Committed c))
@@ -35,6 +39,13 @@ pub KeepsHistory-refused : (k : Kept) (h : History) (s : Stamp) → KeepsHistory
 KeepsHistory-refused k h s stands = record {
   base = base_grown k.base h (Refused s) stands.base;
   rows = subst (AreEncodings k.rows) (sym (commits_in-refused h s)) stands.rows;
+}
+
+-- so one commit more after it is that one after the history before it
+KeepsHistory-later : (k : Kept) (h : History) (s : Stamp) (c : Commit) → KeepsHistory k (grown h (Committed c)) → KeepsHistory k (grown (grown h (Refused s)) (Committed c))
+KeepsHistory-later k h s c keeps = record {
+  base = base_grown k.base (grown h (Refused s)) (Committed c) (base_grown k.base h (Refused s) (base_back k.base h (Committed c) keeps.base));
+  rows = subst (AreEncodings k.rows) (commits_in-grown h (Committed c) ∙ (ap (λ cs. cs ++ c ∷ []) (sym (commits_in-refused h s)) ∙ sym (commits_in-grown (grown h (Refused s)) (Committed c)))) keeps.rows;
 }
 
 -- of the same commits over nothing, one history has refusals where another has none
@@ -110,17 +121,98 @@ module _ (whole : History → Type 0) where
     one_more-refused k h s m = record {
       commit = m.commit;
       valid = whole_same (grown (grown h (Refused s)) (Committed m.commit)) (grown h (Committed m.commit)) (without_later h s (Committed m.commit)) m.valid;
-      keeps = record {
-        base = base_grown k.base (grown h (Refused s)) (Committed m.commit) (base_grown k.base h (Refused s) (base_back k.base h (Committed m.commit) m.keeps.base));
-        rows = subst (AreEncodings k.rows) (commits_in-grown h (Committed m.commit) ∙ (ap (λ cs. cs ++ m.commit ∷ []) (sym (commits_in-refused h s)) ∙ sym (commits_in-grown (grown h (Refused s)) (Committed m.commit)))) m.keeps.rows;
-      };
+      keeps = KeepsHistory-later k h s m.commit m.keeps;
     }
-      where
-        base_back : (base : Option (List ℕ)) (h : History) (e : Entry) → IsBaseOf base (grown h e) → IsBaseOf base h
-        base_back None h e is = is
-        base_back (Some b) h e is = absurd is
 
     pub left_refused : (image : Kept → Type 0) (h h' : History) (s : Stamp) → LeavesHistory whole image h → h' ≡ grown h (Refused s) → LeavesHistory whole image h'
     left_refused image h h' s leaves grows =
         subst (LeavesHistory whole image) (sym grows)
         (λ left i. ⊎_elim (λ a. inl (KeepsHistory-refused left h s a)) (λ m. inr (one_more-refused left h s m)) (leaves left i))
+
+-- ---- what a crash may leave after calls
+
+-- a history to which a commit was not entered
+abbrev NotEntered : (h h' : History) → Commit → Type 0
+NotEntered h h' c = (h' ≡ h) ⊎ (h' ≡ grown h (Refused c.stamp))
+
+commits_not_entered : (h h' : History) (c : Commit) → NotEntered h h' c → commits_in h'.entries ≡ commits_in h.entries
+commits_not_entered h h' c less =
+    ⊎_elim
+    (λ same. ap (λ (z : History). commits_in z.entries) same)
+    (λ more. ap (λ (z : History). commits_in z.entries) more ∙ commits_in-refused h c.stamp)
+    less
+
+keeps_not_entered : (k : Kept) (h h' : History) (c : Commit) → NotEntered h h' c → KeepsHistory k h → KeepsHistory k h'
+keeps_not_entered k h h' c less keeps =
+    ⊎_elim
+    (λ same. subst (KeepsHistory k) (sym same) keeps)
+    (λ more. subst (KeepsHistory k) (sym more) (KeepsHistory-refused k h c.stamp keeps))
+    less
+
+more_not_entered : (k : Kept) (h h' : History) (c e : Commit) → NotEntered h h' c → KeepsHistory k (grown h (Committed e)) → KeepsHistory k (grown h' (Committed e))
+more_not_entered k h h' c e less keeps =
+    ⊎_elim
+    (λ same. subst (λ z. KeepsHistory k (grown z (Committed e))) (sym same) keeps)
+    (λ more. subst (λ z. KeepsHistory k (grown z (Committed e))) (sym more) (KeepsHistory-later k h c.stamp e keeps))
+    less
+
+-- a call that does nothing
+pub left_idle : (image : Kept → Type 0) (h : History) (c : Commit) → IsLeftBy image image h h c
+left_idle image h c = inr (inl refl, λ k i. inl i)
+
+-- the commit was entered
+pub left_entered : (before now : Kept → Type 0) (known : Option Kept) (h h' : History) (row : List ℕ) (c : Commit) → KnowsHistory known h → IsEncodingOf row c
+    → ((k : Kept) → now k → with_row_if row known ≡ Some k) → h' ≡ grown h (Committed c) → IsLeftBy before now h h' c
+left_entered before now known h h' row c knows one may grows = inl (grows, only_taken known now h h' row c knows one may grows)
+
+-- it was not
+pub left_unentered : (before now : Kept → Type 0) (known : Option Kept) (h h' : History) (row : List ℕ) (c : Commit) → KnowsHistory known h → IsEncodingOf row c
+    → ((k : Kept) → now k → before k ⊎ (with_row_if row known ≡ Some k)) → NotEntered h h' c → IsLeftBy before now h h' c
+left_unentered before now known h h' row c knows one may less =
+    inr (less, λ k i. ⊎_elim (λ old. inl old) (λ new. inr (next_keeps known h row c k knows one new)) (may k i))
+
+-- after calls
+module _ {K : Type 0} (image : K → Kept → Type 0) (keepers : ℕ → K) (histories : ℕ → History) (commits : ℕ → Commit) where
+  abbrev Steps : ℕ → Type 0
+  Steps n = (i : ℕ) → i < n → IsLeftBy (image (keepers i)) (image (keepers (i + 1))) (histories i) (histories (i + 1)) (commits i)
+
+  abbrev After : ℕ → Kept → Type 0
+  After n k = IsLeftAfter (image (keepers 0)) histories commits n k
+
+  carried : (n m : ℕ) (k : Kept) → n < m → NotEntered (histories n) (histories m) (commits n) → After n k → After m k
+  carried n m k low less after =
+      let same = commits_not_entered (histories n) (histories m) (commits n) less in
+      ⊎_elim
+      (λ keeps. inl (keeps_not_entered k (histories n) (histories m) (commits n) less keeps))
+      (λ rest. inr (⊎_elim
+      (λ (one : IsOneAsked histories commits n k). let before = one.asked in inl (record {
+        index = one.index;
+        asked = omega (arith, before, low);
+        none_since = same ∙ one.none_since;
+        keeps = more_not_entered k (histories n) (histories m) (commits n) (commits one.index) less one.keeps;
+      }))
+      (λ first. inr (same ∙ first.0, first.1))
+      rest))
+      after
+
+  stepped : (n : ℕ) → IsLeftBy (image (keepers n)) (image (keepers (n + 1))) (histories n) (histories (n + 1)) (commits n) → ((k : Kept) → image (keepers n) k → After n k) → (k : Kept) → image (keepers (n + 1)) k → After (n + 1) k
+  stepped n step before k i =
+      ⊎_elim
+      (λ entered. inl (entered.1 k i))
+      (λ less. ⊎_elim
+      (λ old. carried n (n + 1) k (omega arith) less.0 (before k old))
+      (λ one. inr (inl (record {
+        index = n;
+        asked = omega arith;
+        none_since = commits_not_entered (histories n) (histories (n + 1)) (commits n) less.0;
+        keeps = more_not_entered k (histories n) (histories (n + 1)) (commits n) (commits n) less.0 one;
+      })))
+      (less.1 k i))
+      step
+
+  pub left_after : (n : ℕ) → Steps n → (k : Kept) → image (keepers n) k → After n k
+  left_after zero steps k i = inr (inr (refl, i))
+  left_after (suc n) steps k i =
+      let next : n + 1 ≡ suc n = omega arith in
+      subst (λ m. After m k) next
+      (stepped n (steps n (omega arith)) (left_after n (λ j low. steps j (omega (arith, low)))) k (subst (λ m. image (keepers m) k) (sym next) i))

@@ -1,5 +1,6 @@
 -- The entries of a book since it was opened, and the refusals among them.
-use Rattle.std.proofs.Common.{◌≡◌, ℕ, zero, suc, ◌+◌, ◌-◌, ◌^◌, ◌≤◌, ◌<◌, Bool, true, false, List, [], ◌∷◌, ◌++◌, take, drop, filter, length, Result, Ok, Err, refl, sym, ap, ◌∙◌, subst, arith, length-append}
+use Rattle.std.proofs.Common.{◌≡◌, ◌⊎◌, ⊎_elim, ℕ, zero, suc, ◌+◌, ◌-◌, ◌^◌, ◌≤◌, ◌<◌, Bool, true, false, List, [], ◌∷◌, ◌++◌, take, drop, filter, length, Result, Ok, Err, refl, sym, ap, ◌∙◌, subst, arith, length-append}
+use Rattle.std.proofs.lemmas.Bool.Decides.{leb_tells}
 use Rattle.std.proofs.lemmas.List.{append-nil, drop-append-le}
 use Rattle.std.proofs.lemmas.List.Elements.{filter-append}
 use Rattle.std.proofs.Math.Seq.{drop-append_seam}
@@ -9,7 +10,7 @@ use Rattle.mail_records.specs.Histories.{History, Entry, Committed, Refused, acc
 use Rattle.mail_records.specs.declared.edits.Commit.{Commit}
 use Rattle.mail_records.specs.declared.edits.Stamp.{Stamp}
 use Rattle.mail_records.proofs.Prefixes.{account_after-all, account_after-grown_by}
-use Rattle.account_book.specs.Books.{IsEntered, IsFaultCounted, RoseBy, refusals_in}
+use Rattle.account_book.specs.Books.{IsEntered, IsFaultCounted, IsValidFrom, RoseBy, refusals_in}
 use Rattle.account_book.specs.Passes.{IsPassNumber, greatest_pass}
 
 pub drop_all : {A : Type 0} (xs : List A) → drop (length xs) xs ≡ []
@@ -141,15 +142,9 @@ not_kept h c same =
     let ends : Committed c ≡ Refused c.stamp = sym (last_of (Committed c) (Committed c) h.entries) ∙ (ap (λ (k : History). last_or (Committed c) k.entries) same ∙ last_of (Committed c) (Refused c.stamp) h.entries) in
     absurd (cc)
 
--- a history that stays gains no entry, and one that gains a refusal gains no commit
-pub not_grown : (h k : History) (e : Entry) → k ≡ h → k ≡ grown h e → ⊥
+-- a history that stays gains no entry
+not_grown : (h k : History) (e : Entry) → k ≡ h → k ≡ grown h e → ⊥
 not_grown h k e same grows = not_longer h e (sym same ∙ grows)
-
-pub not_committed : (h k : History) (c : Commit) (s : Stamp) → k ≡ grown h (Refused s) → k ≡ grown h (Committed c) → ⊥
-not_committed h k c s refused kept =
-    let same : grown h (Committed c) ≡ grown h (Refused s) = sym kept ∙ refused in
-    let ends : Committed c ≡ Refused s = sym (last_of (Committed c) (Committed c) h.entries) ∙ (ap (λ (k : History). last_or (Committed c) k.entries) same ∙ last_of (Committed c) (Refused s) h.entries) in
-    absurd (cc)
 
 module _ {E : Type 0} where
   pub cause_entered : (r : Result Bool E) (h h' : History) (c : Commit) (faults faults' : ℕ) → IsEntered r h h' c → IsFaultCounted r faults faults' → h' ≡ grown h (Refused c.stamp) → Rose faults faults'
@@ -167,3 +162,29 @@ cause_idle h s faults same = absurd (not_longer h (Refused s) same)
 pub entered_grows : (E : Type 0) (kept : Bool) (h h' : History) (c : Commit) → IsEntered {E = E} (Ok kept) h h' c → h' ≡ h → ⊥
 entered_grows E true h h' c is same = not_grown h h' (Committed c) same is
 entered_grows E false h h' c is same = not_grown h h' (Refused c.stamp) same is
+
+-- ---- the account is valid at the end of each entry
+
+module _ (whole : History → Type 0) where
+  pub valid_first : (h : History) (n : ℕ) → n ≡ length h.entries → whole h → IsValidFrom whole n h
+  valid_first h n is valid count low = subst whole (sym (account_after-all h count (omega (arith, is, low)))) valid
+
+  -- after more entries, the first ones are as they were
+  always_on : (h h' : History) (n : ℕ) → ((k : ℕ) → k ≤ length h.entries → account_after h' k ≡ account_after h k) → length h'.entries ≤ length h.entries + 1 → whole h' → IsValidFrom whole n h → IsValidFrom whole n h'
+  always_on h h' n first more valid always count low =
+      ⊎_elim
+      (λ here. subst whole (sym (first count here.1)) (always count low))
+      (λ past. let far = past.1 in subst whole (sym (account_after-all h' count (omega (arith, far, more)))) valid)
+      (leb_tells count (length h.entries))
+
+  length_on : (h h' : History) (e : Entry) → h' ≡ grown h e → length h'.entries ≤ length h.entries + 1
+  length_on h h' e is = let more = ap (λ (k : History). length k.entries) is ∙ length-append h.entries (e ∷ []) in omega (arith, more)
+
+  module _ {E : Type 0} where
+    most_entered : (r : Result Bool E) (h h' : History) (c : Commit) → IsEntered r h h' c → length h'.entries ≤ length h.entries + 1
+    most_entered (Ok true) h h' c is = length_on h h' (Committed c) is
+    most_entered (Ok false) h h' c is = length_on h h' (Refused c.stamp) is
+    most_entered (Err e) h h' c is = let same = ap (λ (k : History). length k.entries) is in omega (arith, same)
+
+    pub always_entered : (r : Result Bool E) (h h' : History) (c : Commit) (n : ℕ) → IsEntered r h h' c → whole h' → IsValidFrom whole n h → IsValidFrom whole n h'
+    always_entered r h h' c n is valid always = always_on h h' n (λ k low. opened_entered r h h' c k low is) (most_entered r h h' c is) valid always

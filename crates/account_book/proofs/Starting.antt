@@ -19,7 +19,7 @@ use Rattle.account_book.specs.declared.loading.Loading.{Loading}
 use Rattle.account_book.specs.declared.loading.Loading.TheVariants.{Fitting, Overfull}
 use Rattle.account_book.proofs.Rows.{rest_dropped, rest_taken, rest_there}
 use Rattle.account_book.proofs.Opened.{AreLoaded-none, AreLoaded-push, IsLoadFault-row}
-use Rattle.account_book.proofs.Parts.{drop_all}
+use Rattle.account_book.proofs.Parts.{drop_all, valid_first}
 
 -- ---- one row after the other
 
@@ -72,6 +72,7 @@ pub IsBook_new : (whole : History → Type 0) (known : Option Kept) (image : Kep
     → IsBook whole known image faults known image faults n greatest h
 IsBook_new whole known image faults n greatest h count most valid knows = record {
   valid = valid;
+  always = valid_first whole h n count valid;
   kept = record { content = knows; left = λ ready. ready h valid knows };
   count = omega (arith, count);
   refusals = let none = no_refusals h.entries n count in omega (arith, none);

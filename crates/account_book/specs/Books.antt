@@ -3,7 +3,7 @@ use Rattle.std.specs.Prelude.{◌≡◌, ℕ, ◌+◌, ◌-◌, ◌^◌, ◌≤�
 use Rattle.std.specs.List.{AllByRecursion}
 use Rattle.jm_edge.specs.Causes.{Rose}
 use Rattle.keep_port.specs.declared.kept.Kept.{Kept}
-use Rattle.mail_records.specs.Histories.{History, Entry, Committed, Refused, grown, is_refused}
+use Rattle.mail_records.specs.Histories.{History, Entry, Committed, Refused, account_after, grown, is_refused}
 use Rattle.mail_records.specs.declared.edits.Commit.{Commit}
 use Rattle.account_book.specs.Keeping.{IsKept}
 use Rattle.account_book.specs.Passes.{IsPassNumber, greatest_pass}
@@ -28,15 +28,20 @@ refusals_in entries = length (filter is_refused entries)
 abbrev pub RoseBy : ℕ → ℕ → ℕ → Type 0
 RoseBy many before now = min (before + many) (2 ^ 64 - 1) ≤ now
 
--- The account is valid, and the keeper keeps its history. The refusals since it was opened are at
--- most the faults of the keeper's `append`, which rose by as many since. `greatest` is the greatest
--- pass of the entries that it was opened with. Each pass since is a number of 64 bits. What ends in
--- `then` is what the keeper knew, what a crash might leave of it, and its faults, when the account
--- was opened.
+-- the account is valid at the end of each entry from this count of entries on
+abbrev pub IsValidFrom : (History → Type 0) → ℕ → History → Type 0
+IsValidFrom whole before h = (count : ℕ) → before ≤ count → whole (account_after h count)
+
+-- The account is valid, and was so at the end of each entry since it was opened. The keeper keeps
+-- its history. The refusals since it was opened are at most the faults of the keeper's `append`,
+-- which rose by as many since. `greatest` is the greatest pass of the entries that it was opened
+-- with. Each pass since is a number of 64 bits. What ends in `then` is what the keeper knew, what a
+-- crash might leave of it, and its faults, when the account was opened.
 pub record IsBook (whole : History → Type 0) (known_then : Option Kept) (image_then : Kept
     → Type 0) (faults_then : ℕ) (known : Option Kept) (image : Kept → Type 0)
     (faults before greatest : ℕ) (h : History) : Type 0 where
   pub valid : whole h
+  pub always : IsValidFrom whole before h
   pub kept : IsKept whole known_then image_then known image h
   pub count : before ≤ length h.entries
   pub refusals : refusals_in (drop before h.entries) ≤ faults

@@ -1,7 +1,7 @@
 -- What a keeper's content is to the history of an account, and what a crash may leave of it.
-use Rattle.std.specs.Prelude.{◌≡◌, ℕ, List, [], ◌∷◌, Option, Some, None, ◌⊎◌, ⊤}
+use Rattle.std.specs.Prelude.{◌≡◌, ℕ, ◌<◌, List, [], ◌∷◌, Option, Some, None, ◌⊎◌, ⊤}
 use Rattle.keep_port.specs.declared.kept.Kept.{Kept}
-use Rattle.mail_records.specs.Histories.{History, Committed, account_after, commits_in, empty_history, grown}
+use Rattle.mail_records.specs.Histories.{History, Committed, Refused, account_after, commits_in, empty_history, grown}
 use Rattle.mail_records.specs.declared.edits.Commit.{Commit}
 use Rattle.record_codec.specs.Bases.{IsBaseEncodingOf}
 use Rattle.record_codec.specs.Offsets.{IsEncodingOf}
@@ -37,9 +37,42 @@ LeavesHistory whole image h = (k : Kept) → image k → KeepsHistory k h ⊎ Is
 abbrev pub KnowsHistory : Option Kept → History → Type 0
 KnowsHistory known h = (k : Kept) → known ≡ Some k → KeepsHistory k h
 
--- a crash leaves the history and nothing else, if the keeper knew its content before
-abbrev pub LeavesOnly : Option Kept → (Kept → Type 0) → History → Type 0
-LeavesOnly known image h = (k left : Kept) → known ≡ Some k → image left → KeepsHistory left h
+-- a crash leaves the history and nothing else
+abbrev pub LeavesOnly : (Kept → Type 0) → History → Type 0
+LeavesOnly image h = (k : Kept) → image k → KeepsHistory k h
+
+-- a crash leaves nothing but what it might have left before, or the history with exactly this
+-- commit
+abbrev pub LeavesAtMost : (before now : Kept → Type 0) → History → Commit → Type 0
+LeavesAtMost before now h c =
+    (k : Kept) → now k → before k ⊎ KeepsHistory k (grown h (Committed c))
+
+-- What a call that would enter this commit makes of the history, and of what a crash may leave.
+-- Either the commit is entered, and a crash leaves the history with it and nothing else. Or it is
+-- not: the history stays, or gains the mark that the commit was refused, and of all commits that
+-- are not entered only this one may be there after a crash that might not have been there before.
+abbrev pub IsLeftBy : (before now : Kept → Type 0) → (h h' : History) → Commit → Type 0
+IsLeftBy before now h h' c =
+    ((h' ≡ grown h (Committed c)) × LeavesOnly now h')
+    ⊎ (((h' ≡ h) ⊎ (h' ≡ grown h (Refused c.stamp))) × LeavesAtMost before now h c)
+
+-- A content keeps the history after as many calls with exactly one commit more: that of the call
+-- with this index. Neither that call nor one after it entered a commit.
+pub record IsOneAsked (histories : ℕ → History) (commits : ℕ → Commit) (count : ℕ) (k : Kept)
+    : Type 0 where
+  pub index : ℕ
+  pub asked : index < count
+  pub none_since : commits_in (histories count).entries ≡ commits_in (histories index).entries
+  pub keeps : KeepsHistory k (grown (histories count) (Committed (commits index)))
+
+-- What a crash may leave after as many calls, of which each would enter its commit: the history
+-- after them; that with the commit of one call that was not entered, as none was since; or, if no
+-- call entered its commit, what a crash might have left before them.
+abbrev pub IsLeftAfter : (first : Kept → Type 0) → (ℕ → History) → (ℕ → Commit) → ℕ → Kept
+    → Type 0
+IsLeftAfter first histories commits count k =
+    KeepsHistory k (histories count) ⊎ IsOneAsked histories commits count k
+    ⊎ ((commits_in (histories count).entries ≡ commits_in (histories 0).entries) × first k)
 
 -- A keeper is ready: whatever valid history it may keep, a crash leaves that, or that with one
 -- commit more. If the keeper knows its content, the histories are those that its content keeps. So

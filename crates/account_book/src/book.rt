@@ -8,12 +8,11 @@ ghost use Rattle.keep_port.specs.declared.kept.Kept.{Kept as TheKept};
 ghost use Rattle.mail_records.specs.Commits.{IsFormed};
 ghost use Rattle.mail_records.specs.Edits.{AllFit, IsSmall};
 ghost use Rattle.mail_records.specs.Histories.{Committed, IsSound, Refused, account_after, blobs_of, content_of, edits_of, grown, grown_by};
-ghost use Rattle.mail_records.specs.declared.edits.Commit.{Commit as TheCommit};
 ghost use Rattle.mail_records.specs.declared.edits.Stamp.{Stamp as TheStamp};
 ghost use Rattle.record_codec.specs.Sizes.{edit_bytes};
 ghost use Rattle.account_book.specs.Accounts.{IsBounded};
-ghost use Rattle.account_book.specs.Books.{IsEntered, IsFaultCounted, RoseBy, refusals_in};
-ghost use Rattle.account_book.specs.Keeping.{IsKept, IsReady, LeavesOnly};
+ghost use Rattle.account_book.specs.Books.{IsEntered, IsFaultCounted, IsValidFrom, RoseBy, refusals_in};
+ghost use Rattle.account_book.specs.Keeping.{IsKept, IsLeftBy, IsReady};
 ghost use Rattle.account_book.specs.Opening.{IsAsBefore, IsContentFault, IsLeftBefore, IsOpened, IsReadyLoaded, IsStartFault, MakesHistory};
 ghost use Rattle.account_book.specs.Passes.{greatest_pass, named_since, numbered_since, pass_from};
 ghost use Rattle.account_book.specs.Plans.{last_moment};
@@ -37,9 +36,12 @@ use std::snapshot::Snapshot;
 /// see the rules, the keeper, the account's history, and of it what the book was opened with and
 /// the entries since.
 ///
-/// The account is always valid by the rules. If the keeper was ready when the book was opened,
-/// whatever a crash leaves of it holds every commit of the account, complete and in order, and at
-/// most one commit more, with which the account is valid too ([`Book::keeps`]). Whoever received
+/// The account is always valid by the rules, at the end of each entry. If the keeper was ready when
+/// the book was opened, whatever a crash leaves of it holds every commit of the account, complete
+/// and in order, and at most one commit more, with which the account is valid too
+/// ([`Book::keeps`]). Once a commit was entered, the one more is that of a call after it whose
+/// commit the keeper refused
+/// ([`crashes_leave_one_asked_commit`](crate::crashes_leave_one_asked_commit)). Whoever received
 /// the acknowledgement of a change can rely on it: right after a commit is entered, a crash leaves
 /// the account and nothing more ([`Book::perform`]).
 #[derive(Drop)]
@@ -176,6 +178,7 @@ impl<K: Keeper, R: Rules> Book<K, R> {
     pub fn end(self) -> K
         ensures keeper { result ≡ self.keeper }
         ensures valid { R.is_whole self.rules self.history }
+        ensures always { IsValidFrom (R.is_whole self.rules) self.before self.history }
         ensures kept { IsKept (R.is_whole self.rules) (K.kept self.opened_over)
             (K.image self.opened_over) (K.kept result) (K.image result) self.history }
         ensures ready { IsReady (R.is_whole self.rules) (K.kept self.opened_over)
@@ -192,6 +195,8 @@ impl<K: Keeper, R: Rules> Book<K, R> {
     /// Does nothing. Its clauses say what holds of each book.
     pub fn keeps(&self)
         ensures valid { R.is_whole self.now.rules self.now.history }
+        ensures always { IsValidFrom (R.is_whole self.now.rules) self.now.before
+            self.now.history }
         ensures kept { IsKept (R.is_whole self.now.rules)
             (K.kept self.now.opened_over) (K.image self.now.opened_over) (K.kept self.now.keeper)
             (K.image self.now.keeper) self.now.history }
@@ -231,12 +236,14 @@ impl<K: Keeper, R: Rules> Book<K, R> {
     /// with `serverFail`, or an upload with `Failed`: the mark of a refusal is then entered under
     /// the stamp, and content and states are as before. The history grows by nothing else.
     ///
-    /// If a commit is entered and the keeper knew its content, a crash now leaves the account and
-    /// nothing more. If the keeper refused the commit, or memory ran out, the commit may still be
-    /// there after a crash, as one more than those of the account. If memory runs out, the history
-    /// stays as it was. A call that enters nothing leaves the keeper alone, and the count of faults
-    /// of `append` rises only with a refusal that is entered.
-    #[tactic(auto, using(crate::proofs::Parts::since_idle, crate::proofs::Parts::cause_idle))]
+    /// If the commit is entered, a crash now leaves the account and nothing more. If the keeper
+    /// refused it, or memory ran out, this commit and no other may be there after a crash, as one
+    /// more than those of the account, besides what a crash might have left before the call
+    /// (`left`; [`crashes_leave_one_asked_commit`](crate::crashes_leave_one_asked_commit) says what
+    /// follows over many calls). If memory runs out, the history stays as it was. A call that
+    /// enters nothing leaves the keeper alone, and the count of faults of `append` rises only with
+    /// a refusal that is entered.
+    #[tactic(auto, using(crate::proofs::Parts::since_idle, crate::proofs::Parts::cause_idle, crate::proofs::KeptHistories::left_idle))]
     pub fn perform(
         &mut self,
         alloc: Global,
@@ -266,9 +273,9 @@ impl<K: Keeper, R: Rules> Book<K, R> {
             ⊎ Rose (K.append_faults self.old.keeper) (K.append_faults self.new.keeper)) }
         ensures cause { self.new.history ≡ grown self.old.history (Refused stamp)
             → Rose (K.append_faults self.old.keeper) (K.append_faults self.new.keeper) }
-        ensures settled { (c : TheCommit) → self.new.history ≡ grown self.old.history (Committed c)
-            → LeavesOnly (K.kept self.old.keeper) (K.image self.new.keeper)
-            self.new.history }
+        ensures left { IsLeftBy (K.image self.old.keeper) (K.image self.new.keeper)
+            self.old.history self.new.history (commit_of (R.plan_of self.old.rules
+            self.old.history call.now moment) stamp) }
         ensures load_count { K.load_faults self.new.keeper ≡ K.load_faults self.old.keeper }
         ensures replace_count { K.replace_faults self.new.keeper
             ≡ K.replace_faults self.old.keeper }
@@ -353,9 +360,8 @@ impl<K: Keeper, R: Rules> Book<K, R> {
             (length self.old.history.entries) self.new.history.entries }
         ensures cause { IsFaultCounted result (K.append_faults self.old.keeper)
             (K.append_faults self.new.keeper) }
-        ensures settled { (c : TheCommit) → self.new.history ≡ grown self.old.history (Committed c)
-            → LeavesOnly (K.kept self.old.keeper) (K.image self.new.keeper)
-            self.new.history }
+        ensures left { IsLeftBy (K.image self.old.keeper) (K.image self.new.keeper)
+            self.old.history self.new.history commit }
         ensures load_count { K.load_faults self.new.keeper ≡ K.load_faults self.old.keeper }
         ensures replace_count { K.replace_faults self.new.keeper
             ≡ K.replace_faults self.old.keeper }

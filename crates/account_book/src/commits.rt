@@ -5,10 +5,9 @@ ghost use Rattle.blob_store.specs.Blobs.{AreBlobsFew};
 ghost use Rattle.mail_records.specs.Commits.{IsFormed};
 ghost use Rattle.mail_records.specs.Edits.{AllFit, IsSmall};
 ghost use Rattle.mail_records.specs.Histories.{Committed, IsSound, blobs_of, content_of, edits_of, grown};
-ghost use Rattle.mail_records.specs.declared.edits.Commit.{Commit as TheCommit};
 ghost use Rattle.record_codec.specs.Sizes.{edit_bytes};
 ghost use Rattle.account_book.specs.Accounts.{IsBounded};
-ghost use Rattle.account_book.specs.Keeping.{KnowsHistory, LeavesHistory, LeavesOnly};
+ghost use Rattle.account_book.specs.Keeping.{IsLeftBy, KnowsHistory, LeavesHistory};
 ghost use Rattle.account_book.specs.Books.{IsEntered, IsFaultCounted};
 ghost use Rattle.account_book.specs.Replies.{IsWithin};
 
@@ -20,6 +19,7 @@ use mail_records::{Commit, copy_edits};
 use record_codec::encode;
 use std::alloc::Global;
 
+#[tactic(auto, using(crate::proofs::KeptHistories::left_idle))]
 /// Appends a commit to a keeper, and enters it in the account if the keeper takes it. If the keeper
 /// refuses it, the mark of that is entered. With the commit the edits take so many bytes. All
 /// memory is taken before the keeper is asked; that of the encoded commit is freed.
@@ -48,9 +48,8 @@ pub(crate) fn keep_commit<K: Keeper, R: Rules>(
     ensures left { LeavesHistory (R.is_whole rules.now) (K.image keeper.old)
         account.old.history → LeavesHistory (R.is_whole rules.now)
         (K.image keeper.new) account.new.history }
-    ensures settled { (c : TheCommit) → account.new.history ≡ grown account.old.history
-        (Committed c) → LeavesOnly (K.kept keeper.old) (K.image keeper.new)
-        account.new.history }
+    ensures left_by { IsLeftBy (K.image keeper.old) (K.image keeper.new) account.old.history
+        account.new.history commit }
     ensures cause { IsFaultCounted result (K.append_faults keeper.old)
         (K.append_faults keeper.new) }
     ensures load_count { K.load_faults keeper.new ≡ K.load_faults keeper.old }

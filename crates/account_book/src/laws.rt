@@ -1,15 +1,16 @@
 // What holds of every account, whatever its rules.
-ghost use Rattle.std.specs.Prelude.{◌≡◌, ◌<◌, ◌≤◌, ◌^◌, ◌⊎◌, ℕ, List, Some, length};
+ghost use Rattle.std.specs.Prelude.{◌≡◌, ◌+◌, ◌<◌, ◌≤◌, ◌^◌, ◌⊎◌, ℕ, List, Some, length};
 ghost use Rattle.std.specs.List.{AllByRecursion};
 ghost use Rattle.mail_records.specs.Histories.{History, Entry, IsFounded, IsSound, account_after, blobs_of, content_at, content_of, end_after, end_of, grown_by, max_floor};
 ghost use Rattle.mail_records.specs.FloorMoves.{moved_up};
 ghost use Rattle.mail_records.specs.States.{state_at, state_of};
+ghost use Rattle.mail_records.specs.declared.edits.Commit.{Commit as TheCommit};
 ghost use Rattle.mail_records.specs.declared.edits.Edit.{Edit};
 ghost use Rattle.mail_records.specs.declared.edits.Stamp.{Stamp};
 ghost use Rattle.jm_base.specs.declared.identifiers.Kind.{Kind};
 ghost use Rattle.keep_port.specs.declared.kept.Kept.{Kept};
 ghost use Rattle.account_book.specs.Accounts.{without_refusals};
-ghost use Rattle.account_book.specs.Keeping.{IsOneMore, IsReady, KeepsHistory};
+ghost use Rattle.account_book.specs.Keeping.{IsLeftAfter, IsLeftBy, IsOneMore, IsReady, KeepsHistory};
 ghost use Rattle.account_book.specs.Opening.{IsDamaged, MakesHistory};
 ghost use Rattle.account_book.specs.Replies.{IsReply};
 ghost use Rattle.account_book.specs.Runs.{AreKeptValid, Event, IsEntryOfReply, IsTimely, after_event};
@@ -77,6 +78,21 @@ pub fn history_outlasts_floor()
         → IsFounded (moved_up h c) }
     ensures sound { (h : History) (c : ℕ) → IsSound h → IsSound (moved_up h c) }
 {}
+
+/// Of calls on an account, one after the other, each of which would enter its commit, as
+/// [`crate::Book::perform`] says of the commit that it plans: whatever a crash leaves after them
+/// keeps every commit that was entered, complete and in order, and at most one commit more. That is
+/// the commit of one of these calls, which was not entered, and since that call none was. Only if
+/// none of these calls entered its commit, a crash may leave what it might have left before them.
+pub fn crashes_leave_one_asked_commit<K: Keeper>(keeper: &K)
+    ensures { (keepers : ℕ → K) (histories : ℕ → History) (commits : ℕ → TheCommit) (count : ℕ)
+        → ((index : ℕ) → index < count → IsLeftBy (K.image (keepers index))
+        (K.image (keepers (index + 1))) (histories index) (histories (index + 1)) (commits index))
+        → (k : Kept) → K.image (keepers count) k
+        → IsLeftAfter (K.image (keepers 0)) histories commits count k }
+{
+    let _keeper = keeper;
+}
 
 /// What a valid account is kept as is not damaged, whichever row and reason are named, and neither
 /// is it with one commit more, with which the account is valid. So nothing that a crash may leave

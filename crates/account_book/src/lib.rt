@@ -29,8 +29,8 @@ pub use book::Book;
 pub use entry::Entry;
 pub use faults::{Reason, StartFault};
 pub use laws::{
-    clean_keepers_are_ready, events_keep_accounts_valid, history_outlasts_floor,
-    kept_accounts_open_again, replies_keep_accounts_valid, reply_lasts,
+    clean_keepers_are_ready, crashes_leave_one_asked_commit, events_keep_accounts_valid,
+    history_outlasts_floor, kept_accounts_open_again, replies_keep_accounts_valid, reply_lasts,
 };
 pub use limits::MAX_EDIT_BYTES;
 pub use plans::{Done, Out, Plan, Point};

@@ -1,9 +1,8 @@
-use Rattle.std.proofs.Common.{sym, ap, ◌∙◌, subst}
+use Rattle.std.proofs.Common.{inl, inr, sym, ap, ◌∙◌, subst}
 use Rattle.mail_records.specs.Histories.{Committed, Refused, grown}
 use Rattle.record_codec.specs.Offsets.{IsEncodingOf}
 use Rattle.account_book.specs.Keeping.{KnowsHistory, LeavesHistory}
-use Rattle.account_book.proofs.KeptHistories.{knows_refused, knows_same, knows_taken, left_not_taken, left_refused, left_taken, only_taken, whole_refused}
-use Rattle.account_book.proofs.Parts.{not_committed, not_grown}
+use Rattle.account_book.proofs.KeptHistories.{knows_refused, knows_same, knows_taken, left_entered, left_not_taken, left_refused, left_taken, left_unentered, whole_refused}
 use Rattle.account_book.proofs.commits.keep_commit.Goals as goal
 
 pub returns-in_err-reserve-clause-content : goal.returns-in_err-reserve-clause-content
@@ -14,8 +13,8 @@ pub returns-in_err-reserve-clause-left : goal.returns-in_err-reserve-clause-left
 returns-in_err-reserve-clause-left g c leaves =
     subst (LeavesHistory (g.R.Rules.is_whole c.args.rules.now) (g.K.Keeper.image c.args.keeper.now)) (sym c.reserve.ensures.same) leaves
 
-pub returns-in_err-reserve-clause-settled : goal.returns-in_err-reserve-clause-settled
-returns-in_err-reserve-clause-settled g c commit grows = absurd (not_grown c.args.account.now.history c.reserve.new.self.history (Committed commit) c.reserve.ensures.same grows)
+pub returns-in_err-reserve-clause-left_by : goal.returns-in_err-reserve-clause-left_by
+returns-in_err-reserve-clause-left_by g c = inr (inl c.reserve.ensures.same, λ k i. inl i)
 
 pub returns-in-Ok-clause-content : goal.returns-in-Ok-clause-content
 returns-in-Ok-clause-content g c =
@@ -31,12 +30,12 @@ returns-in-Ok-clause-left g c leaves =
     left_taken (g.R.Rules.is_whole c.args.rules.now) (g.K.Keeper.kept c.args.keeper.now) (g.K.Keeper.image c.append.new.self) h c.commit_ready.new.self.history c.as_slice-4.result.now c.args.commit c.requires.content one c.in-Ok.ensures.image
     (c.commit_ready.ensures ∙ ap (λ k. grown k (Committed c.args.commit)) c.reserve.ensures.same)
 
-pub returns-in-Ok-clause-settled : goal.returns-in-Ok-clause-settled
-returns-in-Ok-clause-settled g c commit grows k left told i =
+pub returns-in-Ok-clause-left_by : goal.returns-in-Ok-clause-left_by
+returns-in-Ok-clause-left_by g c =
     let h = c.args.account.now.history in
     let one : IsEncodingOf c.as_slice-4.result.now c.args.commit = subst (λ b. IsEncodingOf b c.args.commit) (sym c.as_slice-4.ensures) c.in_ok-row.ensures.encoded in
-    only_taken (g.K.Keeper.kept c.args.keeper.now) (g.K.Keeper.image c.append.new.self) h c.commit_ready.new.self.history c.as_slice-4.result.now c.args.commit c.requires.content one c.in-Ok.ensures.image
-    (c.commit_ready.ensures ∙ ap (λ k. grown k (Committed c.args.commit)) c.reserve.ensures.same) left i
+    left_entered (g.K.Keeper.image c.args.keeper.now) (g.K.Keeper.image c.append.new.self) (g.K.Keeper.kept c.args.keeper.now) h c.commit_ready.new.self.history c.as_slice-4.result.now c.args.commit c.requires.content one c.in-Ok.ensures.image
+    (c.commit_ready.ensures ∙ ap (λ k. grown k (Committed c.args.commit)) c.reserve.ensures.same)
 
 pub returns-in-Err-Failed-clause-valid : goal.returns-in-Err-Failed-clause-valid
 returns-in-Err-Failed-clause-valid g c =
@@ -61,9 +60,12 @@ returns-in-Err-Failed-clause-left g c leaves =
     h c.reserve.new.self.history c.as_slice-4.result.now c.args.commit c.requires.content one c.requires.keeps c.in-Err-Failed.ensures.image c.reserve.ensures.same leaves)
     c.refuse_ready.ensures
 
-pub returns-in-Err-Failed-clause-settled : goal.returns-in-Err-Failed-clause-settled
-returns-in-Err-Failed-clause-settled g c commit grows =
-    absurd (not_committed c.args.account.now.history c.refuse_ready.new.self.history commit c.args.commit.stamp (c.refuse_ready.ensures ∙ ap (λ k. grown k (Refused c.args.commit.stamp)) c.reserve.ensures.same) grows)
+pub returns-in-Err-Failed-clause-left_by : goal.returns-in-Err-Failed-clause-left_by
+returns-in-Err-Failed-clause-left_by g c =
+    let h = c.args.account.now.history in
+    let one : IsEncodingOf c.as_slice-4.result.now c.args.commit = subst (λ b. IsEncodingOf b c.args.commit) (sym c.as_slice-4.ensures) c.in_ok-row.ensures.encoded in
+    left_unentered (g.K.Keeper.image c.args.keeper.now) (g.K.Keeper.image c.append.new.self) (g.K.Keeper.kept c.args.keeper.now) h c.refuse_ready.new.self.history c.as_slice-4.result.now c.args.commit c.requires.content one c.in-Err-Failed.ensures.image
+    (inr (c.refuse_ready.ensures ∙ ap (λ k. grown k (Refused c.args.commit.stamp)) c.reserve.ensures.same))
 
 pub returns-clause-content : goal.returns-clause-content
 returns-clause-content g c =
@@ -77,5 +79,9 @@ returns-clause-left g c leaves =
     left_not_taken whole (g.K.Keeper.kept c.args.keeper.now) (g.K.Keeper.image c.args.keeper.now) (g.K.Keeper.image c.append.new.self)
     h c.reserve.new.self.history c.as_slice-4.result.now c.args.commit c.requires.content one c.requires.keeps c.in-Err-NoMemory.ensures.image c.reserve.ensures.same leaves
 
-pub returns-clause-settled : goal.returns-clause-settled
-returns-clause-settled g c commit grows = absurd (not_grown c.args.account.now.history c.reserve.new.self.history (Committed commit) c.reserve.ensures.same grows)
+pub returns-clause-left_by : goal.returns-clause-left_by
+returns-clause-left_by g c =
+    let h = c.args.account.now.history in
+    let one : IsEncodingOf c.as_slice-4.result.now c.args.commit = subst (λ b. IsEncodingOf b c.args.commit) (sym c.as_slice-4.ensures) c.in_ok-row.ensures.encoded in
+    left_unentered (g.K.Keeper.image c.args.keeper.now) (g.K.Keeper.image c.append.new.self) (g.K.Keeper.kept c.args.keeper.now) h c.reserve.new.self.history c.as_slice-4.result.now c.args.commit c.requires.content one c.in-Err-NoMemory.ensures.image
+    (inl c.reserve.ensures.same)

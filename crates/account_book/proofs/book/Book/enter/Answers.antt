@@ -1,8 +1,6 @@
 use Rattle.std.proofs.Common.{◌≡◌, ◌++◌, drop, length, ap, ◌∙◌, subst, arith}
-use Rattle.mail_records.specs.Histories.{Committed, grown}
-use Rattle.mail_records.specs.declared.edits.Commit.{Commit}
-use Rattle.account_book.specs.Keeping.{LeavesOnly}
-use Rattle.account_book.proofs.Parts.{count_entered, greatest_entered, opened_entered, passes_entered, refusals_entered, rise_entered, since_entered}
+use Rattle.account_book.specs.Keeping.{IsLeftBy}
+use Rattle.account_book.proofs.Parts.{always_entered, count_entered, greatest_entered, opened_entered, passes_entered, refusals_entered, rise_entered, since_entered}
 use Rattle.account_book.proofs.book.Book.enter.Goals as goal
 
 pub invariant_of-self : goal.invariant_of-self
@@ -14,6 +12,7 @@ invariant_of-self g c =
     let is = c.keep_commit-kept.ensures.entered in
     record {
       valid = c.keep_commit-kept.ensures.valid;
+      always = always_entered (g.R.Rules.is_whole c.self.inside.rules) r h k c.args.commit c.self.inside.before is c.keep_commit-kept.ensures.valid was.always;
       kept = record { content = c.keep_commit-kept.ensures.content; left = λ ready. c.keep_commit-kept.ensures.left (was.kept.left ready) };
       count = count_entered r h k c.args.commit c.self.inside.before was.count is;
       refusals = refusals_entered r h k c.args.commit c.self.inside.before _ _ was.count is c.keep_commit-kept.ensures.cause c.count-count.ensures.fits was.refusals;
@@ -33,8 +32,8 @@ returns-clause-since g c =
     subst (λ v. drop c.self.inside.before k.entries ≡ v.since ++ drop (length v.history.entries) k.entries) c.self.view_is
     (since_entered c.keep_commit-kept.result c.self.inside.account.history k c.args.commit c.self.inside.before c.self.invariant.count c.keep_commit-kept.ensures.entered)
 
-pub returns-clause-settled : goal.returns-clause-settled
-returns-clause-settled g c =
+pub returns-clause-left : goal.returns-clause-left
+returns-clause-left g c =
     let k = c.keep_commit-kept.new.account.history in
-    let image = g.K.Keeper.image c.keep_commit-kept.new.keeper in
-    subst (λ v. (e : Commit) → k ≡ grown v.history (Committed e) → LeavesOnly (g.K.Keeper.kept v.keeper) image k) c.self.view_is c.keep_commit-kept.ensures.settled
+    let now = g.K.Keeper.image c.keep_commit-kept.new.keeper in
+    subst (λ v. IsLeftBy (g.K.Keeper.image v.keeper) now v.history k c.args.commit) c.self.view_is c.keep_commit-kept.ensures.left_by

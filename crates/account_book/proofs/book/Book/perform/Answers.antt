@@ -1,10 +1,10 @@
-use Rattle.std.proofs.Common.{rules, ◌≡◌, inl, length, refl}
+use Rattle.std.proofs.Common.{rules, ◌≡◌, inl, length, subst}
 use Rattle.jm_base.specs.declared.memory.NoMemory.{NoMemory}
-use Rattle.mail_records.specs.Histories.{Committed}
 use Rattle.record_codec.specs.Sizes.{edit_bytes}
+use Rattle.account_book.specs.Keeping.{IsLeftBy}
 use Rattle.account_book.specs.Replies.{IsIdle, IsWithin, commit_of}
 use Rattle.account_book.proofs.Answering.{IsReply-entered, IsReply-unavailable, kept_entered, none_of_same, unrefused_counted}
-use Rattle.account_book.proofs.Parts.{begins_entered, cause_entered, entered_grows, not_grown}
+use Rattle.account_book.proofs.Parts.{begins_entered, cause_entered, entered_grows}
 use Rattle.account_book.proofs.book.Book.perform.Goals as goal
 
 pub returns-in_default-clause-reply : goal.returns-in_default-clause-reply
@@ -53,8 +53,19 @@ pub returns-clause-kept : goal.returns-clause-kept
 returns-clause-kept g c =
     kept_entered c.enter.result c.args.self.now.history c.enter.new.self.history (commit_of c.in_ok-plan.plan c.args.stamp) _ _ c.enter.ensures.entered c.enter.ensures.cause
 
-pub returns-in_default-clause-settled : goal.returns-in_default-clause-settled
-returns-in_default-clause-settled g c commit grows = absurd (not_grown c.args.self.now.history c.args.self.now.history (Committed commit) refl grows)
+pub returns-clause-left : goal.returns-clause-left
+returns-clause-left g c =
+    let h = c.args.self.now.history in
+    let k = c.enter.new.self.history in
+    let image = g.K.Keeper.image in
+    subst (λ p. IsLeftBy (image c.args.self.now.keeper) (image c.enter.new.self.keeper) h k (commit_of p c.args.stamp)) c.in_ok-plan.ensures.plan c.enter.ensures.left
+
+pub returns-in_err-kept-clause-left : goal.returns-in_err-kept-clause-left
+returns-in_err-kept-clause-left g c =
+    let h = c.args.self.now.history in
+    let k = c.enter.new.self.history in
+    let image = g.K.Keeper.image in
+    subst (λ p. IsLeftBy (image c.args.self.now.keeper) (image c.enter.new.self.keeper) h k (commit_of p c.args.stamp)) c.in_ok-plan.ensures.plan c.enter.ensures.left
 
 pub returns-clause-untouched : goal.returns-clause-untouched
 returns-clause-untouched g c same =
