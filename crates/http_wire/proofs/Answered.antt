@@ -191,7 +191,7 @@ whole_request keeps keep bytes new head rest made o x a b h k r s p q is opened 
   continued = continued_by o.due (bytes ++ took.0) head (rest ++ took.0) o h k refl (head_stays bytes took.0 head rest is) opened put;
 }
 
-begun_here : (bytes head rest t : List ℕ) (n count : ℕ) → beginning_of bytes ≡ Head head rest → n ≡ length head → count ≡ length (rest ++ t)
+pub begun_here : (bytes head rest t : List ℕ) (n count : ℕ) → beginning_of bytes ≡ Head head rest → n ≡ length head → count ≡ length (rest ++ t)
     → (begun_bytes (bytes ++ t) ≡ n + count) × (0 < n + count)
 begun_here bytes head rest t n count is n_is count_is =
     let k = begun_is (bytes ++ t) head (rest ++ t) (head_stays bytes t head rest is) in

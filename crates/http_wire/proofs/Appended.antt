@@ -6,7 +6,7 @@ use Rattle.std.proofs.Math.Seq.{take-append-add, take-append_seam}
 use Rattle.std.specs.Io.KnownBytes.{Appends}
 use Rattle.jm_edge.proofs.Known.{appends_on}
 use Rattle.http_parts.specs.declared.fault.WireFault.{WireFault}
-use Rattle.http_wire.specs.Responses.{IsPrefixWritten}
+use Rattle.http_wire.specs.Responses.{IsPrefixWritten, http_line}
 
 -- a line of a name, a value and a line end
 pub as_line : (a b c d name value end : List ℕ) → b ≡ a ++ name → c ≡ b ++ value → d ≡ c ++ end → d ≡ a ++ ((name ++ value) ++ end)
@@ -14,6 +14,10 @@ as_line a b c d name value end p q r =
     r ∙ ap (λ (z : List ℕ). z ++ end) (q ∙ ap (λ (z : List ℕ). z ++ value) p)
     ∙ append_assoc (a ++ name) value end ∙ append_assoc a name (value ++ end)
     ∙ ap (λ (z : List ℕ). a ++ z) (sym (append_assoc name value end))
+
+-- a line whose value is known
+pub line_as : (a b name value known : List ℕ) → b ≡ a ++ http_line (name ++ value) → value ≡ known → b ≡ a ++ http_line (name ++ known)
+line_as a b name value known is same = is ∙ ap (λ (z : List ℕ). a ++ http_line (name ++ z)) same
 
 -- four pieces after nothing
 pub as_four : (n h i j k a b c d : List ℕ) → n ≡ [] → h ≡ n ++ a → i ≡ h ++ b → j ≡ i ++ c → k ≡ j ++ d → k ≡ a ++ b ++ c ++ d

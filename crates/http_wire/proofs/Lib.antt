@@ -5,3 +5,7 @@ pub mod HeadParsed
 pub mod Words
 pub mod Opening
 pub mod Answered
+pub mod ToEnd
+pub mod ResponseParsed
+pub mod ResponseFramed
+pub mod ResponseRead

@@ -5,3 +5,6 @@ pub mod Responses
 pub mod ParsedHeads
 pub mod Lengths
 pub mod FramedHeads
+pub mod RequestBytes
+pub mod ReadResponses
+pub mod FramedResponses

@@ -1,5 +1,5 @@
 -- The first request of some bytes (RFC 9112, 3 to 7), and what the reading of it ends with.
-use Rattle.std.specs.Prelude.{◌≡◌, ◌⊎◌, ⊤, ℕ, ◌-◌, ◌<◌, ◌≤◌, ◌&&◌, not, Bool, true, false, IsTrue, List, [], ◌++◌, length, take, map, codes, bytes_eq, if◌then◌else◌, Option, None, Some, Result, Err, MatchResult}
+use Rattle.std.specs.Prelude.{◌≡◌, ◌⊎◌, ⊤, ℕ, ◌<◌, ◌≤◌, ◌&&◌, not, Bool, true, false, IsTrue, List, [], ◌++◌, length, take, map, codes, bytes_eq, if◌then◌else◌, Option, None, Some, Result, Err, MatchResult}
 use Rattle.std.specs.Io.KnownBytes.{Appends, Consumes, IsAtEnd}
 use Rattle.httparse.specs.Grammar.{RequestHead, ReadsRequest, field_value, Field}
 use Rattle.http_parts.specs.Heads.{Beginning, HeadTooLong, Unfinished, Head, beginning_of, begun_bytes}

@@ -47,7 +47,11 @@ fn copy_field(alloc: Global, bytes: &[u8], at: &HeaderSpan) -> Result<HttpField,
 }
 
 // Returns the fields of a head.
-fn copy_fields(alloc: Global, bytes: &[u8], spans: &[HeaderSpan]) -> Result<HttpFields, NoMemory>
+pub(crate) fn copy_fields(
+    alloc: Global,
+    bytes: &[u8],
+    spans: &[HeaderSpan],
+) -> Result<HttpFields, NoMemory>
     requires { All (IsHeaderWithin (length bytes.now)) spans.now }
     ensures { IfOk result (λ fs. pairs fs ≡ map (header_bytes bytes.now) spans.now) }
 {

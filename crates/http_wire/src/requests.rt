@@ -25,7 +25,7 @@ use jm_edge::Link;
 use std::alloc::Global;
 
 // Returns the bytes of a head.
-fn find_head_bytes(bytes: &[u8], at: HeadSpan) -> &[u8]
+pub(crate) fn find_head_bytes(bytes: &[u8], at: HeadSpan) -> &[u8]
     requires { IsWithin bytes.now at }
     ensures { result.now ≡ take (at.end - at.start) (drop at.start bytes.now) }
 {
@@ -53,7 +53,7 @@ fn put_continue<L: Link>(link: &mut L, due: bool) -> Result<(), WireFault>
 }
 
 // Returns why no request was read, from why its body was not. Its head has so many bytes.
-fn find_wire_fault(fault: BodyFault, head: usize, limit: usize) -> WireFault
+pub(crate) fn find_wire_fault(fault: BodyFault, head: usize, limit: usize) -> WireFault
     requires below { IsCountBelow SEEN_BYTES_LIMIT fault }
     requires small { head < SEEN_BYTES_LIMIT }
     ensures { result ≡ wire_fault_of head limit fault }

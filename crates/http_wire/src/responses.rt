@@ -26,7 +26,7 @@ fn find_reason_phrase(status: u16) -> &'static str
 }
 
 // Appends bytes to others.
-fn push_bytes(bytes: &mut Vec<u8>, more: &[u8]) -> Result<(), NoMemory>
+pub(crate) fn push_bytes(bytes: &mut Vec<u8>, more: &[u8]) -> Result<(), NoMemory>
     ensures { OnOk result (bytes.new.items ≡ bytes.old.items ++ more.now) }
 {
     bytes.extend_from_slice(more)?;
@@ -34,7 +34,7 @@ fn push_bytes(bytes: &mut Vec<u8>, more: &[u8]) -> Result<(), NoMemory>
 }
 
 // Appends a line: a field's name or the protocol, a value, and the line end.
-fn push_line(bytes: &mut Vec<u8>, name: &str, value: &[u8]) -> Result<(), NoMemory>
+pub(crate) fn push_line(bytes: &mut Vec<u8>, name: &str, value: &[u8]) -> Result<(), NoMemory>
     ensures { OnOk result (bytes.new.items ≡ bytes.old.items ++ http_line (name.now ++ value.now)) }
 {
     push_bytes(bytes, name.as_bytes())?;
@@ -53,7 +53,7 @@ fn write_status(alloc: Global, status: u16) -> Result<String, NoMemory>
 }
 
 // Returns a number in decimal.
-fn write_number(alloc: Global, number: usize) -> Result<String, NoMemory>
+pub(crate) fn write_number(alloc: Global, number: usize) -> Result<String, NoMemory>
     ensures { IfOk result (λ s. string_bytes s ≡ decimal number) }
 {
     Ok(format!(in alloc; "{number}")?)
@@ -116,7 +116,7 @@ fn write_head(
 }
 
 /// The most bytes of a body that is copied next to its head, so that both are written at once.
-const MAX_COPIED_BYTES: usize = 65_536;
+pub(crate) const MAX_COPIED_BYTES: usize = 65_536;
 
 // Writes bytes to a link.
 pub(crate) fn put_bytes<L: Link>(link: &mut L, bytes: &[u8]) -> Result<(), WireFault>
@@ -134,7 +134,7 @@ pub(crate) fn put_bytes<L: Link>(link: &mut L, bytes: &[u8]) -> Result<(), WireF
 }
 
 // Writes bytes and others after them to a link.
-fn put_two<L: Link>(link: &mut L, bytes: &[u8], more: &[u8]) -> Result<(), WireFault>
+pub(crate) fn put_two<L: Link>(link: &mut L, bytes: &[u8], more: &[u8]) -> Result<(), WireFault>
     ensures ok { OnOk result (Appends (L.held link.old) (L.held link.new) (bytes.now ++ more.now)) }
     ensures err { IfErr result (λ e. IsPrefixWritten e (L.held link.old) (L.held link.new)
         (bytes.now ++ more.now)) }
