@@ -1,8 +1,11 @@
-//! Tests of the libraries at the edges: links, adapters, keepers, and how requests end early.
+//! Tests of the libraries at the edges: links, adapters, keepers, how requests end early, and what a
+//! client writes and reads.
 #![tactic(auto)]
 
 #[cfg(test)]
 mod host_edges_tests;
+#[cfg(test)]
+mod http_client_tests;
 #[cfg(test)]
 mod http_wire_tests;
 #[cfg(test)]
