@@ -1,4 +1,5 @@
 pub mod Fetches
+pub mod Copied
 pub mod Originals
 pub mod BlobCopies
 pub mod Views

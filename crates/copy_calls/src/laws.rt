@@ -6,6 +6,7 @@ ghost use Rattle.mail_records.specs.Commits.{TextsRise};
 ghost use Rattle.mail_records.specs.declared.records.Email.{Email};
 ghost use Rattle.jm_base.specs.UtcDates.{IsUtcDate};
 ghost use Rattle.mail_copies.specs.Carried.{carried_date, carried_keywords, deliveries};
+ghost use Rattle.copy_calls.specs.Copied.{CopiesKeep};
 ghost use Rattle.copy_calls.specs.Fetches.{carried_of, delivery_from, item_of};
 
 /// Of what is fetched each original is delivered: its item, and its message (RFC 8620, section
@@ -28,4 +29,11 @@ pub fn keywords_that_are_fetched_are_the_originals()
 pub fn dates_that_are_fetched_are_the_originals()
     ensures { (e : Email) (moment : ℕ) → IsUtcDate e.received
         → carried_date moment (item_of (Some e)) ≡ e.received }
+{}
+
+/// A copy has the message of its original, so its size and its summary, and the keywords and the
+/// date of receipt of its original, each unless its create sends another (RFC 8620, section 5.4;
+/// RFC 8621, section 4.7). No other email is put into the account of the copies.
+pub fn copies_keep_what_is_not_sent()
+    ensures { CopiesKeep }
 {}

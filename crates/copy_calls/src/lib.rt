@@ -17,7 +17,7 @@ pub use blob_fetch::{fetch_blobs, fetch_blobs_from, read_named};
 pub use blob_place::{BlobPlan, place_blobs, plan_blob_copy};
 pub use fetch::{fetch_originals, fetch_originals_from};
 pub use laws::{
-    dates_that_are_fetched_are_the_originals, keywords_that_are_fetched_are_the_originals,
+    copies_keep_what_is_not_sent, dates_that_are_fetched_are_the_originals, keywords_that_are_fetched_are_the_originals,
     originals_that_are_fetched_are_delivered,
 };
 pub use originals::{build_originals_call, build_originals_set};

@@ -23,7 +23,7 @@ use Rattle.mail_view.specs.Laws.{GetsStay, ViewStays, ViewsStay}
 use Rattle.mail_view.specs.Records.{asked_count, asked_records, first_mentions, is_id_text, unknown_ids}
 use Rattle.mail_view.specs.View.{identifier, view_tree}
 
-blob_stays : (n : ℕ) (blobs added : List (List ℕ)) → 1 ≤ n → n ≤ length blobs → blob_numbered n (blobs ++ added) ≡ blob_numbered n blobs
+pub blob_stays : (n : ℕ) (blobs added : List (List ℕ)) → 1 ≤ n → n ≤ length blobs → blob_numbered n (blobs ++ added) ≡ blob_numbered n blobs
 blob_stays zero blobs added from there = absurd (omega (arith, from))
 blob_stays (suc n) blobs added from there =
     let all = length-append blobs added in
@@ -47,7 +47,7 @@ views_stay OfThread c blobs added read_only all = refl
 
 -- ---- gets
 
-first_holds : {A : Type 0} (P : A → Type 0) (test : A → Bool) (xs : List A) (x : A) → AllByRecursion P xs → first_that test xs ≡ Some x → P x
+pub first_holds : {A : Type 0} (P : A → Type 0) (test : A → Bool) (xs : List A) (x : A) → AllByRecursion P xs → first_that test xs ≡ Some x → P x
 first_holds P test [] x all is = absurd (cc is)
 first_holds P test (y ∷ ys) x all is =
     ⊎_elim
