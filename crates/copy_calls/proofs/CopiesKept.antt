@@ -124,7 +124,6 @@ copy_stays emails theirs ours more creates e is =
     }
 
 module _ (c : Content) (theirs blobs : List (List ℕ)) (moment : ℕ) (all : List Create) (kept : AllByRecursion (IsKeptThere c theirs) c.emails) where
-
   abbrev Copied : List (List ℕ) → List Edit → Type 0
   Copied ours es = AllByRecursion (PutsEmail (IsCopy c.emails theirs ours all)) es
 

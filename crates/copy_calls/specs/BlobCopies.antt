@@ -4,11 +4,10 @@ use Rattle.jm_json.specs.Tree.{Tree, null, text, object, fields_of}
 use Rattle.jm_json.specs.Find.{as_object}
 use Rattle.jm_json.specs.Order.{put}
 use Rattle.account_book.specs.declared.asks.Carried.{Carried}
-use Rattle.blob_ids.specs.BlobIds.{blob_id_in, blob_id_text}
-use Rattle.blob_ids.specs.declared.ids.BlobId.{BlobId}
-use Rattle.blob_store.specs.Blobs.{blob_numbered, has_room}
+use Rattle.blob_ids.specs.BlobIds.{blob_id_text}
+use Rattle.blob_store.specs.Blobs.{has_room}
 use Rattle.mail_records.specs.Histories.{History, blobs_of}
-use Rattle.mail_summary.specs.Leaves.{part_bytes_of}
+use Rattle.mail_view.specs.NamedBytes.{bytes_named}
 use Rattle.mail_view.specs.Records.{first_mentions}
 use Rattle.method_args.specs.Arguments.{Form, find_invalid, strings_in}
 use Rattle.method_args.specs.declared.TheConstants.{MAX_OBJECTS_PER_CALL}
@@ -51,21 +50,6 @@ abbrev pub blob_rejection : Tree → Option Outcome
 blob_rejection args = blob_rejection_by (as_object args)
 
 -- ---- what is fetched
-
--- the bytes of a blob, or of the leaf with this number of the message that the blob holds
-abbrev pub bytes_in : Option (List ℕ) → Option ℕ → Option (List ℕ)
-bytes_in None leaf = None
-bytes_in (Some blob) None = Some blob
-bytes_in (Some blob) (Some number) = part_bytes_of blob number
-
-abbrev pub bytes_by : List (List ℕ) → Option BlobId → Option (List ℕ)
-bytes_by blobs None = None
-bytes_by blobs (Some id) = bytes_in (blob_numbered id.blob blobs) id.leaf
-
--- The bytes that an identifier names: those of a blob, or the decoded bytes of a leaf of the
--- message that a blob holds (RFC 8621, 4.1.4: blobId). None if it names neither.
-abbrev pub bytes_named : List (List ℕ) → List ℕ → Option (List ℕ)
-bytes_named blobs id = bytes_by blobs (blob_id_in id)
 
 -- the item of a blob: an object without members; null if there is none
 abbrev pub blob_item : Option (List ℕ) → Tree

@@ -53,7 +53,7 @@ CopiesKeep =
     → AllByRecursion (HasMessage summary (blobs_of from)) (content_of from).emails
     → place_in to args (fetched_in from args) made moment ≡ planned p
     → AllByRecursion
-      (PutsEmail
-      (IsCopy (content_of from).emails (blobs_of from) (blobs_of to ++ p.blobs)
-      (creates_sent (as_object args))))
-      p.edits
+    (PutsEmail
+    (IsCopy (content_of from).emails (blobs_of from) (blobs_of to ++ p.blobs)
+    (creates_sent (as_object args))))
+    p.edits

@@ -2,18 +2,16 @@
 ghost use Rattle.std.specs.Prelude.{◌≡◌, ◌∷◌, ◌++◌, [], IfErr, IfOk, MatchResult, None, OnOk, Some, filter_map, length, map, option_map};
 ghost use Rattle.jm_json.specs.Find.{as_object};
 ghost use Rattle.jm_json.specs.Json.{tree_of};
-ghost use Rattle.blob_store.specs.Blobs.{blob_numbered};
 ghost use Rattle.method_args.specs.Arguments.{find_invalid};
 ghost use Rattle.set_parts.specs.Outcomes.{ExplainsRejection};
-ghost use Rattle.copy_calls.specs.BlobCopies.{blob_forms, blob_ids_in, blob_item, blob_rejection, blob_rejection_by, blobs_carried, blobs_carried_by, blobs_fetched_in, bytes_by, bytes_in, bytes_named, too_many};
+ghost use Rattle.copy_calls.specs.BlobCopies.{blob_forms, blob_ids_in, blob_item, blob_rejection, blob_rejection_by, blobs_carried, blobs_carried_by, blobs_fetched_in, too_many};
 
 use account_book::{Account, Carried};
-use blob_ids::{BlobId, read_blob_id};
 use blob_store::BlobList;
 use jm_base::{Blobs, Bytes, NoMemory, Text};
 use jm_json::{Items, Json, Members};
 use mail_counts::SetFault;
-use mail_summary::part_bytes;
+use mail_view::read_named_bytes;
 use method_args::{Argument, MAX_OBJECTS_PER_CALL, Presence, Shape, find_invalid, read_strings};
 use std::alloc::Global;
 
@@ -78,56 +76,6 @@ pub fn read_blob_ids<'a>(alloc: Global, members: &'a Members) -> Result<Vec<&'a 
     }
 }
 
-// Lends the blob of this number.
-fn find_numbered_blob(blobs: &BlobList, number: u64) -> Option<&[u8]>
-    ensures { option_map (λ b. b.now) result ≡ blob_numbered number blobs.now.blobs }
-{
-    match blobs.get(number) {
-        Ok(blob) => Some(blob),
-        Err(_) => None,
-    }
-}
-
-// Returns the bytes of a blob, or of a leaf of the message that the blob holds.
-fn read_bytes(
-    alloc: Global,
-    blob: Option<&[u8]>,
-    leaf: Option<u64>,
-) -> Result<Option<Bytes>, NoMemory>
-    ensures { IfOk result (λ b. b ≡ bytes_in (option_map (λ x. x.now) blob.entry) leaf) }
-{
-    match blob {
-        Some(bytes) => match leaf {
-            Some(number) => part_bytes(alloc, bytes, number),
-            None => Ok(Some(Bytes::from_slice(alloc, bytes)?)),
-        },
-        None => Ok(None),
-    }
-}
-
-// Returns the bytes that an identifier names, once it is read.
-fn read_by_id(
-    alloc: Global,
-    blobs: &BlobList,
-    id: Option<BlobId>,
-) -> Result<Option<Bytes>, NoMemory>
-    ensures { IfOk result (λ b. b ≡ bytes_by blobs.now.blobs id) }
-{
-    match id {
-        Some(id) => read_bytes(alloc, find_numbered_blob(blobs, id.blob), id.leaf),
-        None => Ok(None),
-    }
-}
-
-/// Returns the bytes that a string names: those of a blob, or the decoded bytes of a leaf of the
-/// message that a blob holds (RFC 8620, section 6.2; RFC 8621, section 4.1.4: blobId). None if it
-/// names neither.
-pub fn read_named(alloc: Global, blobs: &BlobList, id: &str) -> Result<Option<Bytes>, NoMemory>
-    ensures { IfOk result (λ b. b ≡ bytes_named blobs.now.blobs id.now) }
-{
-    read_by_id(alloc, blobs, read_blob_id(id.as_bytes()))
-}
-
 // Adds bytes to what is carried, or null if there are none.
 fn carry_bytes(alloc: Global, carried: &mut Carried, bytes: Option<Bytes>) -> Result<(), NoMemory>
     ensures emails { OnOk result
@@ -154,7 +102,7 @@ fn carry_blobs(alloc: Global, blobs: &BlobList, ids: &[&str]) -> Result<Carried,
         blobs: Blobs::new(alloc),
     };
     for id in ids {
-        let bytes = read_named(alloc, blobs, id)?;
+        let bytes = read_named_bytes(alloc, blobs, id)?;
         carry_bytes(alloc, &mut carried, bytes)?;
     }
     Ok(carried)

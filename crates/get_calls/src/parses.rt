@@ -4,24 +4,22 @@ ghost use Rattle.jm_json.specs.Json.{tree_of};
 ghost use Rattle.jm_json.specs.Tree.{text};
 ghost use Rattle.get_calls.specs.Faults.{GetFails};
 ghost use Rattle.mail_view.specs.Gets.{got};
+ghost use Rattle.mail_view.specs.NamedBytes.{named_of};
 ghost use Rattle.mail_view.specs.Objects.{put_all};
 ghost use Rattle.method_args.specs.Arguments.{account_in};
-ghost use Rattle.mail_summary.specs.Leaves.{part_bytes_of};
 ghost use Rattle.get_args.specs.Wanted.{wanted_by};
 ghost use Rattle.method_args.specs.Wrapped.{list_or_null, object_or_null};
-ghost use Rattle.mail_view.specs.Parses.{blob_ids_in, bytes_of_id, bytes_or_leaf, parse_asked, parse_by, parse_emails, parse_got, parse_in, parse_tree, parsed_member, parsed_view, view_if};
+ghost use Rattle.mail_view.specs.Parses.{blob_ids_in, parse_asked, parse_by, parse_emails, parse_got, parse_in, parse_tree, parsed_member, parsed_view, view_if};
 ghost use Rattle.mail_view.specs.Records.{naming_none};
 
 use crate::GetFault;
 use crate::mentions::list_first_mentions;
 use account_book::Account;
-use blob_ids::{BlobId, read_blob_id};
 use blob_store::BlobList;
 use get_args::{Wanted, blame_argument, read_wanted_members};
 use jm_base::{NoMemory, Text};
 use jm_json::{Items, Json, Members};
-use mail_summary::part_bytes;
-use mail_view::view;
+use mail_view::{NamedBytes, find_named_bytes, view};
 use method_args::{MAX_OBJECTS_PER_CALL, lend_strings, read_account, wrap_list, wrap_object};
 use std::alloc::Global;
 
@@ -32,54 +30,19 @@ struct ParsedBlobs {
     unknown: Items,
 }
 
-// Returns the view of the decoded body of a leaf of a message, read as a message of its own.
-fn write_leaf_view(
+// Returns the view of bytes as a message of their own, if there are any.
+fn write_view_if(
     alloc: Global,
-    bytes: &[u8],
-    leaf: u64,
+    bytes: Option<NamedBytes>,
     id: &str,
     wanted: &Wanted,
 ) -> Result<Option<Json>, NoMemory>
     ensures { IfOk result (λ o. option_map tree_of o
-        ≡ view_if id.now wanted.now (part_bytes_of bytes.now leaf)) }
+        ≡ view_if id.now wanted.now (option_map named_of bytes.entry)) }
 {
-    match part_bytes(alloc, bytes, leaf)? {
-        Some(body) => Ok(Some(view(alloc, body.as_slice(), id.as_bytes(), None, wanted)?)),
+    match bytes {
+        Some(bytes) => Ok(Some(view(alloc, bytes.as_slice(), id.as_bytes(), None, wanted)?)),
         None => Ok(None),
-    }
-}
-
-// Returns the view of a blob, or of a leaf of the message that it holds.
-fn write_blob_view(
-    alloc: Global,
-    bytes: &[u8],
-    leaf: Option<u64>,
-    id: &str,
-    wanted: &Wanted,
-) -> Result<Option<Json>, NoMemory>
-    ensures { IfOk result (λ o. option_map tree_of o
-        ≡ view_if id.now wanted.now (bytes_or_leaf bytes.now leaf)) }
-{
-    match leaf {
-        Some(leaf) => write_leaf_view(alloc, bytes, leaf, id, wanted),
-        None => Ok(Some(view(alloc, bytes, id.as_bytes(), None, wanted)?)),
-    }
-}
-
-// Returns the view of what a blob id of this form names.
-fn write_id_view(
-    alloc: Global,
-    blobs: &BlobList,
-    blob_id: BlobId,
-    id: &str,
-    wanted: &Wanted,
-) -> Result<Option<Json>, NoMemory>
-    ensures { IfOk result (λ o. option_map tree_of o
-        ≡ view_if id.now wanted.now (bytes_of_id blobs.now.blobs blob_id)) }
-{
-    match blobs.get(blob_id.blob) {
-        Ok(bytes) => write_blob_view(alloc, bytes, blob_id.leaf, id, wanted),
-        Err(_) => Ok(None),
     }
 }
 
@@ -93,10 +56,8 @@ fn write_named_view(
     ensures { IfOk result (λ o. option_map tree_of o
         ≡ parsed_view blobs.now.blobs wanted.now id.now) }
 {
-    match read_blob_id(id.as_bytes()) {
-        Some(blob_id) => write_id_view(alloc, blobs, blob_id, id, wanted),
-        None => Ok(None),
-    }
+    let bytes = find_named_bytes(alloc, blobs, id)?;
+    write_view_if(alloc, bytes, id, wanted)
 }
 
 impl ParsedBlobs {

@@ -4,7 +4,7 @@ use Rattle.std.proofs.lemmas.Bool.{false≢true, ltb-false, leb-false}
 use Rattle.mail_records.specs.Histories.{History, blobs_of}
 use Rattle.blob_store.specs.declared.limits.TheConstants.{MAX_BLOB_BYTES_PER_ACCOUNT, MAX_BLOBS_PER_ACCOUNT}
 use Rattle.blob_store.specs.Blobs.{HasRoomFor, byte_count, has_room}
-use Rattle.copy_calls.specs.BlobCopies.{bytes_named}
+use Rattle.mail_view.specs.NamedBytes.{bytes_named}
 use Rattle.mail_calls.specs.BlobPlans.{upload_if, upload_plan}
 
 -- what a list of blobs says of its room

@@ -11,6 +11,7 @@ use Rattle.jm_base.specs.declared.identifiers.Kind.TheVariants.{Mailbox as OfMai
 use Rattle.mail_records.specs.Histories.{History, blobs_of, content_of}
 use Rattle.mail_records.specs.States.{state_of}
 use Rattle.mail_view.specs.Gets.{get_of_kind}
+use Rattle.mail_view.specs.NamedBytes.{bytes_named}
 use Rattle.mail_view.specs.Parses.{parse_in}
 use Rattle.mail_counts.specs.Plans.{Ground, ground_of_history}
 use Rattle.mail_counts.specs.declared.plan.SetPlan.{SetPlan}
@@ -32,7 +33,7 @@ use Rattle.account_book.specs.declared.plans.Plan.{Plan}
 use Rattle.read_replies.specs.Plans.{get_plan, outcome_plan, queried, query_changed, refused, response_to}
 use Rattle.mail_calls.specs.BlobPlans.{upload_plan}
 use Rattle.mail_copies.specs.Plans.{place_in}
-use Rattle.copy_calls.specs.BlobCopies.{BlobPlan, blob_plan_in, blob_rejection, blobs_fetched_in, bytes_named}
+use Rattle.copy_calls.specs.BlobCopies.{BlobPlan, blob_plan_in, blob_rejection, blobs_fetched_in}
 use Rattle.copy_calls.specs.Fetches.{fetch_rejection, fetched_in}
 use Rattle.mail_calls.specs.Methods.{copy_method_named, method_named}
 use Rattle.mail_calls.specs.declared.methods.CopyMethod.{CopyMethod}

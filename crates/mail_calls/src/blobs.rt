@@ -1,6 +1,6 @@
 // Plans of uploads, and the bytes that identifiers name (RFC 8620, sections 6.1 and 6.2).
 ghost use Rattle.std.specs.Prelude.{◌≡◌, ◌+◌, IfOk};
-ghost use Rattle.copy_calls.specs.BlobCopies.{bytes_named};
+ghost use Rattle.mail_view.specs.NamedBytes.{bytes_named};
 ghost use Rattle.mail_records.specs.Histories.{blobs_of};
 ghost use Rattle.mail_records.specs.States.{state_of};
 ghost use Rattle.jm_base.specs.declared.identifiers.Kind.TheVariants as kind;
@@ -10,9 +10,9 @@ ghost use Rattle.mail_calls.specs.Plans.{reading};
 
 use account_book::{Account, Out, Plan};
 use blob_store::BlobList;
-use copy_calls::read_named;
 use jm_base::{Blobs, Bytes, Kind, NoMemory};
 use mail_records::Edits;
+use mail_view::read_named_bytes;
 use std::alloc::Global;
 
 /// Returns the plan that answers this and changes nothing.
@@ -76,7 +76,7 @@ pub(crate) fn plan_bytes(alloc: Global, account: &Account, name: &str) -> Result
     ensures { IfOk result
         (λ p. p ≡ reading (Out.Blob (bytes_named (blobs_of account.now.history) name.now))) }
 {
-    let bytes = read_named(alloc, account.blobs(), name)?;
+    let bytes = read_named_bytes(alloc, account.blobs(), name)?;
     Ok(plan_reading(alloc, Out::Blob(bytes)))
 }
 

@@ -6,6 +6,7 @@ use Rattle.jm_json.specs.Find.{as_text}
 use Rattle.blob_ids.specs.BlobIds.{blob_id_in}
 use Rattle.blob_ids.specs.declared.ids.BlobId.{BlobId}
 use Rattle.blob_store.specs.Blobs.{blob_numbered}
+use Rattle.mail_view.specs.NamedBytes.{bytes_of_id}
 use Rattle.set_parts.proofs.Parts.{bound, mapped}
 use Rattle.email_creates.specs.Properties.{NamedBlob}
 use Rattle.email_creates.proofs.SentMembers.{IsBlobOf}
@@ -20,8 +21,9 @@ blob_at blobs (suc n) b e =
 
 whole_good : (blobs : List (List ℕ)) (n : ℕ) (leaf : Option ℕ) (x : NamedBlob) → whole_blob blobs n leaf ≡ Some x → IsBlobOf blobs x
 whole_good blobs n None x e =
-    let b = mapped (λ (y : List ℕ). let s : NamedBlob = record { number = n; bytes = y } in s) (blob_numbered n blobs) x e in
-    subst (IsBlobOf blobs) b.2 (blob_at blobs n b.0 b.1)
+    let b = mapped (λ (y : List ℕ). let s : NamedBlob = record { number = n; bytes = y } in s) (bytes_of_id blobs (record { blob = n; leaf = None })) x e in
+    let whole = bound (λ (y : List ℕ). Some y) (blob_numbered n blobs) b.0 b.1 in
+    subst (IsBlobOf blobs) b.2 (blob_at blobs n b.0 (whole.1 ∙ whole.2))
 whole_good blobs n (Some leaf) x e = absurd (none-some x e)
 
 pub blob_good : (blobs : List (List ℕ)) (t : Option Tree) (x : NamedBlob) → blob_in blobs t ≡ Some x → IsBlobOf blobs x

@@ -6,14 +6,16 @@ use Rattle.jm_json.specs.Tree.{Tree}
 use Rattle.jm_json.specs.declared.invocation.Created.{Created}
 use Rattle.blob_ids.specs.BlobIds.{blob_id_in}
 use Rattle.blob_ids.specs.declared.ids.BlobId.{BlobId}
-use Rattle.blob_store.specs.Blobs.{blob_numbered}
 use Rattle.mail_records.specs.Contents.{Content}
+use Rattle.mail_view.specs.NamedBytes.{bytes_of_id}
 use Rattle.email_creates.specs.Properties.{NamedBlob, sent_in}
 use Rattle.email_creates.specs.declared.properties.Sent.{Sent}
 
 -- the blob of this number, if no leaf of it is named
 abbrev pub whole_blob : List (List ℕ) → ℕ → Option ℕ → Option NamedBlob
-whole_blob blobs n None = option_map (λ b. record { number = n; bytes = b }) (blob_numbered n blobs)
+whole_blob blobs n None =
+    option_map (λ b. record { number = n; bytes = b })
+    (bytes_of_id blobs (record { blob = n; leaf = None }))
 whole_blob blobs n (Some leaf) = None
 
 -- the blob that an identifier names; the identifier of a part of a message names none

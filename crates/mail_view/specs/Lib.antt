@@ -10,6 +10,7 @@ pub mod Mailboxes
 pub mod Threads
 pub mod Emails
 pub mod Gets
+pub mod NamedBytes
 pub mod Parses
 pub mod CachedViews
 pub mod RecordPlaces

@@ -2,11 +2,7 @@
 use Rattle.std.specs.Prelude.{ℕ, List, [], ◌∷◌, length, map, nat_lt, if◌then◌else◌, true, is_none, filter_map, Option, Some, None, option_map, option_and_then, unwrap_or, codes}
 use Rattle.jm_json.specs.Tree.{Tree, null, text, object, fields_of}
 use Rattle.jm_json.specs.Find.{find, as_object}
-use Rattle.blob_ids.specs.BlobIds.{blob_id_in}
-use Rattle.blob_ids.specs.declared.ids.BlobId.{BlobId}
-use Rattle.blob_store.specs.Blobs.{blob_numbered}
 use Rattle.mail_records.specs.Histories.{History, blobs_of}
-use Rattle.mail_summary.specs.Leaves.{part_bytes_of}
 use Rattle.method_args.specs.Arguments.{account_in, as_strings}
 use Rattle.method_args.specs.Wrapped.{list_or_null, object_or_null}
 use Rattle.method_args.specs.declared.TheConstants.{MAX_OBJECTS_PER_CALL}
@@ -16,19 +12,7 @@ use Rattle.mail_view.specs.Objects.{put_all}
 use Rattle.mail_view.specs.Records.{first_mentions, naming_none}
 use Rattle.mail_view.specs.View.{view_tree}
 use Rattle.mail_view.specs.Gets.{Got, invalid, too_large, got, got_unless, get_if_object}
-
--- a blob, or the decoded body of a leaf of the message that it holds
-abbrev pub bytes_or_leaf : List ℕ → Option ℕ → Option (List ℕ)
-bytes_or_leaf bytes None = Some bytes
-bytes_or_leaf bytes (Some leaf) = part_bytes_of bytes leaf
-
-abbrev pub bytes_of_id : List (List ℕ) → BlobId → Option (List ℕ)
-bytes_of_id blobs id =
-    option_and_then (λ bytes. bytes_or_leaf bytes id.leaf) (blob_numbered id.blob blobs)
-
--- the bytes that a blob id names, if it names a blob or a leaf
-abbrev pub bytes_named : List (List ℕ) → List ℕ → Option (List ℕ)
-bytes_named blobs id = option_and_then (bytes_of_id blobs) (blob_id_in id)
+use Rattle.mail_view.specs.NamedBytes.{bytes_named}
 
 -- the view of a message with this blob id, which is no email, if there is a message
 abbrev pub view_if : List ℕ → Wanted → Option (List ℕ) → Option Tree

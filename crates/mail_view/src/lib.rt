@@ -2,7 +2,8 @@
 //! RFC 8621, sections 2, 4.1, 4.2 and 4.9).
 //!
 //! The view of a message is defined in `specs/View.antt`, that of a mailbox in
-//! `specs/Mailboxes.antt`, and the answer of a get in `specs/Gets.antt`.
+//! `specs/Mailboxes.antt`, and the answer of a get in `specs/Gets.antt`. [`find_named_bytes`]
+//! returns the bytes that a blob id names.
 #![tactic(auto)]
 
 mod headers;
@@ -10,6 +11,7 @@ mod laws;
 mod message;
 mod message_view;
 mod metadata;
+mod named_bytes;
 mod part;
 mod part_list;
 mod sizes;
@@ -22,3 +24,4 @@ pub use laws::{
 };
 pub use message_view::view;
 pub use metadata::{write_date, write_keyword_set};
+pub use named_bytes::{NamedBytes, find_named_bytes, read_named_bytes};

@@ -1,6 +1,7 @@
 use Rattle.std.proofs.Common.{◌≡◌, ◌++◌, map, drop}
 use Rattle.std.specs.List.{filter_map}
-use Rattle.copy_calls.specs.BlobCopies.{blob_item, bytes_named}
+use Rattle.copy_calls.specs.BlobCopies.{blob_item}
+use Rattle.mail_view.specs.NamedBytes.{bytes_named}
 use Rattle.copy_calls.proofs.blob_fetch.carry_blobs.Given as goal
 
 abbrev pub invariant-loop-id : goal.invariant-loop-id
