@@ -1,0 +1,9 @@
+use Rattle.std.proofs.Common.{◌≡◌, map, drop}
+use Rattle.jm_json.specs.Json.{tree_of}
+use Rattle.std.specs.List.{list_all}
+use Rattle.draft_form.specs.Bodies.{is_attachment}
+use Rattle.draft_form.proofs.bodies.are_attached.Given as goal
+
+abbrev pub invariant-loop-item : goal.invariant-loop-item
+invariant-loop-item l =
+    list_all (is_attachment l.values) (map tree_of l.items) ≡ list_all (is_attachment l.values) (map tree_of (drop l.item-index l.items))

@@ -1,0 +1,12 @@
+pub mod Texts
+pub mod Members
+pub mod Dates
+pub mod Headers
+pub mod Names
+pub mod Parts
+pub mod Bodies
+pub mod Structures
+pub mod Rows
+pub mod Drafts
+pub mod Outcomes
+pub mod Views
