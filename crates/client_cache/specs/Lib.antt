@@ -8,3 +8,9 @@ pub mod Views
 pub mod Requests
 pub mod RoundViews
 pub mod Rounds
+pub mod Plans
+pub mod Progress
+pub mod Records
+pub mod ReplyForms
+pub mod Sessions
+pub mod Taking

@@ -11,8 +11,8 @@ use jm_base::{NoMemory, Numbers, Sequence, Text};
 use jm_json::{Items, Json, Members};
 use std::alloc::Global;
 
-// Returns a kind of which nothing is kept.
-fn build_nothing(alloc: Global) -> CachedKind
+/// Returns a kind of which nothing is kept. It takes no memory.
+pub(crate) fn build_nothing(alloc: Global) -> CachedKind
     ensures { kind_view result ≡ nothing }
 {
     CachedKind {

@@ -17,3 +17,9 @@ pub const MAX_IDS: usize = 500;
 
 /// The most results that one query asks for (RFC 8620, section 5.5).
 pub const MAX_RESULTS: usize = 1_000;
+
+/// The most replies that a round takes.
+pub const MAX_REPLIES: u64 = 100_000;
+
+/// The number of the reply with which a round ends that showed another state than it should.
+pub const MAX_MOVED_REPLIES: u64 = 8;
