@@ -1,6 +1,7 @@
 // Halls are built of books, and give them back.
 ghost use Rattle.std.specs.Prelude.{◌≡◌, ◌+◌, ◌≤◌, ◌++◌, ◌∷◌, [], false, true, IfErr, IfNone, IfOk, IfSome, map, reverse, vec_capacity, vec_len};
 ghost use Rattle.std.specs.List.{AllByRecursion};
+ghost use Rattle.account_book.specs.Books.{IsValidFrom};
 ghost use Rattle.account_hall.specs.Building.{AreBuilt, IsClosed, IsFresh, IsParted, first_root, named_of};
 ghost use Rattle.account_lock.specs.Passes.{IsLast};
 ghost use Rattle.account_hall.specs.Halls.{AreOf};
@@ -164,13 +165,16 @@ pub fn build_hall<K: Keeper, R: Rules>(
 
 impl<K: Keeper, R: Rules> Hall<K, R> {
     /// Takes the last account out of the hall, and its root out of the front. No session is in.
-    /// Returns None if and only if no account is left.
+    /// Returns None if and only if no account is left. The account was valid by its rules at the
+    /// end of each entry since it was opened.
     pub fn part(&mut self, front: &mut Front) -> Option<Named<K, R>>
         requires hall { AreOf self.old front.old.roots }
         requires none_in { front.old.inside ≡ 0 }
         ensures none { IfNone result ((self.old ≡ []) × (self.new ≡ [])) }
         ensures some { IfSome result (λ account. IsParted self.old self.new front.old.roots
             front.new.roots account) }
+        ensures valid { IfSome result (λ account. IsValidFrom (R.is_whole account.book.rules)
+            account.book.before account.book.history) }
         ensures hall { AreOf self.new front.new.roots }
         ensures inside { (front.new.inside ≡ 0) × (front.new.admitted ≡ front.old.admitted) }
     {
@@ -179,6 +183,8 @@ impl<K: Keeper, R: Rules> Hall<K, R> {
         }
         let room = self.rooms.take_last();
         let root = front.roots.take_last();
-        Some(close_room(room, root))
+        let account = close_room(room, root);
+        account.book.keeps();
+        Some(account)
     }
 }

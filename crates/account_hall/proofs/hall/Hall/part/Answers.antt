@@ -16,8 +16,8 @@ returns-clause-some g c = record {
   root = c.take_last-root.result;
   rooms = sym c.self.view_is ∙ (ap (map room_view) c.take_last-room.ensures.items ∙ map-append room_view c.take_last-room.new.self.items (c.take_last-room.result ∷ []));
   roots = ap (λ v. v.roots) (sym c.front.view_is) ∙ c.take_last-root.ensures.items;
-  name_is = c.close_room.ensures.name;
-  closed = c.close_room.ensures.closed;
+  name_is = c.close_room-account.ensures.name;
+  closed = c.close_room-account.ensures.closed;
 }
 
 pub returns-clause-hall : goal.returns-clause-hall
