@@ -22,6 +22,7 @@ mod list_places;
 mod list_steps;
 mod lists;
 mod loads;
+mod looking;
 mod numbers;
 mod reading;
 mod record_places;
@@ -42,6 +43,7 @@ pub use limits::{
     MAX_CHANGES, MAX_IDS, MAX_LISTS, MAX_MOVED_REPLIES, MAX_REPLIES, MAX_RESULTS, MAX_TERM_BYTES,
     MAX_TERM_DEPTH,
 };
+pub use lists::CachedList;
 pub use reading::read_cache;
 pub use replies::take_reply;
 pub use reply_fault::{MovedStates, ReplyFault};
