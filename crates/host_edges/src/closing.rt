@@ -16,14 +16,14 @@ pub const MAX_QUIET_SECONDS: u64 = 2;
 // How many bytes are dropped at once.
 const DROPPED_AT_ONCE: usize = 16_384;
 
-/// Says that nothing more is written, and closes the connection: at once, if its last request was
-/// answered and nothing came since. Else what still comes is read and dropped first, within the
-/// limits.
+/// Closes the connection, which also says that nothing more is written: at once, if its last
+/// request was answered and nothing came since. Else that is said first, and what still comes is
+/// read and dropped, within the limits.
 pub(crate) fn close_in_stages(rt: &HostRuntime, stream: TcpStream, rejected: bool) {
-    if stream.shutdown(Shutdown::Write).is_err() {
+    if !rejected && !has_bytes(&stream) {
         return;
     }
-    if !rejected && !has_bytes(&stream) {
+    if stream.shutdown(Shutdown::Write).is_err() {
         return;
     }
     if let Ok(begin) = Instant::now(rt) {
@@ -31,20 +31,21 @@ pub(crate) fn close_in_stages(rt: &HostRuntime, stream: TcpStream, rejected: boo
     }
 }
 
-// Returns whether bytes are there to be read now.
+// Returns whether bytes are there to be read now. If none are, a read waits for none any more.
 fn has_bytes(stream: &TcpStream) -> bool {
     if stream.set_nonblocking(true).is_err() {
         return false;
     }
     let mut room = [0u8; 1];
-    let found = match stream.peek(&mut room) {
-        Ok(count) => count > 0,
+    match stream.peek(&mut room) {
+        Ok(count) => count > 0 && stream.set_nonblocking(false).is_ok(),
         Err(_) => false,
-    };
-    stream.set_nonblocking(false).is_ok() && found
+    }
 }
 
-// Reads and drops what comes, until the other side ends it too, or a limit is reached.
+// Reads and drops what comes, until the other side ends it too, or a limit is reached. It is called
+// for few connections, and its room is a part of the stack that no other one should touch.
+#[inline(never)]
 fn drop_what_comes(rt: &HostRuntime, stream: TcpStream, begin: Instant) {
     let mut stream = stream;
     let mut room = [0u8; DROPPED_AT_ONCE];

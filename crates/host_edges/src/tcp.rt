@@ -51,6 +51,8 @@ struct Waited {
     rejected: bool,
     // Whether only a part of the last piece was taken, so that the next one goes on with it.
     partly_sent: bool,
+    // Whether the other side has ended what it sends, and all of it was read.
+    ended: bool,
 }
 
 /// A TCP connection, with its faults counted. A write that takes nothing of a piece that is not
@@ -75,19 +77,29 @@ fn is_passing(error: &io::Error) -> bool {
     matches!(error.kind(), ErrorKind::Interrupted | ErrorKind::WouldBlock)
 }
 
-// Sets the options of a new connection: what is written is sent at once, and a call waits for at
-// most `MAX_WAIT_SECONDS`.
-fn set_options(stream: &TcpStream) -> io::Result<()> {
+/// Sets the options of a connection, or of a listener for its connections: what is written is sent
+/// at once, and a call waits for at most `MAX_WAIT_SECONDS`. What has the last of them has all.
+pub(crate) fn set_options(stream: &TcpStream) -> io::Result<()> {
     let time = Some(Duration::from_secs(MAX_WAIT_SECONDS));
     stream.set_nodelay(true)?;
     stream.set_read_timeout(time)?;
     stream.set_write_timeout(time)
 }
 
+// Returns whether a connection has its options from its listener.
+fn has_options(stream: &TcpStream) -> io::Result<bool> {
+    match stream.write_timeout()? {
+        Some(time) => Ok(time == Duration::from_secs(MAX_WAIT_SECONDS)),
+        None => Ok(false),
+    }
+}
+
 impl Waited {
-    // Returns the stream after its options were set.
+    // Returns the stream after its options were set, unless it has them.
     fn new(rt: &HostRuntime, stream: TcpStream) -> io::Result<Waited> {
-        set_options(&stream)?;
+        if !has_options(&stream)? {
+            set_options(&stream)?;
+        }
         let begin = Instant::now(rt)?;
         Ok(Waited {
             rt: *rt,
@@ -99,6 +111,7 @@ impl Waited {
             carried: Carried::NOTHING,
             rejected: false,
             partly_sent: false,
+            ended: false,
         })
     }
 
@@ -127,9 +140,8 @@ impl Waited {
         Ok(())
     }
 
-    // Sets for how long the next write waits. Fails if the time is over.
-    fn limit_write(&mut self) -> Result<(), Failed> {
-        let now = read_clock(&self.rt)?;
+    // Sets for how long the next write waits from now on. Fails if the time is over.
+    fn limit_write(&mut self, now: Instant) -> Result<(), Failed> {
         let seconds = self.count_seconds_left(now)?;
         if seconds != self.write_seconds {
             self.write_seconds = seconds;
@@ -143,14 +155,12 @@ impl Waited {
 
     // Begins to write a piece, which may begin a response. The rest of a piece begins none,
     // whatever its bytes are.
-    fn begin_piece(&mut self, piece: &[u8]) -> Result<(), Failed> {
+    fn begin_piece(&mut self, now: Instant, piece: &[u8]) {
         if !self.partly_sent && is_final(piece) {
-            let now = read_clock(&self.rt)?;
             self.carried.responses = self.carried.responses.saturating_add(1);
             self.rejected = is_rejection(piece);
             self.patience.expect_taking(now, piece);
         }
-        Ok(())
     }
 
     // Counts bytes that came.
@@ -173,6 +183,7 @@ impl Waited {
             self.limit_read()?;
             match self.stream.read(room) {
                 Ok(count) => {
+                    self.ended = count == 0 && !room.is_empty();
                     self.add_in(count);
                     return Ok(count);
                 }
@@ -192,9 +203,10 @@ impl Waited {
         ensures bound { WritesAtMost result piece.now }
         ensures some { IfOk result (λ n. 0 < length piece.now → 0 < n) }
     {
-        self.begin_piece(piece)?;
+        let mut now = read_clock(&self.rt)?;
+        self.begin_piece(now, piece);
         for _ in 0..u64::MAX {
-            self.limit_write()?;
+            self.limit_write(now)?;
             match self.stream.write(piece) {
                 Ok(count) => {
                     if count == 0 && !piece.is_empty() {
@@ -210,8 +222,15 @@ impl Waited {
                     }
                 }
             }
+            now = read_clock(&self.rt)?;
         }
         Err(Failed)
+    }
+
+    // Begins the wait anew.
+    fn begin_wait(&mut self) -> Result<(), Failed> {
+        self.patience = Patience::begin(read_clock(&self.rt)?);
+        Ok(())
     }
 
     // Returns what the connection carried up to now.
@@ -263,8 +282,11 @@ fn send_to(waited: &mut Option<Waited>, piece: &[u8]) -> Result<usize, Failed>
 }
 
 impl TcpLink {
-    /// Returns the connection as a link that has not failed yet, after setting TCP_NODELAY: what is
-    /// written is sent at once. Fails if an option can't be set, or the clock can't be read.
+    /// Returns the connection as a link that has not failed yet, after setting TCP_NODELAY and the
+    /// times that a call waits: what is written is sent at once. If a write waits for at most
+    /// [`MAX_WAIT_SECONDS`](crate::MAX_WAIT_SECONDS) already, its options are those that a
+    /// [`LinkListener`](crate::LinkListener) hands on. Fails if an option can't be read or set, or
+    /// the clock can't be read.
     pub fn new(rt: &HostRuntime, stream: TcpStream) -> Result<TcpLink, Failed>
         ensures reads { IfOk result (λ l. l.read_faults ≡ 0) }
         ensures writes { IfOk result (λ l. l.put_faults ≡ 0) }
@@ -277,6 +299,18 @@ impl TcpLink {
                 put_faults: 0,
             }),
             Err(_) => Err(Failed),
+        }
+    }
+
+    /// Begins the wait anew: for a client that makes a request, and waits until it is answered.
+    /// Fails if the connection is finished, or the clock can't be read.
+    pub(crate) fn begin_wait(&mut self) -> Result<(), Failed>
+        ensures reads { self.new.read_faults ≡ self.old.read_faults }
+        ensures writes { self.new.put_faults ≡ self.old.put_faults }
+    {
+        match &mut self.waited {
+            Some(waited) => waited.begin_wait(),
+            None => Err(Failed),
         }
     }
 
@@ -320,14 +354,14 @@ impl Link for TcpLink {
     }
 
     /// Ends the connection. If its last request was rejected, what still comes is read and dropped,
-    /// within limits, so that the response arrives, and then it is closed. After a fault it is
-    /// closed at once.
+    /// within limits, so that the response arrives, and then it is closed. It is closed at once
+    /// after a fault, and where the other side has ended and all that it sent was read.
     fn finish(&mut self) {
         let Some(waited) = self.waited.take() else {
             return;
         };
         self.carried = waited.count_carried();
-        if self.read_faults == 0 && self.put_faults == 0 {
+        if self.read_faults == 0 && self.put_faults == 0 && !waited.ended {
             close_in_stages(&waited.rt, waited.stream, waited.rejected);
         }
     }

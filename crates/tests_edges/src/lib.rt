@@ -5,6 +5,10 @@
 #[cfg(test)]
 mod host_edges_tests;
 #[cfg(test)]
+mod host_exchange_tests;
+#[cfg(test)]
+mod host_files_tests;
+#[cfg(test)]
 mod http_client_tests;
 #[cfg(test)]
 mod http_wire_tests;
