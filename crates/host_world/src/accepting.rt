@@ -1,8 +1,7 @@
 // Connections are accepted. One that ended before it was accepted is left out.
-use host_edges::TcpLink;
+use host_edges::{LinkListener, TcpLink};
 use jm_edge::Failed;
 use std::io::{ErrorKind, Write};
-use std::net::TcpListener;
 use std::time::Duration;
 use std::{io, thread};
 
@@ -23,18 +22,8 @@ fn is_of_connection(error: &io::Error) -> bool {
     )
 }
 
-// Waits for the next connection. Returns none if it ended before it was accepted, or if its options
-// can't be set.
-fn accept_next(rt: &HostRuntime, listener: &TcpListener) -> io::Result<Option<TcpLink>> {
-    let (stream, _) = listener.accept()?;
-    match TcpLink::new(rt, stream) {
-        Ok(link) => Ok(Some(link)),
-        Err(_) => Ok(None),
-    }
-}
-
 // Says at which address no connection is accepted, and why. It is no fault if that fails.
-fn say_why(rt: &HostRuntime, listener: &TcpListener, error: &io::Error) {
+fn say_why(rt: &HostRuntime, listener: &LinkListener, error: &io::Error) {
     let mut err = rt.stderr();
     let _ = match listener.local_addr() {
         Ok(address) => writeln!(err, "cannot accept a connection on {address}: {error}"),
@@ -44,8 +33,8 @@ fn say_why(rt: &HostRuntime, listener: &TcpListener, error: &io::Error) {
 
 // Tries once to accept a connection. Of a fault that is not the connection's it says why, if it is
 // the first one, and waits a little.
-fn try_accept(rt: &HostRuntime, listener: &TcpListener, said: &mut bool) -> Option<TcpLink> {
-    match accept_next(rt, listener) {
+fn try_accept(rt: &HostRuntime, listener: &LinkListener, said: &mut bool) -> Option<TcpLink> {
+    match listener.accept(rt) {
         Ok(link) => link,
         Err(error) => {
             if !is_of_connection(&error) {
@@ -64,7 +53,7 @@ fn try_accept(rt: &HostRuntime, listener: &TcpListener, said: &mut bool) -> Opti
 /// there is no listener, or after [`MAX_ACCEPT_TRIES`] tries that failed.
 pub(crate) fn accept_link(
     rt: &HostRuntime,
-    listener: &Option<TcpListener>,
+    listener: &Option<LinkListener>,
 ) -> Result<TcpLink, Failed> {
     let Some(listener) = listener else {
         return Err(Failed);

@@ -4,10 +4,11 @@ ghost use Rattle.std.specs.Prelude.{◌≡◌, ◌≤◌};
 ghost use Rattle.jm_edge.specs.Causes.{Rose};
 
 use crate::accepting::accept_link;
+use crate::client_world::ClientDesk;
 use crate::counted_keeper::CountedKeeper;
 use crate::databases::{MakesKeepers, build_database_paths};
 use crate::telling::say_finished;
-use host_edges::{HostClock, TcpLink};
+use host_edges::{HostClock, LinkListener, TcpLink};
 use jm_base::{Bytes, Text};
 use jm_edge::{EdgeFault, NoGate};
 use jmap_server::{Finished, World};
@@ -19,9 +20,9 @@ use std::{fs, io};
 
 // What is listened on, and how often the host and the keepers that came back have failed.
 #[derive(Drop)]
-struct Desk {
-    listener: Option<TcpListener>,
-    faults: u64,
+pub(crate) struct Desk {
+    listener: Option<LinkListener>,
+    pub(crate) faults: u64,
     load_faults: u64,
 }
 
@@ -40,9 +41,10 @@ impl Desk {
 /// output.
 #[derive(Drop)]
 pub struct HostWorld<M: MakesKeepers> {
-    rt: HostRuntime,
+    pub(crate) rt: HostRuntime,
     files: M,
-    desk: Desk,
+    pub(crate) desk: Desk,
+    pub(crate) client: ClientDesk,
     logs: bool,
     // Whether all accounts were opened, or it was said which one was not.
     settled: bool,
@@ -54,6 +56,8 @@ impl<M: MakesKeepers> HostWorld<M> {
     pub fn new(rt: &HostRuntime, files: M, logs: bool) -> HostWorld<M>
         ensures faults { result.desk.faults ≡ 0 }
         ensures load_faults { result.desk.load_faults ≡ 0 }
+        ensures talk_faults { result.client.talk_faults ≡ 0 }
+        ensures store_faults { result.client.store_faults ≡ 0 }
     {
         HostWorld {
             rt: *rt,
@@ -63,9 +67,21 @@ impl<M: MakesKeepers> HostWorld<M> {
                 faults: 0,
                 load_faults: 0,
             },
+            client: ClientDesk::new(),
             logs,
             settled: false,
         }
+    }
+
+    /// Says whether a client will write: then each shelf that is given holds a lock on its file, as
+    /// a [`FileShelf`](host_edges::FileShelf) that locks. At first none does.
+    pub fn set_writes(&mut self, writes: bool)
+        ensures faults { self.new.desk.faults ≡ self.old.desk.faults }
+        ensures load_faults { self.new.desk.load_faults ≡ self.old.desk.load_faults }
+        ensures talk_faults { self.new.client.talk_faults ≡ self.old.client.talk_faults }
+        ensures store_faults { self.new.client.store_faults ≡ self.old.client.store_faults }
+    {
+        self.client.locks = writes;
     }
 }
 
@@ -88,6 +104,11 @@ fn say_unheard(rt: &HostRuntime, port: u16, reason: &io::Error) {
 fn say_stop(rt: &HostRuntime, account: &Text, path: &Text) {
     let (id, file) = (account.as_str(), path.as_str());
     let _ = writeln!(rt.stderr(), "stopped at {id}: {file}");
+}
+
+// Listens on a port of the loopback address.
+fn bind(rt: &HostRuntime, port: u16) -> io::Result<LinkListener> {
+    LinkListener::new(TcpListener::bind(rt, (Ipv4Addr::LOCALHOST, port))?)
 }
 
 // Returns whether memory ran out.
@@ -148,7 +169,7 @@ impl<M: MakesKeepers> World for HostWorld<M> {
 
     fn listen(&mut self, _alloc: Global, port: u16) -> Result<(), EdgeFault> {
         self.settled = true;
-        match TcpListener::bind(&self.rt, (Ipv4Addr::LOCALHOST, port)) {
+        match bind(&self.rt, port) {
             Ok(listener) => {
                 self.desk.listener = Some(listener);
                 say_where(&self.rt, port);
