@@ -13,85 +13,37 @@ use Rattle.jmap_commands.specs.Endings.{Explains, ExplainsBy, ending_of, ending_
 use Rattle.jmap_commands.specs.declared.arguments.Command.{Command}
 use Rattle.jmap_commands.specs.declared.arguments.Command.TheVariants.{Batch}
 use Rattle.jmap_commands.specs.declared.ending.Ending.{Ending}
-use Rattle.jmap_commands.specs.declared.ending.Ending.TheVariants.{Done, Usage, ReadFault, WriteFault, NoMemory, KeeperFault, Damaged, BadConfig, DeskFault, TooLong}
+use Rattle.jmap_commands.specs.declared.ending.Ending.TheVariants.{Done, Usage, ReadFault, WriteFault, TooLong}
 
 pub done_of : (w : Option Command) (e : Ending) (v : Seen) (n : ℕ) → n ≡ status_of e → ExplainsBy w e v → n ≡ 0 → HasAnsweredBy w v
 done_of None e v n is h same = absurd (omega (arith, is, ap status_of h))
 done_of (Some c) Done v n is h same = h
-done_of (Some c) Usage v n is h same = absurd h
-done_of (Some c) ReadFault v n is h same = absurd (omega arith)
-done_of (Some c) WriteFault v n is h same = absurd (omega arith)
-done_of (Some c) NoMemory v n is h same = absurd (omega arith)
-done_of (Some c) KeeperFault v n is h same = absurd (omega arith)
-done_of (Some c) (Damaged line) v n is h same = absurd (omega arith)
-done_of (Some c) (BadConfig line) v n is h same = absurd (omega arith)
-done_of (Some c) DeskFault v n is h same = absurd (omega arith)
-done_of (Some c) TooLong v n is h same = absurd (omega arith)
+done_of (Some c) other v n is h same = absurd (omega arith)
 
 pub fault_of : (w : Option Command) (e : Ending) (v : Seen) (n : ℕ) → n ≡ status_of e → ExplainsBy w e v → n ≡ 3 → HasAnsweredBeforeFaultBy w v
 fault_of None e v n is h same = absurd (omega (arith, is, ap status_of h))
-fault_of (Some c) Done v n is h same = absurd (omega arith)
-fault_of (Some c) Usage v n is h same = absurd h
 fault_of (Some c) ReadFault v n is h same = h.1
-fault_of (Some c) WriteFault v n is h same = absurd (omega arith)
-fault_of (Some c) NoMemory v n is h same = absurd (omega arith)
-fault_of (Some c) KeeperFault v n is h same = absurd (omega arith)
-fault_of (Some c) (Damaged line) v n is h same = absurd (omega arith)
-fault_of (Some c) (BadConfig line) v n is h same = absurd (omega arith)
-fault_of (Some c) DeskFault v n is h same = absurd (omega arith)
-fault_of (Some c) TooLong v n is h same = absurd (omega arith)
+fault_of (Some c) other v n is h same = absurd (omega arith)
 
 pub read_of : (w : Option Command) (e : Ending) (v : Seen) (n : ℕ) → n ≡ status_of e → ExplainsBy w e v → n ≡ 3 → Rose v.reads v.reads_after
 read_of None e v n is h same = absurd (omega (arith, is, ap status_of h))
-read_of (Some c) Done v n is h same = absurd (omega arith)
-read_of (Some c) Usage v n is h same = absurd h
 read_of (Some c) ReadFault v n is h same = h.0
-read_of (Some c) WriteFault v n is h same = absurd (omega arith)
-read_of (Some c) NoMemory v n is h same = absurd (omega arith)
-read_of (Some c) KeeperFault v n is h same = absurd (omega arith)
-read_of (Some c) (Damaged line) v n is h same = absurd (omega arith)
-read_of (Some c) (BadConfig line) v n is h same = absurd (omega arith)
-read_of (Some c) DeskFault v n is h same = absurd (omega arith)
-read_of (Some c) TooLong v n is h same = absurd (omega arith)
+read_of (Some c) other v n is h same = absurd (omega arith)
 
 pub write_of : (w : Option Command) (e : Ending) (v : Seen) (n : ℕ) → n ≡ status_of e → ExplainsBy w e v → n ≡ 4 → Rose v.writes v.writes_after
 write_of None e v n is h same = absurd (omega (arith, is, ap status_of h))
-write_of (Some c) Done v n is h same = absurd (omega arith)
-write_of (Some c) Usage v n is h same = absurd h
-write_of (Some c) ReadFault v n is h same = absurd (omega arith)
 write_of (Some c) WriteFault v n is h same = h
-write_of (Some c) NoMemory v n is h same = absurd (omega arith)
-write_of (Some c) KeeperFault v n is h same = absurd (omega arith)
-write_of (Some c) (Damaged line) v n is h same = absurd (omega arith)
-write_of (Some c) (BadConfig line) v n is h same = absurd (omega arith)
-write_of (Some c) DeskFault v n is h same = absurd (omega arith)
-write_of (Some c) TooLong v n is h same = absurd (omega arith)
+write_of (Some c) other v n is h same = absurd (omega arith)
 
 pub limit_of : (w : Option Command) (e : Ending) (v : Seen) (n : ℕ) → n ≡ status_of e → ExplainsBy w e v → n ≡ 14 → HasAnsweredBeforeLimitBy w v
 limit_of None e v n is h same = absurd (omega (arith, is, ap status_of h))
-limit_of (Some c) Done v n is h same = absurd (omega arith)
-limit_of (Some c) Usage v n is h same = absurd h
-limit_of (Some c) ReadFault v n is h same = absurd (omega arith)
-limit_of (Some c) WriteFault v n is h same = absurd (omega arith)
-limit_of (Some c) NoMemory v n is h same = absurd (omega arith)
-limit_of (Some c) KeeperFault v n is h same = absurd (omega arith)
-limit_of (Some c) (Damaged line) v n is h same = absurd (omega arith)
-limit_of (Some c) (BadConfig line) v n is h same = absurd (omega arith)
-limit_of (Some c) DeskFault v n is h same = absurd (omega arith)
 limit_of (Some c) TooLong v n is h same = h
+limit_of (Some c) other v n is h same = absurd (omega arith)
 
 pub usage_of : (w : Option Command) (e : Ending) (v : Seen) (n : ℕ) → n ≡ status_of e → ExplainsBy w e v → (n ≡ 2 → w ≡ None) × (w ≡ None → n ≡ 2)
-usage_of None e v n is h = (λ two. refl, λ other. is ∙ ap status_of h)
-usage_of (Some c) Done v n is h = (λ two. absurd (omega arith), λ other. cc)
+usage_of None e v n is h = (λ two. refl, λ same. is ∙ ap status_of h)
 usage_of (Some c) Usage v n is h = absurd h
-usage_of (Some c) ReadFault v n is h = (λ two. absurd (omega arith), λ other. cc)
-usage_of (Some c) WriteFault v n is h = (λ two. absurd (omega arith), λ other. cc)
-usage_of (Some c) NoMemory v n is h = (λ two. absurd (omega arith), λ other. cc)
-usage_of (Some c) KeeperFault v n is h = (λ two. absurd (omega arith), λ other. cc)
-usage_of (Some c) (Damaged line) v n is h = (λ two. absurd (omega arith), λ other. cc)
-usage_of (Some c) (BadConfig line) v n is h = (λ two. absurd (omega arith), λ other. cc)
-usage_of (Some c) DeskFault v n is h = (λ two. absurd (omega arith), λ other. cc)
-usage_of (Some c) TooLong v n is h = (λ two. absurd (omega arith), λ other. cc)
+usage_of (Some c) other v n is h = (λ two. absurd (omega arith), λ same. cc)
 
 -- the run over the account of `batch`
 

@@ -9,6 +9,10 @@ pub mod Simulation
 pub mod Alone
 pub mod AloneSteps
 pub mod Unfailing
+pub mod Printed
+pub mod CommandsNamed
 pub mod Servings
+pub mod Synced
+pub mod Causes
 pub mod Numbers
 pub mod Unserved

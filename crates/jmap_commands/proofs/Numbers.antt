@@ -6,7 +6,7 @@ use Rattle.std.proofs.lemmas.Slice.Eq.{bytes_eq-Decides}
 use Rattle.std.proofs.lemmas.Str.Parse.{numerals_by_value, tells_digits}
 use Rattle.std.specs.Fmt.{decimal}
 use Rattle.std.specs.Str.Parse.{digits_value}
-use Rattle.jmap_commands.specs.Arguments.{command_of, number_if, number_in, serving}
+use Rattle.jmap_commands.specs.Arguments.{command_of, number_if, number_in, serving_or_syncing, showing}
 
 -- the decimal of a number is the number, if that is not too great
 pub number_read : (most n : ℕ) (word : List ℕ) → n < 2 ^ 53 → word ≡ decimal n → number_in most word ≡ (if nat_le 1 n && nat_le n most then Some n else None)
@@ -43,13 +43,37 @@ number_unread most word small none =
     let n = digits_value 10 word in
     sym (unread_if (bytes_eq word (decimal n)) (nat_le 1 n) (nat_le n most) n most (λ e l. let low : n ≤ most = leb-true n most l in none n (omega arith) ((bytes_eq-Decides word (decimal n)).0 e)))
 
--- ---- five arguments
+-- ---- the arguments of a command line by how many they are
 
-pub five_words : {A : Type 0} (f : A → List ℕ) (xs : List A) (word port count : A) → 4 < length xs → length xs < 6 → word ≡ get_or xs 0 word → port ≡ get_or xs 3 port → count ≡ get_or xs 4 count → serving (f word) (f port) (f count) ≡ command_of (map f xs)
-five_words f [] word port count low high w p n = absurd (omega arith)
-five_words f (a ∷ []) word port count low high w p n = absurd (omega arith)
-five_words f (a ∷ b ∷ []) word port count low high w p n = absurd (omega arith)
-five_words f (a ∷ b ∷ c ∷ []) word port count low high w p n = absurd (omega arith)
-five_words f (a ∷ b ∷ c ∷ d ∷ []) word port count low high w p n = absurd (omega arith)
-five_words f (a ∷ b ∷ c ∷ d ∷ e ∷ []) word port count low high w p n = ap (λ x. serving (f x) (f port) (f count)) w ∙ ap (λ x. serving (f a) (f x) (f count)) p ∙ ap (λ x. serving (f a) (f d) (f x)) n
-five_words f (a ∷ b ∷ c ∷ d ∷ e ∷ g ∷ more) word port count low high w p n = absurd (omega arith)
+pub two_words : {A : Type 0} (f : A → List ℕ) (xs : List A) → 1 < length xs → length xs < 3 → None ≡ command_of (map f xs)
+two_words f [] low high = absurd (omega arith)
+two_words f (x ∷ []) low high = absurd (omega arith)
+two_words f (x ∷ y ∷ []) low high = refl
+two_words f (x ∷ y ∷ z ∷ more) low high = absurd (omega arith)
+
+pub three_words : {A : Type 0} (f : A → List ℕ) (xs : List A) (word : A) → 2 < length xs → length xs < 4 → word ≡ get_or xs 0 word → showing (f word) ≡ command_of (map f xs)
+three_words f [] word low high w = absurd (omega arith)
+three_words f (x ∷ []) word low high w = absurd (omega arith)
+three_words f (x ∷ y ∷ []) word low high w = absurd (omega arith)
+three_words f (x ∷ y ∷ z ∷ []) word low high w = ap (λ a. showing (f a)) w
+three_words f (x ∷ y ∷ z ∷ u ∷ more) word low high w = absurd (omega arith)
+
+pub four_words : {A : Type 0} (f : A → List ℕ) (xs : List A) → 3 < length xs → length xs < 5 → None ≡ command_of (map f xs)
+four_words f [] low high = absurd (omega arith)
+four_words f (x ∷ []) low high = absurd (omega arith)
+four_words f (x ∷ y ∷ []) low high = absurd (omega arith)
+four_words f (x ∷ y ∷ z ∷ []) low high = absurd (omega arith)
+four_words f (x ∷ y ∷ z ∷ u ∷ []) low high = refl
+four_words f (x ∷ y ∷ z ∷ u ∷ v ∷ more) low high = absurd (omega arith)
+
+pub five_words : {A : Type 0} (f : A → List ℕ) (xs : List A) (word a b c d : A) → 4 < length xs → length xs < 6 → word ≡ get_or xs 0 word → a ≡ get_or xs 1 a → b ≡ get_or xs 2 b → c ≡ get_or xs 3 c → d ≡ get_or xs 4 d
+    → serving_or_syncing (f word) (f a) (f b) (f c) (f d) ≡ command_of (map f xs)
+five_words f [] word a b c d low high w p q r s = absurd (omega arith)
+five_words f (x ∷ []) word a b c d low high w p q r s = absurd (omega arith)
+five_words f (x ∷ x1 ∷ []) word a b c d low high w p q r s = absurd (omega arith)
+five_words f (x ∷ x1 ∷ x2 ∷ []) word a b c d low high w p q r s = absurd (omega arith)
+five_words f (x ∷ x1 ∷ x2 ∷ x3 ∷ []) word a b c d low high w p q r s = absurd (omega arith)
+five_words f (x ∷ x1 ∷ x2 ∷ x3 ∷ x4 ∷ []) word a b c d low high w p q r s =
+    ap (λ y. serving_or_syncing (f y) (f a) (f b) (f c) (f d)) w ∙ ap (λ y. serving_or_syncing (f x) (f y) (f b) (f c) (f d)) p ∙ ap (λ y. serving_or_syncing (f x) (f x1) (f y) (f c) (f d)) q ∙ ap (λ y. serving_or_syncing (f x) (f x1) (f x2) (f y) (f d)) r
+    ∙ ap (λ y. serving_or_syncing (f x) (f x1) (f x2) (f x3) (f y)) s
+five_words f (x ∷ x1 ∷ x2 ∷ x3 ∷ x4 ∷ x5 ∷ more) word a b c d low high w p q r s = absurd (omega arith)

@@ -8,9 +8,9 @@ use Rattle.jmap_commands.specs.declared.read.TheConstants.{MAX_MESSAGE_BYTES}
 use Rattle.batch_lines.specs.declared.fault.LinesFault.{LinesFault}
 use Rattle.batch_lines.specs.declared.fault.LinesFault.TheVariants as lines
 use Rattle.jmap_commands.specs.declared.arguments.Command.{Command}
-use Rattle.jmap_commands.specs.declared.arguments.Command.TheVariants.{Batch, Read, Serve}
+use Rattle.jmap_commands.specs.declared.arguments.Command.TheVariants.{Batch, Read, Serve, Sync, Show}
 use Rattle.jmap_commands.specs.declared.ending.Ending.{Ending}
-use Rattle.jmap_commands.specs.declared.ending.Ending.TheVariants.{Done, Usage, ReadFault, WriteFault, NoMemory, KeeperFault, Damaged, BadConfig, DeskFault, TooLong}
+use Rattle.jmap_commands.specs.declared.ending.Ending.TheVariants.{Done, Usage, ReadFault, WriteFault, NoMemory, KeeperFault, Damaged, BadReply, Moved, ExchangeFault, ShelfFault, BadConfig, BadCache, DeskFault, TooLong}
 
 -- how a run ends whose lines were not all answered
 abbrev pub ending_of_fault : LinesFault → Ending
@@ -26,9 +26,25 @@ ending_of (Err fault) = ending_of_fault fault
 
 -- the command is one that serves
 abbrev pub IsServing : Command → Type 0
-IsServing Batch = ⊥
-IsServing Read = ⊥
 IsServing (Serve port count) = ⊤
+IsServing other = ⊥
+
+-- the command is one that asks a server
+abbrev pub IsSyncing : Command → Type 0
+IsSyncing (Sync port) = ⊤
+IsSyncing other = ⊥
+
+-- the command is one that has a cache
+abbrev pub IsOfClient : Command → Type 0
+IsOfClient (Sync port) = ⊤
+IsOfClient Show = ⊤
+IsOfClient other = ⊥
+
+-- the command is one that uses a world
+abbrev pub UsesWorld : Command → Type 0
+UsesWorld Batch = ⊥
+UsesWorld Read = ⊥
+UsesWorld other = ⊤
 
 -- why a command came to this end
 abbrev pub Explains : Command → Ending → Seen → Type 0
@@ -39,8 +55,13 @@ Explains c WriteFault v = Rose v.writes v.writes_after
 Explains c NoMemory v = ⊤
 Explains c KeeperFault v = IsServing c
 Explains c (Damaged line) v = IsServing c
+Explains c (BadReply line) v = IsSyncing c
+Explains c (Moved line) v = IsSyncing c
+Explains c ExchangeFault v = IsSyncing c
+Explains c ShelfFault v = IsOfClient c
 Explains c (BadConfig line) v = IsServing c
-Explains c DeskFault v = IsServing c
+Explains c (BadCache line) v = IsOfClient c
+Explains c DeskFault v = UsesWorld c
 Explains c TooLong v = HasAnsweredBeforeLimit c v
 
 -- why arguments came to this end: those that name no command are answered by how to use the program
@@ -55,27 +76,15 @@ IsMessageTooLong left left_after =
 
 -- why reading a whole message failed
 abbrev pub Unread : Ending → Option (List ℕ) → Option (List ℕ) → ℕ → ℕ → Type 0
-Unread Done left left_after reads reads_after = ⊥
-Unread Usage left left_after reads reads_after = ⊥
 Unread ReadFault left left_after reads reads_after = Rose reads reads_after
-Unread WriteFault left left_after reads reads_after = ⊥
 Unread NoMemory left left_after reads reads_after = ⊤
-Unread KeeperFault left left_after reads reads_after = ⊥
-Unread (Damaged line) left left_after reads reads_after = ⊥
-Unread (BadConfig line) left left_after reads reads_after = ⊥
-Unread DeskFault left left_after reads reads_after = ⊥
 Unread TooLong left left_after reads reads_after = IsMessageTooLong left left_after
+Unread other left left_after reads reads_after = ⊥
 
 -- a line was written, or a prefix of it
 abbrev pub Written : Ending → Option (List ℕ) → Option (List ℕ) → ℕ → ℕ → List ℕ → Type 0
 Written Done held held_after writes writes_after line = Appends held held_after line
-Written Usage held held_after writes writes_after line = ⊥
-Written ReadFault held held_after writes writes_after line = ⊥
 Written WriteFault held held_after writes writes_after line =
     Rose writes writes_after × ((n : ℕ) × Appends held held_after (take n line))
 Written NoMemory held held_after writes writes_after line = Appends held held_after []
-Written KeeperFault held held_after writes writes_after line = ⊥
-Written (Damaged text) held held_after writes writes_after line = ⊥
-Written (BadConfig text) held held_after writes writes_after line = ⊥
-Written DeskFault held held_after writes writes_after line = ⊥
-Written TooLong held held_after writes writes_after line = ⊥
+Written other held held_after writes writes_after line = ⊥

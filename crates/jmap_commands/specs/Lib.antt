@@ -3,8 +3,12 @@ pub mod AccountAnswers
 pub mod OneSession
 pub mod Stamps
 pub mod Read
+pub mod Addresses
 pub mod Arguments
 pub mod Status
 pub mod Run
 pub mod Endings
+pub mod Worlds
 pub mod Serving
+pub mod Syncing
+pub mod Uses

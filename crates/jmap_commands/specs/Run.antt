@@ -3,11 +3,13 @@ use Rattle.std.specs.Prelude.{◌≡◌, ◌⊎◌, ℕ, ◌<◌, ◌≤◌, Lis
 use Rattle.std.specs.Fmt.{decimal}
 use Rattle.mail_records.specs.Histories.{History, empty_history}
 use Rattle.batch_lines.specs.Input.{Seen, HasRead, HasWritten, HasReadAll, HasAnsweredInput, HasAnsweredEnded, HasAnsweredWithin, HasBegunInput}
+use Rattle.client_cache.specs.Caches.{Cached, ListView}
+use Rattle.client_lines.specs.Lines.{counts_text, list_text}
 use Rattle.jmap_commands.specs.Read.{read_out}
 use Rattle.jmap_commands.specs.AccountAnswers.{account_answers, account_halts, account_stops, account_uploads}
 use Rattle.jmap_commands.specs.declared.read.TheConstants.{MAX_MESSAGE_BYTES}
 use Rattle.jmap_commands.specs.declared.arguments.Command.{Command}
-use Rattle.jmap_commands.specs.declared.arguments.Command.TheVariants.{Batch, Read, Serve}
+use Rattle.jmap_commands.specs.declared.arguments.Command.TheVariants.{Batch, Read, Serve, Sync, Show}
 
 -- ---- of `read`
 
@@ -33,48 +35,53 @@ HasBegunMessage v =
     (bytes : List ℕ) × (written : List ℕ) × HasRead v bytes × HasWritten v written
     × ((written ≡ []) ⊎ (HasReadAll v × ((more : List ℕ) × (read_out bytes ≡ written ++ more))))
 
--- ---- of `serve`, which reads nothing of the input
+-- ---- of the commands that read nothing of the input: this text is written, or a prefix of it
 
--- the line that says how many connections were served
+abbrev pub HasPrinted : List ℕ → Seen → Type 0
+HasPrinted text v = HasRead v [] × HasWritten v text
+
+abbrev pub HasBegunPrinting : List ℕ → Seen → Type 0
+HasBegunPrinting text v =
+    (written : List ℕ) × (more : List ℕ) × HasRead v [] × HasWritten v written
+    × (text ≡ written ++ more)
+
+-- the line of `serve` that says how many connections were served
 abbrev pub served_text : ℕ → List ℕ
 served_text count = codes "served " ++ (decimal count ++ 10 ∷ [])
 
-abbrev pub HasServedAll : ℕ → Seen → Type 0
-HasServedAll count v = HasRead v [] × HasWritten v (served_text count)
-
--- nothing is written, or a prefix of the line
-abbrev pub HasBegunServing : ℕ → Seen → Type 0
-HasBegunServing count v =
-    (written : List ℕ) × (more : List ℕ) × HasRead v [] × HasWritten v written
-    × (served_text count ≡ written ++ more)
-
 -- ---- of each command: `batch` begins over an account in which there is nothing, and h is its
--- history at the end
+-- history at the end. `sync` prints how many records a cache has, and `show` a list of a cache;
+-- which cache that is, `HasUsed` says.
 
 abbrev pub HasAnswered : Command → Seen → Type 0
 HasAnswered Batch v =
     (h : History) × HasAnsweredInput account_answers account_uploads empty_history h v
 HasAnswered Read v = HasShownMessage v
-HasAnswered (Serve port count) v = HasServedAll count v
+HasAnswered (Serve port count) v = HasPrinted (served_text count) v
+HasAnswered (Sync port) v = (c : Cached) × HasPrinted (counts_text c) v
+HasAnswered Show v = (c : Cached) × (l : ListView) × HasPrinted (list_text c l) v
 
 abbrev pub HasAnsweredBeforeFault : Command → Seen → Type 0
 HasAnsweredBeforeFault Batch v =
     (h : History) × HasAnsweredEnded account_answers account_uploads empty_history h v
 HasAnsweredBeforeFault Read v = HasShownNothing v
-HasAnsweredBeforeFault (Serve port count) v = ⊥
+HasAnsweredBeforeFault other v = ⊥
 
 abbrev pub HasAnsweredBeforeLimit : Command → Seen → Type 0
 HasAnsweredBeforeLimit Batch v =
     (h : History) × HasAnsweredWithin account_answers account_uploads empty_history h v
 HasAnsweredBeforeLimit Read v = HasShownNone v
-HasAnsweredBeforeLimit (Serve port count) v = ⊥
+HasAnsweredBeforeLimit (Sync port) v = HasPrinted [] v
+HasAnsweredBeforeLimit other v = ⊥
 
 abbrev pub HasBegun : Command → Seen → Type 0
 HasBegun Batch v =
     (h : History)
     × HasBegunInput account_answers account_uploads account_stops account_halts empty_history h v
 HasBegun Read v = HasBegunMessage v
-HasBegun (Serve port count) v = HasBegunServing count v
+HasBegun (Serve port count) v = HasBegunPrinting (served_text count) v
+HasBegun (Sync port) v = (c : Cached) × HasBegunPrinting (counts_text c) v
+HasBegun Show v = (c : Cached) × (l : ListView) × HasBegunPrinting (list_text c l) v
 
 -- ---- by the arguments of the command line: where they name no command, nothing is read or written
 
@@ -91,5 +98,5 @@ HasAnsweredBeforeLimitBy None v = ⊥
 HasAnsweredBeforeLimitBy (Some c) v = HasAnsweredBeforeLimit c v
 
 abbrev pub HasBegunBy : Option Command → Seen → Type 0
-HasBegunBy None v = HasRead v [] × HasWritten v []
+HasBegunBy None v = HasPrinted [] v
 HasBegunBy (Some c) v = HasBegun c v

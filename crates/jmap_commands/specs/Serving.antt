@@ -1,9 +1,10 @@
 -- How a run of `serve` ends.
-use Rattle.std.specs.Prelude.{◌≡◌, ◌⊎◌, ℕ, List, [], ◌++◌, codes, slice_index_or, take, IfErr, Option, None, Some, Result, Ok, Err}
+use Rattle.std.specs.Prelude.{◌≡◌, ◌⊎◌, ℕ, List, [], ◌++◌, codes, take, IfErr, Option, Result, Ok, Err}
 use Rattle.std.specs.Fmt.{decimal}
 use Rattle.std.specs.Io.KnownBytes.{Appends}
 use Rattle.jm_edge.specs.Causes.{Rose}
 use Rattle.jmap_commands.specs.Run.{served_text}
+use Rattle.jmap_commands.specs.Worlds.{ServerSeen}
 use Rattle.mail_records.specs.Histories.{History}
 use Rattle.account_book.specs.declared.faults.Reason.{Reason}
 use Rattle.account_book.specs.declared.faults.Reason.TheVariants.{NotACommit, DoesNotFit, NotWhole}
@@ -16,10 +17,8 @@ use Rattle.jmap_server.specs.Lines.{Plans, Sight}
 use Rattle.jmap_server.specs.Serving.{HasRun, IsCaused}
 use Rattle.jmap_server.specs.declared.fault.ServeFault.{ServeFault}
 use Rattle.jmap_server.specs.declared.fault.ServeFault.TheVariants as fault
-use Rattle.jmap_commands.specs.declared.arguments.Command.{Command}
-use Rattle.jmap_commands.specs.declared.arguments.Command.TheVariants.{Batch, Read, Serve}
 use Rattle.jmap_commands.specs.declared.ending.Ending.{Ending}
-use Rattle.jmap_commands.specs.declared.ending.Ending.TheVariants.{Done, Usage, ReadFault, WriteFault, NoMemory, KeeperFault, Damaged, BadConfig, DeskFault, TooLong}
+use Rattle.jmap_commands.specs.declared.ending.Ending.TheVariants.{Done, WriteFault, NoMemory, KeeperFault, Damaged, BadConfig, DeskFault}
 
 -- ---- the rules of mail
 
@@ -68,37 +67,19 @@ IsEndingOf (Err f) e = IsFaultEnding f e
 
 -- a server ran over the world, ended so, and the run ends so
 pub record HasServed {K R L C : Type 0} (sight : Sight K L C) (plan_of : Plans R)
-    (whole : History → Type 0) (config folder : List ℕ) (port count : ℕ)
-    (told told' : Option (List (Deed K L C))) (faults faults' loads loads' : ℕ)
+    (whole : History → Type 0) (config folder : List ℕ) (port count : ℕ) (w : ServerSeen K L C)
     (e : Ending) : Type 0 where
   pub did : List (Deed K L C)
   pub result : Result (Unit {0}) ServeFault
-  pub told_is : IsTold told told' did
+  pub told_is : IsTold w.told w.told_after did
   pub ran : HasRun sight plan_of whole config folder port count did result
-  pub caused : IfErr result (IsCaused faults faults' loads loads')
+  pub caused : IfErr result (IsCaused w.faults w.faults_after w.loads w.loads_after)
   pub ending : IsEndingOf result e
-
--- What a command does to the world: only a server uses it. The configuration and the folder are the
--- second and the third argument.
-abbrev pub HasUsed : {K R L C : Type 0} → Sight K L C → Plans R → (History → Type 0)
-    → Option Command → List (List ℕ) → Option (List (Deed K L C)) → Option (List (Deed K L C))
-    → (faults faults' loads loads' : ℕ) → Ending → Type 0
-HasUsed sight plan_of whole (Some (Serve port count)) words told told' faults faults' loads loads'
-    e =
-    HasServed sight plan_of whole (slice_index_or words 1 []) (slice_index_or words 2 []) port count
-    told told' faults faults' loads loads' e
-HasUsed sight plan_of whole (Some Batch) words told told' faults faults' loads loads' e =
-    told' ≡ told
-HasUsed sight plan_of whole (Some Read) words told told' faults faults' loads loads' e =
-    told' ≡ told
-HasUsed sight plan_of whole None words told told' faults faults' loads loads' e = told' ≡ told
 
 -- What is written where a server ended so: the line that says how many connections were served, a
 -- prefix of it, or nothing.
 abbrev pub WritesServed : Ending → ℕ → Option (List ℕ) → Option (List ℕ) → ℕ → ℕ → Type 0
 WritesServed Done count held held' writes writes' = Appends held held' (served_text count)
-WritesServed Usage count held held' writes writes' = ⊥
-WritesServed ReadFault count held held' writes writes' = ⊥
 WritesServed WriteFault count held held' writes writes' =
     Rose writes writes' × ((n : ℕ) × Appends held held' (take n (served_text count)))
 WritesServed NoMemory count held held' writes writes' = Appends held held' []
@@ -106,4 +87,4 @@ WritesServed KeeperFault count held held' writes writes' = Appends held held' []
 WritesServed (Damaged line) count held held' writes writes' = Appends held held' []
 WritesServed (BadConfig line) count held held' writes writes' = Appends held held' []
 WritesServed DeskFault count held held' writes writes' = Appends held held' []
-WritesServed TooLong count held held' writes writes' = ⊥
+WritesServed other count held held' writes writes' = ⊥

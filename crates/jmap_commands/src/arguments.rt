@@ -1,7 +1,8 @@
 // The arguments of a command line.
 ghost use Rattle.std.specs.Prelude.{◌≡◌, ◌≤◌, IfSome, map, string_bytes};
-ghost use Rattle.jmap_commands.specs.Arguments.{command_named, command_of, number_in, serving};
+ghost use Rattle.jmap_commands.specs.Arguments.{command_named, command_of, number_in, serving, serving_or_syncing, showing, syncing};
 
+use crate::addresses::{is_host, is_token};
 use jm_base::read_state;
 
 /// The greatest number of a port of TCP.
@@ -20,6 +21,11 @@ pub enum Command {
     /// Serve so many connections of a port. The arguments before these are the configuration and
     /// the folder.
     Serve { port: u16, count: u64 },
+    /// Bring a cache up to date by what a server on this port answers. The arguments before the
+    /// port are the command's name and the host, those after it the token and the cache's file.
+    Sync { port: u16 },
+    /// Show a list of a cache. The arguments are the cache's file and the list's name.
+    Show,
 }
 
 impl Command {
@@ -29,10 +35,13 @@ impl Command {
     {
         match words {
             [word] => Command::find_by_name(word.as_str()),
-            [word, _, _, port, count] => Command::serving(
+            [word, _, _] => Command::showing(word.as_str()),
+            [word, first, second, third, fourth] => Command::serving_or_syncing(
                 word.as_str(),
-                port.as_str(),
-                count.as_str(),
+                first.as_str(),
+                second.as_str(),
+                third.as_str(),
+                fourth.as_str(),
             ),
             _ => None,
         }
@@ -46,6 +55,43 @@ impl Command {
         }
         if word == "read" {
             return Some(Command::Read);
+        }
+        None
+    }
+
+    fn showing(word: &str) -> Option<Command>
+        ensures { result ≡ showing word.now }
+    {
+        if word == "show" {
+            return Some(Command::Show);
+        }
+        None
+    }
+
+    // Two commands have four arguments after their name.
+    fn serving_or_syncing(
+        word: &str,
+        first: &str,
+        second: &str,
+        third: &str,
+        fourth: &str,
+    ) -> Option<Command>
+        ensures { result ≡ serving_or_syncing word.now first.now second.now third.now fourth.now }
+    {
+        match Command::serving(word, third, fourth) {
+            Some(command) => Some(command),
+            None => Command::syncing(word, first, second, third),
+        }
+    }
+
+    fn syncing(word: &str, host: &str, port: &str, token: &str) -> Option<Command>
+        ensures { result ≡ syncing word.now host.now port.now token.now }
+    {
+        if word == "sync" && is_host(host) && is_token(token) {
+            return match read_number(port, MAX_PORT) {
+                Some(port) => Some(Command::Sync { port: port as u16 }),
+                None => None,
+            };
         }
         None
     }

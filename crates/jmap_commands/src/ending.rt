@@ -37,12 +37,24 @@ pub enum Ending {
     KeeperFault,
     /// What the keeper of an account keeps is damaged. This is the line that says where and why.
     Damaged(Text),
+    /// A reply of the server that was asked is not of its form. This is the line that says where.
+    BadReply(Text),
+    /// The account changed too often while it was asked for. This is the line that says from which
+    /// state to which.
+    Moved(Text),
+    /// The server could not be asked.
+    ExchangeFault,
+    /// The file of a cache could not be loaded or saved.
+    ShelfFault,
     /// The configuration is not of its form. This is the line that says where.
     BadConfig(Text),
-    /// The world failed: it could not read the configuration, give a keeper, listen, or give a
-    /// line.
+    /// The file of a cache is not of its form, or the cache has no such list. This is the line that
+    /// says where.
+    BadCache(Text),
+    /// A world failed: it could not read the configuration, give a keeper, listen, give a line, an
+    /// exchange or a shelf.
     DeskFault,
-    /// More bytes came than the command takes.
+    /// More bytes or replies came than the command takes.
     TooLong,
 }
 
@@ -60,7 +72,12 @@ impl Ending {
             Ending::NoMemory => Status(5),
             Ending::KeeperFault => Status(6),
             Ending::Damaged(_) => Status(7),
+            Ending::BadReply(_) => Status(8),
+            Ending::Moved(_) => Status(9),
+            Ending::ExchangeFault => Status(10),
+            Ending::ShelfFault => Status(11),
             Ending::BadConfig(_) => Status(12),
+            Ending::BadCache(_) => Status(12),
             Ending::DeskFault => Status(13),
             Ending::TooLong => Status(14),
         }
@@ -77,7 +94,12 @@ impl Ending {
             Ending::NoMemory => "no memory\n",
             Ending::KeeperFault => "keeper fault\n",
             Ending::Damaged(line) => line.as_str(),
+            Ending::BadReply(line) => line.as_str(),
+            Ending::Moved(line) => line.as_str(),
+            Ending::ExchangeFault => "exchange fault\n",
+            Ending::ShelfFault => "shelf fault\n",
             Ending::BadConfig(line) => line.as_str(),
+            Ending::BadCache(line) => line.as_str(),
             Ending::DeskFault => "desk fault\n",
             Ending::TooLong => "too long\n",
         }

@@ -1,6 +1,5 @@
 // The top call: all that the program does.
 ghost use Rattle.std.specs.Prelude.{◌≡◌, ◌↔◌, ℕ, IfOk, None, Some, map, string_bytes};
-ghost use Rattle.jm_edge.specs.Causes.{Rose};
 ghost use Rattle.mail_records.specs.Histories.{empty_history};
 ghost use Rattle.account_hall.specs.Halls.{AreOf};
 ghost use Rattle.jmap_commands.specs.OneSession.{HasOneIn, IsFirst};
@@ -9,8 +8,11 @@ ghost use Rattle.jmap_commands.specs.Arguments.{command_of};
 ghost use Rattle.batch_lines.specs.Input.{seen};
 ghost use Rattle.jmap_commands.specs.Run.{HasBegun, HasAnsweredBy, HasAnsweredBeforeFaultBy, HasAnsweredBeforeLimitBy, HasBegunBy};
 ghost use Rattle.jmap_server.specs.Lines.{sight_of};
-ghost use Rattle.jmap_commands.specs.Serving.{HasUsed, is_mail, mail_plan};
-ghost use Rattle.jmap_commands.specs.Status.{Says, WritesOrFails, status_of, text_of};
+ghost use Rattle.jmap_commands.specs.Serving.{is_mail, mail_plan};
+ghost use Rattle.jmap_commands.specs.Status.{WritesOrFails, status_of, text_of};
+ghost use Rattle.jmap_commands.specs.Uses.{HasCauses, HasUsed};
+ghost use Rattle.jmap_commands.specs.Worlds.{client_seen, server_seen};
+ghost use Rattle.jmap_client.specs.ClientSights.{client_sight_of};
 ghost use Rattle.jmap_commands.specs.Endings.{Explains, ExplainsBy, ending_of};
 ghost use Rattle.jmap_commands.specs.declared.ending.Ending.{Ending as TheEnding};
 
@@ -21,10 +23,13 @@ use crate::one_session::{answer_alone, open_hall};
 use crate::one_user::build_users;
 use crate::read::read_message;
 use crate::serving::{MailRulesSource, serve_words};
+use crate::syncing::{show_words, sync_words};
+use crate::worlds::Worlds;
 use account_hall::{Front, Hall, Passes};
 use batch_lines::LinesFault;
 use jm_base::{NoMemory, Text};
 use jm_edge::{Sink, Source};
+use jmap_client::ClientWorld;
 use jmap_server::{RulesSource, World};
 use mail_calls::MailRules;
 use server_users::Users;
@@ -32,16 +37,16 @@ use std::alloc::Global;
 use std::sync::Wait;
 use std::thread::Threads;
 
-/// Does what the arguments of the command line say, over a source, an output, an error output and a
-/// world, and returns the exit status of the process.
-pub fn run<S: Source, O: Sink, E: Sink, W: World>(
+/// Does what the arguments of the command line say, over a source, an output, an error output and
+/// two worlds, and returns the exit status of the process.
+pub fn run<S: Source, O: Sink, E: Sink, W: World, C: ClientWorld>(
     rt: &(impl Threads + Wait + Sync),
     alloc: Global,
     words: &[String],
     source: &mut S,
     out: &mut O,
     err: &mut E,
-    world: &mut W,
+    worlds: &mut Worlds<W, C>,
 ) -> Status
     // With status 0 the input was read to its end, and all that the command writes for it is
     // written.
@@ -54,7 +59,7 @@ pub fn run<S: Source, O: Sink, E: Sink, W: World>(
         (seen S.left S.faults source.old source.new O.held O.faults out.old out.new) }
 
     // With statuses 3 and 14 each reply is written to a line that ended before the fault, or within
-    // the limit of the input.
+    // the limit of the input. `sync` wrote nothing then.
     ensures fault { result.0 ≡ 3
         → HasAnsweredBeforeFaultBy (command_of (map string_bytes words.now))
         (seen S.left S.faults source.old source.new O.held O.faults out.old out.new) }
@@ -62,72 +67,106 @@ pub fn run<S: Source, O: Sink, E: Sink, W: World>(
         → HasAnsweredBeforeLimitBy (command_of (map string_bytes words.now))
         (seen S.left S.faults source.old source.new O.held O.faults out.old out.new) }
 
-    // Status 2 comes if and only if the arguments name no command, 3 and 4 only if the source or
-    // the output failed in this run, and 14 only past the limit of the input, as the clause above
-    // says.
+    // Status 2 comes if and only if the arguments name no command.
     ensures usage { (result.0 ≡ 2) ↔ (command_of (map string_bytes words.now) ≡ None) }
-    ensures read { result.0 ≡ 3 → Rose (S.faults source.old) (S.faults source.new) }
-    ensures write { result.0 ≡ 4 → Rose (O.faults out.old) (O.faults out.new) }
 
-    // What `serve` does to the world, and how it ends: each line and each keeper that was given
-    // came back, and each line was served. Other commands leave the world alone. The text on the
-    // error output is that of the end, as far as it can be written.
-    ensures served { (e : TheEnding) × (result.0 ≡ status_of e) × WritesOrFails (E.held err.old)
-        (E.held err.new) (E.faults err.old) (E.faults err.new) (text_of e) × HasUsed (sight_of
-        W.Line.left W.Line.held W.Line.read_faults W.Line.put_faults W.Time.times W.Keep.kept
-        W.Keep.append_faults) mail_plan is_mail (command_of (map string_bytes words.now))
-        (map string_bytes words.now) (W.told world.old) (W.told world.new) (W.faults world.old)
-        (W.faults world.new) (W.load_faults world.old) (W.load_faults world.new) e }
+    // The statuses 3, 4, 6, 10, 11 and 13 come only if a count of such faults rose in this run.
+    ensures causes { HasCauses (command_of (map string_bytes words.now)) result.0
+        (server_seen W.told W.faults W.load_faults worlds.old.server worlds.new.server)
+        (client_seen C.told C.faults C.talk_faults C.store_faults worlds.old.client
+        worlds.new.client)
+        (seen S.left S.faults source.old source.new O.held O.faults out.old out.new) }
 
-    // Status 6 comes only if a keeper that came back had failed to load, and 13 only if the world
-    // failed in this run.
-    ensures keeper { result.0 ≡ 6 → Rose (W.load_faults world.old) (W.load_faults world.new) }
-    ensures desk { result.0 ≡ 13 → Rose (W.faults world.old) (W.faults world.new) }
-
-    // The status is one of those that are written down, and its text is on the error output, as far
-    // as that can be written.
-    ensures says { Says result.0 (E.held err.old) (E.held err.new) (E.faults err.old)
-        (E.faults err.new) }
+    // The status and the text on the error output are those of an end, as far as that text can be
+    // written, and the end is one of the command. With it `serve` served each line, and each line
+    // and each keeper that was given came back; `sync` brought the cache of its shelf up to date by
+    // what its exchange answered, and `show` read that of its shelf, they printed what is said of
+    // it, and what they were given came back. Each other world was left alone.
+    ensures used { (e : TheEnding) × (result.0 ≡ status_of e) × WritesOrFails (E.held err.old)
+        (E.held err.new) (E.faults err.old) (E.faults err.new) (text_of e)
+        × ExplainsBy (command_of (map string_bytes words.now)) e
+        (seen S.left S.faults source.old source.new O.held O.faults out.old out.new)
+        × HasUsed (sight_of W.Line.left W.Line.held W.Line.read_faults W.Line.put_faults
+        W.Time.times W.Keep.kept W.Keep.append_faults) mail_plan is_mail
+        (client_sight_of C.Talk.told C.Talk.faults C.Store.kept C.Store.load_faults
+        C.Store.save_faults)
+        (command_of (map string_bytes words.now)) (map string_bytes words.now)
+        (server_seen W.told W.faults W.load_faults worlds.old.server worlds.new.server)
+        (client_seen C.told C.faults C.talk_faults C.store_faults worlds.old.client
+        worlds.new.client)
+        (seen S.left S.faults source.old source.new O.held O.faults out.old out.new) e }
 {
-    perform(rt, alloc, words, source, out, world, &MailRulesSource).say(err)
+    perform(
+        rt,
+        alloc,
+        words,
+        source,
+        out,
+        &mut worlds.server,
+        &mut worlds.client,
+        &MailRulesSource,
+    )
+    .say(err)
 }
 
 // Does what the arguments say.
-fn perform<H: Threads + Wait + Sync, S: Source, O: Sink, W: World, F: RulesSource>(
+fn perform<H, S, O, W, C, F>(
     rt: &H,
     alloc: Global,
     words: &[String],
     source: &mut S,
     out: &mut O,
-    world: &mut W,
+    server: &mut W,
+    client: &mut C,
     rules: &F,
 ) -> Ending
+where
+    H: Threads + Wait + Sync,
+    S: Source,
+    O: Sink,
+    W: World,
+    C: ClientWorld,
+    F: RulesSource,
     ensures cause { ExplainsBy (command_of (map string_bytes words.now)) result
         (seen S.left S.faults source.old source.new O.held O.faults out.old out.new) }
     ensures begun { HasBegunBy (command_of (map string_bytes words.now))
         (seen S.left S.faults source.old source.new O.held O.faults out.old out.new) }
     ensures used { HasUsed (sight_of W.Line.left W.Line.held W.Line.read_faults W.Line.put_faults
         W.Time.times W.Keep.kept W.Keep.append_faults) F.Rules.plan_of (F.Rules.is_whole (F.rules
-        rules.now)) (command_of (map string_bytes words.now)) (map string_bytes words.now)
-        (W.told world.old) (W.told world.new) (W.faults world.old) (W.faults world.new)
-        (W.load_faults world.old) (W.load_faults world.new) result }
+        rules.now)) (client_sight_of C.Talk.told C.Talk.faults C.Store.kept C.Store.load_faults
+        C.Store.save_faults) (command_of (map string_bytes words.now)) (map string_bytes words.now)
+        (server_seen W.told W.faults W.load_faults server.old server.new)
+        (client_seen C.told C.faults C.talk_faults C.store_faults client.old client.new)
+        (seen S.left S.faults source.old source.new O.held O.faults out.old out.new) result }
 {
     match Command::of_arguments(words) {
-        Some(command) => perform_command(rt, alloc, command, words, source, out, world, rules),
+        Some(command) => {
+            perform_command(
+                rt, alloc, command, words, source, out, server, client, rules,
+            )
+        }
         None => Ending::Usage,
     }
 }
 
-fn perform_command<H: Threads + Wait + Sync, S: Source, O: Sink, W: World, F: RulesSource>(
+fn perform_command<H, S, O, W, C, F>(
     rt: &H,
     alloc: Global,
     command: Command,
     words: &[String],
     source: &mut S,
     out: &mut O,
-    world: &mut W,
+    server: &mut W,
+    client: &mut C,
     rules: &F,
 ) -> Ending
+where
+    H: Threads + Wait + Sync,
+    S: Source,
+    O: Sink,
+    W: World,
+    C: ClientWorld,
+    F: RulesSource,
     requires { command_of (map string_bytes words.now) ≡ Some command }
     ensures cause { Explains command result
         (seen S.left S.faults source.old source.new O.held O.faults out.old out.new) }
@@ -135,16 +174,20 @@ fn perform_command<H: Threads + Wait + Sync, S: Source, O: Sink, W: World, F: Ru
         (seen S.left S.faults source.old source.new O.held O.faults out.old out.new) }
     ensures used { HasUsed (sight_of W.Line.left W.Line.held W.Line.read_faults W.Line.put_faults
         W.Time.times W.Keep.kept W.Keep.append_faults) F.Rules.plan_of (F.Rules.is_whole (F.rules
-        rules.now)) (Some command) (map string_bytes words.now) (W.told world.old)
-        (W.told world.new) (W.faults world.old) (W.faults world.new) (W.load_faults world.old)
-        (W.load_faults world.new) result }
+        rules.now)) (client_sight_of C.Talk.told C.Talk.faults C.Store.kept C.Store.load_faults
+        C.Store.save_faults) (Some command) (map string_bytes words.now)
+        (server_seen W.told W.faults W.load_faults server.old server.new)
+        (client_seen C.told C.faults C.talk_faults C.store_faults client.old client.new)
+        (seen S.left S.faults source.old source.new O.held O.faults out.old out.new) result }
 {
     match command {
         Command::Batch => answer_batch(rt, alloc, source, out),
         Command::Read => read_message(alloc, source, out),
         Command::Serve { port, count } => {
-            serve_words(rt, alloc, world, rules, words, port, count, out)
+            serve_words(rt, alloc, server, rules, words, port, count, out)
         }
+        Command::Sync { port } => sync_words(alloc, client, words, port, out),
+        Command::Show => show_words(alloc, client, words, out),
     }
 }
 

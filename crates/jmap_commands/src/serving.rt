@@ -5,6 +5,7 @@ ghost use Rattle.jmap_commands.specs.Endings.{Written};
 ghost use Rattle.jmap_commands.specs.declared.arguments.TheConstants.{MAX_CONNECTIONS as TheMaxConnections};
 ghost use Rattle.jmap_commands.specs.Run.{served_text};
 ghost use Rattle.jmap_commands.specs.Serving.{HasServed, IsFaultEnding, WritesServed, bad_config_text, damaged_text};
+ghost use Rattle.jmap_commands.specs.Worlds.{server_seen};
 
 use crate::ending::Ending;
 use account_book::Reason;
@@ -106,9 +107,8 @@ fn serve_texts<H: Threads + Wait + Sync, W: World, F: RulesSource, O: Sink>(
     requires { count ≤ TheMaxConnections }
     ensures served { HasServed (sight_of W.Line.left W.Line.held W.Line.read_faults
         W.Line.put_faults W.Time.times W.Keep.kept W.Keep.append_faults) F.Rules.plan_of
-        (F.Rules.is_whole (F.rules rules.now)) config.now folder.now port count (W.told world.old)
-        (W.told world.new) (W.faults world.old) (W.faults world.new) (W.load_faults world.old)
-        (W.load_faults world.new) result }
+        (F.Rules.is_whole (F.rules rules.now)) config.now folder.now port count (server_seen
+        W.told W.faults W.load_faults world.old world.new) result }
     ensures written { WritesServed result count (O.held out.old) (O.held out.new)
         (O.faults out.old) (O.faults out.new) }
 {
@@ -135,9 +135,8 @@ pub(crate) fn serve_words<H: Threads + Wait + Sync, W: World, F: RulesSource, O:
     ensures served { HasServed (sight_of W.Line.left W.Line.held W.Line.read_faults
         W.Line.put_faults W.Time.times W.Keep.kept W.Keep.append_faults) F.Rules.plan_of
         (F.Rules.is_whole (F.rules rules.now)) (slice_index_or (map string_bytes words.now) 1 [])
-        (slice_index_or (map string_bytes words.now) 2 []) port count (W.told world.old)
-        (W.told world.new) (W.faults world.old) (W.faults world.new) (W.load_faults world.old)
-        (W.load_faults world.new) result }
+        (slice_index_or (map string_bytes words.now) 2 []) port count (server_seen W.told W.faults
+        W.load_faults world.old world.new) result }
     ensures written { WritesServed result count (O.held out.old) (O.held out.new)
         (O.faults out.old) (O.faults out.new) }
 {
@@ -150,8 +149,8 @@ pub(crate) fn serve_words<H: Threads + Wait + Sync, W: World, F: RulesSource, O:
     serve_texts(rt, alloc, world, rules, &config, &folder, port, count, out)
 }
 
-// Lends the argument at an index.
-fn find_argument_at(words: &[String], place: usize) -> &str
+/// Lends the argument at an index.
+pub(crate) fn find_argument_at(words: &[String], place: usize) -> &str
     requires { place < length words.now }
     ensures { result.now ≡ slice_index_or (map string_bytes words.now) place [] }
 {

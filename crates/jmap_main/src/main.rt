@@ -1,11 +1,11 @@
 //! The program `jmap`: a JMAP mail server and a synchronising client. It does what `run` of
-//! jmap_commands does, over standard input, the two outputs and the world of the host.
+//! jmap_commands does, over standard input, the two outputs and two worlds of the host.
 #![tactic(auto)]
 
 use host_edges::{Reading, Writing};
 use host_world::{HostFiles, HostWorld, MakesKeepers};
 use jm_edge::{Sink, Source};
-use jmap_commands::{Ending, Status, run};
+use jmap_commands::{Ending, Status, Worlds, run};
 use std::process::ExitCode;
 use std::sync::Wait;
 use std::thread::Threads;
@@ -25,6 +25,7 @@ fn main(rt: HostRuntime) -> ExitCode {
                 &mut out,
                 &mut err,
                 HostFiles { rt },
+                HostFiles { rt },
                 wants_log(&rt),
             );
             status.build_exit_code()
@@ -38,7 +39,15 @@ fn wants_log(rt: &(impl env::Env + AllocGlobal)) -> bool {
     !matches!(env::var(rt, "JMAP_LOG"), Err(env::VarError::NotPresent))
 }
 
-// Does what the arguments say, over the world of the host. The two first arguments are the same.
+// Returns whether the arguments are those of a command that writes the file of a cache.
+fn writes_cache(words: &[String]) -> bool {
+    match words {
+        [word, ..] => word.as_str() == "sync",
+        [] => false,
+    }
+}
+
+// Does what the arguments say, over the worlds of the host. The two first arguments are the same.
 fn run_on_host<S: Source, O: Sink, E: Sink, M: MakesKeepers>(
     rt: &(impl Threads + Wait + Sync),
     host: &HostRuntime,
@@ -46,11 +55,17 @@ fn run_on_host<S: Source, O: Sink, E: Sink, M: MakesKeepers>(
     source: &mut S,
     out: &mut O,
     err: &mut E,
-    files: M,
+    server_files: M,
+    client_files: M,
     logs: bool,
 ) -> Status {
-    let mut world = HostWorld::new(host, files, logs);
-    run(rt, host.alloc(), words, source, out, err, &mut world)
+    let mut client = HostWorld::new(host, client_files, logs);
+    client.set_writes(writes_cache(words));
+    let mut worlds = Worlds {
+        server: HostWorld::new(host, server_files, logs),
+        client,
+    };
+    run(rt, host.alloc(), words, source, out, err, &mut worlds)
 }
 
 // Returns the arguments after the program's name. Arguments that are not UTF-8 name no command.

@@ -1,8 +1,9 @@
 // The points of a session that copies an email from one account of a user to another one, and
 // destroys its original.
 use crate::memory_world::{MemoryWorld, Setting};
-use crate::running::run_serve;
-use jmap_commands::Status;
+use crate::no_client::NoClient;
+use crate::running::run_over;
+use jmap_commands::{Status, Worlds};
 use std::alloc::Global;
 use std::sync::Wait;
 use std::test::Fail;
@@ -46,9 +47,12 @@ fn is_copied(rt: &(impl Threads + Wait + Sync), alloc: Global) -> Result<bool, F
         config: TWO_ACCOUNTS,
         request: REQUESTS,
     };
-    let mut world = MemoryWorld::new(alloc, setting);
-    let ran = run_serve(rt, alloc, "serve c d 8600 1", &mut world)?;
-    Ok(ran.status == Status(0) && world.points() == POINTS)
+    let mut worlds = Worlds {
+        server: MemoryWorld::new(alloc, setting),
+        client: NoClient,
+    };
+    let ran = run_over(rt, alloc, "serve c d 8600 1", &mut worlds)?;
+    Ok(ran.status == Status(0) && worlds.server.points() == POINTS)
 }
 
 #[test]

@@ -1,9 +1,10 @@
 // Inputs and lines at their longest.
+use crate::no_client::NoClient;
 use crate::no_world::NoWorld;
 use crate::running::Ran;
 use jm_base::Bytes;
 use jm_edge::{Failed, MemorySink, Source};
-use jmap_commands::{Status, run};
+use jmap_commands::{Status, Worlds, run};
 use std::alloc::Global;
 use std::sync::Wait;
 use std::test::Fail;
@@ -54,7 +55,10 @@ fn repeats(
         &mut Repeated { byte, left },
         &mut out,
         &mut err,
-        &mut NoWorld { alloc: alloc },
+        &mut Worlds {
+            server: NoWorld { alloc: alloc },
+            client: NoClient,
+        },
     );
     Ok(Ran {
         status,

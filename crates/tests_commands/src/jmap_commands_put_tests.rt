@@ -1,7 +1,8 @@
 // When replies are put.
+use crate::no_client::NoClient;
 use crate::no_world::NoWorld;
 use jm_edge::{Failed, MemorySink, MemorySource, Sink, Source};
-use jmap_commands::{Status, run};
+use jmap_commands::{Status, Worlds, run};
 use std::alloc::Global;
 use std::cell::Cell;
 use std::test::Fail;
@@ -65,7 +66,10 @@ fn puts_each_reply_before_it_reads_on(rt: HostRuntime) -> Result<(), Fail> {
         &mut Lines { reads: &reads },
         &mut out,
         &mut MemorySink::new(rt.alloc()),
-        &mut NoWorld { alloc: rt.alloc() },
+        &mut Worlds {
+            server: NoWorld { alloc: rt.alloc() },
+            client: NoClient,
+        },
     );
     assert_eq!(rt; status, Status(0));
     assert_eq!(rt; out.seen.as_slice(), [1, 2].as_slice());
@@ -118,7 +122,10 @@ fn at_most_64_kib_of_replies_wait(rt: HostRuntime) -> Result<(), Fail> {
         &mut MemorySource::new(rt.alloc(), lines),
         &mut out,
         &mut MemorySink::new(rt.alloc()),
-        &mut NoWorld { alloc: rt.alloc() },
+        &mut Worlds {
+            server: NoWorld { alloc: rt.alloc() },
+            client: NoClient,
+        },
     );
     assert_eq!(rt; status, Status(0));
     assert_eq!(rt; out.all, LINES * NOT_JSON.len());

@@ -1,9 +1,10 @@
 // Uploads of the greatest size, until there is no room for another one (RFC 8620, section 6.1).
+use crate::no_client::NoClient;
 use crate::no_world::NoWorld;
 use crate::running::Ran;
 use jm_base::Bytes;
 use jm_edge::{Failed, MemorySink, Source};
-use jmap_commands::{Status, run};
+use jmap_commands::{Status, Worlds, run};
 use std::alloc::Global;
 use std::sync::Wait;
 use std::test::Fail;
@@ -60,7 +61,10 @@ fn run_uploads(rt: &(impl Threads + Wait + Sync), alloc: Global, lines: u64) -> 
         &mut Uploads { given: 0, left },
         &mut out,
         &mut err,
-        &mut NoWorld { alloc: alloc },
+        &mut Worlds {
+            server: NoWorld { alloc: alloc },
+            client: NoClient,
+        },
     );
     Ok(Ran {
         status,

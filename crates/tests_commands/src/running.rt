@@ -1,7 +1,8 @@
 // A run of the program over a world.
 use jm_base::Bytes;
 use jm_edge::{MemorySink, MemorySource};
-use jmap_commands::{Status, run};
+use jmap_client::ClientWorld;
+use jmap_commands::{Status, Worlds, run};
 use jmap_server::World;
 use std::alloc::Global;
 use std::sync::Wait;
@@ -16,12 +17,12 @@ pub(crate) struct Ran {
     pub(crate) err: Bytes,
 }
 
-// Runs the program over a world, with nothing on the input.
-pub(crate) fn run_serve<W: World>(
+// Runs the program over two worlds, with nothing on the input.
+pub(crate) fn run_over<W: World, C: ClientWorld>(
     rt: &(impl Threads + Wait + Sync),
     alloc: Global,
     arguments: &str,
-    world: &mut W,
+    worlds: &mut Worlds<W, C>,
 ) -> Result<Ran, Fail> {
     let mut words = Vec::new(alloc);
     for word in arguments.split(' ') {
@@ -37,7 +38,7 @@ pub(crate) fn run_serve<W: World>(
         &mut source,
         &mut out,
         &mut err,
-        world,
+        worlds,
     );
     Ok(Ran {
         status,

@@ -17,6 +17,7 @@ mod files;
 mod kept_rows;
 mod lines;
 mod messages;
+mod no_client;
 mod options;
 mod report;
 mod requests;

@@ -1,12 +1,13 @@
 // Runs of the program.
 use crate::fails::{Fails, NO_FAILS, list_call};
 use crate::kept_rows::KeptRow;
+use crate::no_client::NoClient;
 use crate::requests::Kind;
 use crate::rows::Row;
 use crate::world::{Input, NOTHING, RowWorld, Setting, build_source};
 use jm_base::{Bytes, NoMemory};
 use jm_edge::{MemorySink, MemorySource};
-use jmap_commands::run;
+use jmap_commands::{Worlds, run};
 use jmap_server::World;
 use std::alloc::Global;
 use std::sync::Wait;
@@ -40,9 +41,9 @@ fn run_words<W: World>(
     mut source: MemorySource,
     out: &mut MemorySink,
     error: &mut MemorySink,
-    world: &mut W,
+    worlds: &mut Worlds<W, NoClient>,
 ) -> u8 {
-    let status = run(rt, alloc, words, &mut source, out, error, world);
+    let status = run(rt, alloc, words, &mut source, out, error, worlds);
     status.0
 }
 
@@ -54,7 +55,7 @@ fn run_over<W: World>(
     source: MemorySource,
     mut out: MemorySink,
     fails: Fails,
-    world: &mut W,
+    worlds: &mut Worlds<W, NoClient>,
 ) -> Result<Ran, NoMemory> {
     let words = split_words(alloc, arguments)?;
     let mut error = MemorySink::build_failing(alloc, list_call(alloc, fails.error)?);
@@ -65,7 +66,7 @@ fn run_over<W: World>(
         source,
         &mut out,
         &mut error,
-        world,
+        worlds,
     );
     Ok(Ran {
         status,
@@ -91,10 +92,13 @@ pub(crate) fn run_lines(
         input: NOTHING,
         fails: NO_FAILS,
     };
-    let mut world = RowWorld::new(alloc, nothing);
+    let mut worlds = Worlds {
+        server: RowWorld::new(alloc, nothing),
+        client: NoClient,
+    };
     let source = build_source(alloc, input, fails.read)?;
     let out = MemorySink::build_failing(alloc, list_call(alloc, fails.write)?);
-    run_over(rt, alloc, arguments, source, out, fails, &mut world)
+    run_over(rt, alloc, arguments, source, out, fails, &mut worlds)
 }
 
 // Runs a command over a world of this setting.
@@ -105,11 +109,15 @@ fn run_connection(
     setting: Setting<'_>,
 ) -> Result<Ran, NoMemory> {
     let fails = setting.fails;
-    let mut world = RowWorld::new(alloc, setting);
+    let mut worlds = Worlds {
+        server: RowWorld::new(alloc, setting),
+        client: NoClient,
+    };
     let source = build_source(alloc, NOTHING, 0)?;
     let out = MemorySink::build_failing(alloc, list_call(alloc, fails.out)?);
-    let mut ran = run_over(rt, alloc, arguments, source, out, fails, &mut world)?;
-    let (written, left) = world.into_parts();
+    let mut ran = run_over(rt, alloc, arguments, source, out, fails, &mut worlds)?;
+    let Worlds { server, client: _ } = worlds;
+    let (written, left) = server.into_parts();
     ran.written = written;
     ran.left = left;
     Ok(ran)
