@@ -1,0 +1,15 @@
+pub mod Finds
+pub mod Named
+pub mod Between
+pub mod Bringing
+pub mod Parts
+pub mod Loading
+pub mod Gets
+pub mod Pages
+pub mod Results
+pub mod Deltas
+pub mod DeltasRead
+pub mod LoadsRead
+pub mod Answered
+pub mod Keeping
+pub mod Growing

@@ -1,0 +1,11 @@
+pub mod Views
+pub mod Holdings
+pub mod Lists
+pub mod Kinds
+pub mod Gets
+pub mod Pages
+pub mod Results
+pub mod Deltas
+pub mod Laws
+pub mod Answers
+pub mod Agreement
