@@ -4,3 +4,12 @@ pub mod Written
 pub mod Endings
 pub mod Months
 pub mod Texts
+pub mod HeadsBack
+pub mod PartsBack
+pub mod HeadsFit
+pub mod PartsFit
+pub mod FieldsFit
+pub mod DatesFit
+pub mod FieldsBack
+pub mod TextFieldsBack
+pub mod TextTrees

@@ -42,7 +42,7 @@ whole_one : (ms : List (List ℕ × Tree)) (t : Tree) → IsOne (whole_part (val
 unfolding whole_part
 whole_one ms t = part_one (values_in ms) t 31
 
-structure_one : (ms : List (List ℕ × Tree)) (o : Option Tree) → IsOne (structure_with ms o)
+pub structure_one : (ms : List (List ℕ × Tree)) (o : Option Tree) → IsOne (structure_with ms o)
 structure_one ms (Some t) = whole_one ms t
 structure_one ms None = attached_one (values_in ms) (first_part (codes "textBody") ms) (first_part (codes "htmlBody") ms) (items_in (find (codes "attachments") ms))
 

@@ -4,3 +4,4 @@ pub mod Steps
 pub mod Marks
 pub mod Messages
 pub mod Outcomes
+pub mod ReadBack

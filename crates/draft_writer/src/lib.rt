@@ -6,9 +6,11 @@
 
 mod boundaries;
 mod fields;
+mod laws;
 mod leaves;
 mod message;
 mod moments;
 mod parts;
 
+pub use laws::{fields_are_read_back, parts_are_read_back};
 pub use message::draft_bytes;

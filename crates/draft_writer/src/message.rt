@@ -146,7 +146,9 @@ fn write_rows(
 }
 
 /// Writes the message of a draft as the email of this number, at this timestamp in Unix seconds.
-/// `blobs` are the blobs of [`Draft::blob_ids`], in their order (RFC 8621, section 4.6).
+/// `blobs` are the blobs of [`Draft::blob_ids`], as many and in their order (RFC 8621, section
+/// 4.6). What is written is read back, by the laws [`crate::parts_are_read_back`] and
+/// [`crate::fields_are_read_back`].
 ///
 /// # Errors
 ///
@@ -161,6 +163,7 @@ pub fn draft_bytes(
     number: u64,
     moment: u64,
 ) -> Result<Bytes, DraftFault>
+    requires { length blobs.now ≡ length draft.now.parts.blob_ids }
     ensures { (ms : List (List ℕ × Tree)) → draft.now ≡ draft_in ms
         → IsWriting result ms blobs.now number moment }
 {
