@@ -101,19 +101,35 @@ class Ours(Running):
     def call(self, client, *calls):
         return [args for _, args, _ in self.ask(client, "/jmap/api", shapes.request(*calls))["methodResponses"]]
 
+    def client(self):
+        return http.client.HTTPConnection("127.0.0.1", self.port, timeout=SECONDS)
+
     def fill(self, made):
         """Creates a mailbox, and uploads and imports messages into it. The ids of the emails."""
-        client = http.client.HTTPConnection("127.0.0.1", self.port, timeout=SECONDS)
+        client = self.client()
         self.call(client, shapes.creates(1, 1))
+        ids = self.add(client, made)
+        client.close()
+        return ids
+
+    def add(self, client, made):
+        """Uploads and imports messages into the mailbox. The ids of the emails."""
         ids = []
         for first in range(0, len(made), imports.CALL):
             blobs = [self.ask(client, "/jmap/upload/A1/", data)["blobId"] for _, data in made[first : first + imports.CALL]]
             created = json.loads(imports.import_call(first + 1, blobs, "M1"))["methodCalls"][0]
             (imported,) = self.call(client, created)
             ids += [imported["created"][key]["id"] for key in sorted(imported["created"])]
-        client.close()
         assert len(ids) == len(made), "an import was refused"
         return ids
+
+    def flag(self, ids):
+        """Sets `$flagged` on these emails, one after the other."""
+        client = self.client()
+        for one in ids:
+            (reply,) = self.call(client, ["Email/set", {"accountId": "A1", "update": {one: {"keywords/$flagged": True}}}, "0"])
+            assert reply["updated"] == {one: None}, "an update was refused"
+        client.close()
 
     def answer(self, request):
         """The bytes of the answer to a request on a connection of its own."""

@@ -28,8 +28,8 @@ class Ran:
     peak: int
 
 
-def run(command, source, sink=os.devnull):
-    """Runs a command over a file, its output into another one. Fails if its status isn't 0."""
+def run_to_end(command, source, sink):
+    """Runs a command over a file, its output into another one: the seconds that it took, and its usage. Fails if its status isn't 0."""
     with open(source, "rb") as data, open(sink, "wb") as out:
         begin = time.perf_counter()
         words = ["sh", "-c", START, "sh", *map(str, command)]
@@ -38,7 +38,19 @@ def run(command, source, sink=os.devnull):
         took = time.perf_counter() - begin
     if status != 0:
         raise RuntimeError(f"{command} ended with status {os.waitstatus_to_exitcode(status)}")
+    return took, usage
+
+
+def run(command, source, sink=os.devnull):
+    """The seconds of a command over a file, its output into another one, and its peak. Fails if its status isn't 0."""
+    took, usage = run_to_end(command, source, sink)
     return Ran(took, usage.ru_maxrss * 1024)
+
+
+def run_by_processor(command):
+    """The seconds of a processor that a command takes over an empty input, and its peak. Fails if its status isn't 0."""
+    _, usage = run_to_end(command, os.devnull, os.devnull)
+    return Ran(usage.ru_utime + usage.ru_stime, usage.ru_maxrss * 1024)
 
 
 class Program:
